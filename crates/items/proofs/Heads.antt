@@ -1,0 +1,227 @@
+-- Laws of one item's parts, as the code's tests meet them, and how far each part reaches.
+--     channel-none, -past, -last, -more    one octet of a channel number
+--     room, room-fits, room-first          its value fits
+--     length-none, -short, -open, -bad, -past, -long    the ways of a length field
+--     channel-within, length-within, head-within        no part reaches past the end
+-- Assumes nothing.
+use Prim.Native.Nat.{ℕ, zero, suc, _+_, _-_, _*_, _%_, _^_, _≤_, _<_, zero-le}
+use mathlib.Core.Path.{_≡_, refl, sym, _∙_, ap, subst}
+use mathlib.Core.List.{List, [], _∷_}
+use mathlib.Core.Bool.{Bool, true, false}
+use native.Mathlib.Nat.{mul-assoc, add-mul, one-mul, mul-le-mul-right, pow-succ', pow-zero, le-mul-of-pos-right, pow-le-pow-right, le-trans}
+use native.Mathlib.Numerals.{sub-one, add-one}
+use native.Mathlib.Omega.{arith}
+use borrow.Author.Tests.{lt-ltb, le-ltb, eq-eqb, ne-eqb, leb-false, ltb-false, ltb-true}
+use lib.Dec.{ltb, eqb}
+use lib.ListN.{length, getD, take, drop, drop-of-length-le, length-drop}
+use lib.Seq.{drop-cons, take-all}
+use Rattle.octets.specs.Pick.{pick, both}
+use Rattle.octets.specs.Number.{bigFrom}
+use Rattle.octets.proofs.Pick.{pick-cases}
+use Rattle.items.specs.declared.Channel.{Channel}
+use Rattle.items.specs.declared.Channel.the-variants.{Number, PastEnd, TooLong}
+use Rattle.items.specs.declared.Length.{Length}
+use Rattle.items.specs.declared.Length.the-variants.{Known, Bad}
+use Rattle.items.specs.declared.Head.{Head}
+use Rattle.items.specs.Refusals.{contextTag, pastEnd, notInGroup}
+use Rattle.items.specs.Head.{channelOf, lengthOf, unknownContext, rootOnly, primitiveHead, groupLength, groupHead, headOf}
+
+-- ---- the channel number, octet by octet
+
+module _ (u : List ℕ) (at value : ℕ) where
+  pub channel-none : (k : ℕ) → k ≡ 0 → TooLong ≡ channelOf k at value (drop at u)
+  unfolding channelOf
+  channel-none k e = rw e
+
+  pub channel-past : (k : ℕ) → (k ≡ 0 → ⊥) → length u ≤ at → PastEnd ≡ channelOf k at value (drop at u)
+  unfolding channelOf
+  channel-past zero n h = absurd (n refl)
+  channel-past (suc k) n h = rw (drop-of-length-le u h)
+
+  pub channel-last : (k : ℕ) → (k ≡ 0 → ⊥) → at < length u → getD u at 0 < 128 → Number (value * 128 + getD u at 0 % 128) (at + 1) ≡ channelOf k at value (drop at u)
+  unfolding channelOf
+  channel-last zero n h l = absurd (n refl)
+  channel-last (suc k) n h l = rw (drop-cons u at 0 h) (simp (lt-ltb _ 128 l))
+
+  pub channel-more : (k : ℕ) → (k ≡ 0 → ⊥) → at < length u → 128 ≤ getD u at 0 → channelOf (k - 1) (at + 1) (value * 128 + getD u at 0 % 128) (drop (at + 1) u) ≡ channelOf k at value (drop at u)
+  unfolding channelOf
+  channel-more zero n h l = absurd (n refl)
+  channel-more (suc k) n h l = rw (drop-cons u at 0 h) (simp (sub-one, add-one at, le-ltb _ 128 l))
+
+-- Digits to the base B, highest first: a value that leaves room for k digits below L leaves room for k - 1 with one of them taken in.
+module _ (B L : ℕ) where
+  pub room : (k v d : ℕ) → (k ≡ 0 → ⊥) → d < B → (v + 1) * B ^ k ≤ L → (v * B + d + 1) * B ^ (k - 1) ≤ L
+  room zero v d n h r = absurd (n refl)
+  room (suc k) v d n h r =
+      let e : (v + 1) * B ^ suc k ≡ (v * B + B) * B ^ k = rw (pow-succ' B k, ← mul-assoc (v + 1) B (B ^ k), add-mul v 1 B, one-mul B) in
+      let m : (v * B + d + 1) * B ^ k ≤ (v * B + B) * B ^ k = mul-le-mul-right (B ^ k) (omega arith) in
+      rw sub-one (omega arith)
+
+  pub room-fits : (k v d : ℕ) → (k ≡ 0 → ⊥) → d < B → (v + 1) * B ^ k ≤ L → v * B + d < L
+  room-fits k v d n h r =
+      omega
+      (arith, room k v d n h r, le-mul-of-pos-right {m = B ^ (k - 1)} (v * B + d + 1) (rw pow-zero at (pow-le-pow-right {n = B} (omega arith) {i = 0} {j = k - 1} zero-le)))
+
+-- ---- the length field, by its first octet
+
+abbrev first : List ℕ → ℕ
+first u = getD u 0 0
+
+pub length-none : (u : List ℕ) → length u ≡ 0 → Length.PastEnd ≡ lengthOf u
+unfolding lengthOf
+length-none [] e = refl
+length-none (b ∷ u) e = let z : ⊥ = omega arith in absurd z
+
+pub length-short : (u : List ℕ) → (length u ≡ 0 → ⊥) → first u < 128 → Known (first u) 1 ≡ lengthOf u
+unfolding lengthOf
+length-short [] e h = absurd (e refl)
+length-short (b ∷ u) e h = simp lt-ltb
+
+pub length-open : (u : List ℕ) → (length u ≡ 0 → ⊥) → 128 ≤ first u → first u - 128 ≡ 0 → Length.Open 1 ≡ lengthOf u
+unfolding lengthOf
+length-open [] e h z = absurd (e refl)
+length-open (b ∷ u) e h z = simp (le-ltb, eq-eqb)
+
+pub length-bad : (u : List ℕ) → (length u ≡ 0 → ⊥) → 128 ≤ first u → (first u - 128 ≡ 0 → ⊥) → 4 < first u - 128 → Bad ≡ lengthOf u
+unfolding lengthOf
+length-bad [] e h z l = absurd (e refl)
+length-bad (b ∷ u) e h z l = simp (le-ltb, ne-eqb, lt-ltb)
+
+pub length-past : (u : List ℕ) → (length u ≡ 0 → ⊥) → 128 ≤ first u → (first u - 128 ≡ 0 → ⊥) → first u - 128 ≤ 4 → length u - 1 < first u - 128 → Length.PastEnd ≡ lengthOf u
+unfolding lengthOf
+length-past [] e h z l p = absurd (e refl)
+length-past (b ∷ u) e h z l p =
+    let q : length u < b - 128 = omega arith in
+    simp (le-ltb b 128 h, ne-eqb (b - 128) 0 z, le-ltb 4 (b - 128) l, lt-ltb (length u) (b - 128) q)
+
+pub length-long : (u : List ℕ) → (length u ≡ 0 → ⊥) → 128 ≤ first u → (first u - 128 ≡ 0 → ⊥) → first u - 128 ≤ 4 → first u - 128 ≤ length u - 1 → Known (bigFrom 0 (take (first u - 128) (drop 1 u))) (first u - 128 + 1) ≡ lengthOf u
+unfolding lengthOf
+length-long [] e h z l p = absurd (e refl)
+length-long (b ∷ u) e h z l p =
+    let q : b - 128 ≤ length u = omega arith in
+    simp (le-ltb b 128 h, ne-eqb (b - 128) 0 z, le-ltb 4 (b - 128) l, le-ltb (length u) (b - 128) q)
+
+-- ---- how far each part reaches
+
+-- A length field takes at least one octet, and none past the end.
+abbrev pub LengthWithin : ℕ → Length → Type 0
+LengthWithin end (Length.Known n octets) = (0 < octets) × (octets ≤ end) × (octets ≤ 5)
+LengthWithin end (Length.Open octets) = (0 < octets) × (octets ≤ end) × (octets ≤ 5)
+LengthWithin end Length.PastEnd = Unit {0}
+LengthWithin end Length.Bad = Unit {0}
+
+pub length-within : (u : List ℕ) → LengthWithin (length u) (lengthOf u)
+unfolding lengthOf
+length-within [] = tt
+length-within (b ∷ u) =
+    pick-cases (LengthWithin (suc (length u))) (ltb b 128) (λ _. omega arith)
+    (λ _. pick-cases (LengthWithin (suc (length u))) (eqb (b - 128) 0) (λ _. omega arith)
+    (λ _. pick-cases (LengthWithin (suc (length u))) (ltb 4 (b - 128)) (λ _. tt)
+    (λ f. pick-cases (LengthWithin (suc (length u))) (ltb (length u) (b - 128)) (λ _. tt)
+    (λ g. omega (arith, ltb-false 4 (b - 128) f, ltb-false (length u) (b - 128) g)))))
+
+-- A channel number takes at least one octet, none past the end, and no more than are allowed.
+abbrev pub ChannelWithin : ℕ → ℕ → ℕ → Channel → Type 0
+ChannelWithin passed allowed end (Channel.Number v octets) = (passed < octets) × (octets ≤ passed + end) × (octets ≤ passed + allowed)
+ChannelWithin passed allowed end Channel.PastEnd = Unit {0}
+ChannelWithin passed allowed end Channel.TooLong = Unit {0}
+
+channel-later : (passed allowed end : ℕ) (c : Channel) → ChannelWithin (passed + 1) allowed end c → ChannelWithin passed (suc allowed) (suc end) c
+channel-later passed allowed end (Channel.Number v octets) w = omega arith
+channel-later passed allowed end Channel.PastEnd w = tt
+channel-later passed allowed end Channel.TooLong w = tt
+
+pub channel-within : (allowed passed value : ℕ) (u : List ℕ) → ChannelWithin passed allowed (length u) (channelOf allowed passed value u)
+unfolding channelOf
+channel-within zero passed value u = tt
+channel-within (suc allowed) passed value [] = tt
+channel-within (suc allowed) passed value (b ∷ u) =
+    let v = value * 128 + b % 128 in
+    pick-cases (ChannelWithin passed (suc allowed) (suc (length u))) (ltb b 128) (λ _. omega arith)
+    (λ _. channel-later passed allowed (length u) (channelOf allowed (passed + 1) v u) (channel-within allowed (passed + 1) v u))
+
+-- A value starts behind its tag and ends by the end.
+abbrev pub HeadWithin : ℕ → Head → Type 0
+HeadWithin end (Head.Primitive tag start n) = (0 < start) × (start + n ≤ end)
+HeadWithin end (Head.Definite c start n) = (0 < start) × (start + n ≤ end)
+HeadWithin end (Head.Open c start) = (0 < start) × (start ≤ end)
+HeadWithin end (Head.Refused k) = Unit {0}
+
+primitive-within : (tag rest : ℕ) (l : Length) → LengthWithin rest l → HeadWithin (suc rest) (primitiveHead tag rest l)
+unfolding primitiveHead
+primitive-within tag rest (Length.Known n octets) w =
+    pick-cases (HeadWithin (suc rest)) (ltb (rest - octets) n) (λ _. tt) (λ g. omega (arith, ltb-false (rest - octets) n g))
+primitive-within tag rest (Length.Open octets) w = tt
+primitive-within tag rest Length.PastEnd w = tt
+primitive-within tag rest Length.Bad w = tt
+
+group-length-within : (channel k rest : ℕ) (l : Length) → LengthWithin rest l → HeadWithin (suc (k + rest)) (groupLength channel k rest l)
+unfolding groupLength
+group-length-within channel k rest (Length.Known n octets) w =
+    pick-cases (HeadWithin (suc (k + rest))) (ltb (rest - octets) n) (λ _. tt) (λ g. omega (arith, ltb-false (rest - octets) n g))
+group-length-within channel k rest (Length.Open octets) w = omega arith
+group-length-within channel k rest Length.PastEnd w = tt
+group-length-within channel k rest Length.Bad w = tt
+
+group-head-within : (u : List ℕ) (c : Channel) → ChannelWithin 0 4 (length u) c → HeadWithin (suc (length u)) (groupHead u c)
+unfolding groupHead
+group-head-within u (Channel.Number v k) w =
+    let e : suc (k + length (drop k u)) ≡ suc (length u) = rw length-drop (omega arith) in
+    subst (λ (n : ℕ). HeadWithin n (groupLength v k (length (drop k u)) (lengthOf (drop k u)))) e
+    (group-length-within v k (length (drop k u)) (lengthOf (drop k u)) (length-within (drop k u)))
+group-head-within u Channel.PastEnd w = tt
+group-head-within u Channel.TooLong w = tt
+
+pub head-within : (inside : Bool) (u : List ℕ) → HeadWithin (length u) (headOf inside u)
+unfolding headOf
+head-within inside [] = tt
+head-within inside (tag ∷ u) =
+    pick-cases (HeadWithin (suc (length u))) (unknownContext tag) (λ _. tt)
+    (λ _. pick-cases (HeadWithin (suc (length u))) (both inside (rootOnly tag)) (λ _. tt)
+    (λ _. pick-cases (HeadWithin (suc (length u))) (eqb tag 63)
+    (λ _. group-head-within u (channelOf 4 0 0 u) (channel-within 4 0 0 u))
+    (λ _. primitive-within tag (length u) (lengthOf u) (length-within u))))
+
+-- The same of what a call answers: by its contract, and by the arm that it is in.
+pub head-found : (inside : Bool) (u : List ℕ) {r h : Head} → r ≡ headOf inside u → r ≡ h → HeadWithin (length u) h
+head-found inside u e f = subst (HeadWithin (length u)) (sym e ∙ f) (head-within inside u)
+
+pub length-found : (u : List ℕ) {r l : Length} → r ≡ lengthOf u → r ≡ l → LengthWithin (length u) l
+length-found u e f = subst (LengthWithin (length u)) (sym e ∙ f) (length-within u)
+
+pub channel-found : (u : List ℕ) {r c : Channel} → r ≡ channelOf 4 0 0 u → r ≡ c → ChannelWithin 0 4 (length u) c
+channel-found u e f = subst (ChannelWithin 0 4 (length u)) (sym e ∙ f) (channel-within 4 0 0 u)
+
+-- ---- the head, from its first octet
+
+pub head-none : (inside : Bool) (u : List ℕ) → length u ≡ 0 → Head.Refused pastEnd ≡ headOf inside u
+unfolding headOf
+head-none inside [] e = refl
+head-none inside (b ∷ u) e = let z : ⊥ = omega arith in absurd z
+
+pub head-context : (inside : Bool) (u : List ℕ) → (length u ≡ 0 → ⊥) → unknownContext (first u) ≡ true → Head.Refused contextTag ≡ headOf inside u
+unfolding headOf
+head-context inside [] n t = absurd (n refl)
+head-context inside (b ∷ u) n t = simp t
+
+pub head-barred : (inside : Bool) (u : List ℕ) → (length u ≡ 0 → ⊥) → unknownContext (first u) ≡ false → both inside (rootOnly (first u)) ≡ true → Head.Refused notInGroup ≡ headOf inside u
+unfolding headOf
+head-barred inside [] n t b = absurd (n refl)
+head-barred inside (a ∷ u) n t b = simp (t, b)
+
+pub head-group : (inside : Bool) (u : List ℕ) → (length u ≡ 0 → ⊥) → unknownContext (first u) ≡ false → both inside (rootOnly (first u)) ≡ false → first u ≡ 63 → groupHead (drop 1 u) (channelOf 4 0 0 (drop 1 u)) ≡ headOf inside u
+unfolding headOf
+head-group inside [] n t b e = absurd (n refl)
+head-group inside (a ∷ u) n t b e = simp (t, b, eq-eqb a 63 e)
+
+pub head-primitive : (inside : Bool) (u : List ℕ) → (length u ≡ 0 → ⊥) → unknownContext (first u) ≡ false → both inside (rootOnly (first u)) ≡ false → (first u ≡ 63 → ⊥) → primitiveHead (first u) (length (drop 1 u)) (lengthOf (drop 1 u)) ≡ headOf inside u
+unfolding headOf
+head-primitive inside [] n t b e = absurd (n refl)
+head-primitive inside (a ∷ u) n t b e = simp (t, b, ne-eqb a 63 e)
+
+-- What is left of a list from k on, as a part of it has it.
+pub rest-is : (k : ℕ) (u : List ℕ) → take (length u - k) (drop k u) ≡ drop k u
+rest-is k u = take-all (length u - k) (drop k u) (rw length-drop (omega arith))
+
+pub rest-whole : (k : ℕ) (u : List ℕ) → take (length u) (drop k u) ≡ drop k u
+rest-whole k u = take-all (length u) (drop k u) (rw length-drop (omega arith))

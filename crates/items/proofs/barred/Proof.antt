@@ -1,0 +1,22 @@
+-- Outside a group nothing is barred; inside, what `root_only` says.
+use borrow.Author.Needs.{needs}
+use Rattle.items.proofs.barred.Statement.{statement}
+use Rattle.items.proofs.barred.Tie as tie
+use Rattle.items.proofs.barred.Reads as reads
+use Rattle.items.proofs.barred.Lts as lts
+use Rattle.items.proofs.root_only.Reads as root-only-reads
+
+-- src/lib.rt:156:15
+root-only-requires : tie.Need-root-only-requires
+root-only-requires c κs = search needs
+
+-- src/lib.rt:153:1
+returns : tie.Need-returns
+returns c = simp (c .before .if1 .taken, c .root-only .ensures)
+
+-- src/lib.rt:153:1
+returns-2 : tie.Need-returns-2
+returns-2 c = search needs
+
+pub barred-spec : {M : Type 1} → statement M
+barred-spec = tie.close (tie.spec root-only-requires returns returns-2)

@@ -1,0 +1,20 @@
+-- Each way out is what its tests say.
+use borrow.Author.Tests.{eq-eqb, ne-eqb}
+use Rattle.items.specs.Head.{unknownContext}
+use Rattle.items.proofs.unknown_context.Statement.{statement}
+use Rattle.items.proofs.unknown_context.Tie as tie
+use Rattle.items.proofs.unknown_context.Reads as reads
+use Rattle.items.proofs.unknown_context.Lts as lts
+
+-- src/lib.rt:137:1
+returns : tie.Need-returns
+unfolding unknownContext
+returns c = simp (eq-eqb _ 1 (c .if1 .taken))
+
+-- src/lib.rt:137:1
+returns-2 : tie.Need-returns-2
+unfolding unknownContext
+returns-2 c = simp (ne-eqb _ 1 (c .if1 .left))
+
+pub unknown-context-spec : {M : Type 1} → statement M
+unknown-context-spec = tie.close (tie.spec returns returns-2)

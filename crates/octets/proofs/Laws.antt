@@ -1,0 +1,136 @@
+-- Laws of the numbers of octets, each stated once for any width.
+--     part-past, part-rest, part-whole, take-length-le, part-short    a part that runs past the end
+--     read-all    octets that are no more than eight
+--     range-suc, range-bits, range-pos, push, push-back, cap, room    one octet more
+--     big-turn, big-end, little-start, little-turn, little-end    a loop that reads octets from the front, and from the back
+--     number-below, number-take    a number is one of its width
+--     twos-low, twos-high    what the machine reads back from a signed local's bits is the two's complement number
+-- Assumes nothing.
+use mathlib.Core.Path.{_≡_, refl, sym, ap, subst, _∙_}
+use mathlib.Core.List.{List, [], _∷_}
+use mathlib.Core.Bool.{Bool, true, false}
+use Prim.Native.Nat.{ℕ, zero, suc, _+_, _*_, _-_, _^_, _<_, _≤_}
+use native.Mathlib.Nat.{le-trans, lt-of-lt-of-le, min-le-left, one-le-pow, pow-suc, pow-le-pow-right}
+use native.Mathlib.Numerals.{add-one}
+use native.Mathlib.Omega.{arith}
+use borrow.Author.Tests.{lt-ltb, le-ltb}
+use lib.Arith.{digits-lt}
+use lib.Dec.{lit<}
+use lib.Pow.{pow-add}
+use lib.ListN.{length, getD, take, drop, length-take, length-drop, drop-of-length-le}
+use lib.Seq.{drop-cons, drop-length, take-all, take-nil}
+use mir.Syntax.{Width}
+use mir.Val.{bits, hbits, toZ}
+use mir.Facts.{toZ-pos, toZ-neg}
+use Rattle.octets.specs.Number.{range, bigFrom, littleOf, numberOf, twos, Read}
+
+-- What lies past the end is not there, so a part is at most as long as asked for.
+module _ (s : List ℕ) (at n : ℕ) where
+  pub part-past : length s ≤ at → take (length s - length s) (drop (length s) s) ≡ take n (drop at s)
+  part-past h = simp (drop-length, drop-of-length-le s h, take-nil)
+
+  pub part-rest : length s - at ≤ n → take (length s - at) (drop at s) ≡ take n (drop at s)
+  part-rest h =
+      let e : length (drop at s) ≡ length s - at = length-drop at s in
+      take-all (length s - at) (drop at s) (omega arith) ∙ sym (take-all n (drop at s) (omega arith))
+
+  pub part-whole : take (at + n - at) (drop at s) ≡ take n (drop at s)
+  part-whole =
+      let e : at + n - at ≡ n = omega arith in
+      rw e
+
+pub take-length-le : (n : ℕ) (s : List ℕ) → length (take n s) ≤ n
+take-length-le n s = rw length-take (min-le-left n (length s))
+
+pub part-short : (n : ℕ) (s x : List ℕ) → x ≡ take n s → length x ≤ n
+part-short n s x e = rw e (take-length-le n s)
+
+-- Octets that are no more than eight are all looked at.
+pub read-all : (little : Bool) (x : List ℕ) (n : ℕ) → length x ≤ 8 → Read little (take 8 x) n → Read little x n
+read-all little x n h r = rw (take-all 8 x h) at r
+
+-- One octet more.
+pub range-suc : (i : ℕ) → range (i + 1) ≡ range i * 256
+range-suc i = rw (add-one, pow-suc)
+
+pub range-bits : (i : ℕ) → range i ≡ 2 ^ (8 * i)
+range-bits zero = refl
+range-bits (suc i) =
+    let e : 8 * suc i ≡ 8 * i + 8 = omega arith in
+    rw (e, pow-suc, range-bits i, pow-add)
+
+pub range-pos : (i : ℕ) → 0 < range i
+range-pos i = one-le-pow i 256 (lit< tt)
+
+pub push : (i n b : ℕ) → n < range i → b < 256 → n * 256 + b < range (i + 1)
+push i n b h k = rw range-suc (digits-lt h k)
+
+pub cap : (i j : ℕ) → i ≤ j → range i ≤ range j
+cap i j h = pow-le-pow-right (lit< tt) h
+
+pub room : (i n b : ℕ) → i < 8 → n < range i → b < 256 → n * 256 + b < 2 ^ 64
+room i n b h k l =
+    let e : i + 1 ≤ 8 = omega arith in
+    lt-of-lt-of-le (push i n b k l) (cap (i + 1) 8 e)
+
+-- The same, counted from the back: k of the l octets are still to be read.
+pub push-back : (l k n b : ℕ) → 0 < k → k ≤ l → n < range (l - k) → b < 256 → n * 256 + b < range (l - (k - 1))
+push-back l k n b z h q r =
+    let e : l - k + 1 ≡ l - (k - 1) = omega arith in
+    rw e at (push (l - k) n b q r)
+
+-- From the front: what is left to read gives the answer.
+pub big-turn : (s : List ℕ) (i n b e : ℕ) → i < length s → bigFrom n (drop i s) ≡ e → b ≡ getD s i 0 → bigFrom (n * 256 + b) (drop (i + 1) s) ≡ e
+unfolding bigFrom
+big-turn s i n b e h q p = rw p (rw add-one (rw (drop-cons s i 0 h) at q))
+
+pub big-end : (s : List ℕ) (i n e : ℕ) → length s ≤ i → bigFrom n (drop i s) ≡ e → n ≡ e
+unfolding bigFrom
+big-end s i n e h q = rw (drop-of-length-le s h) at q
+
+-- From the back: what has been read.
+pub little-start : (s : List ℕ) → 0 ≡ littleOf (drop (length s) s)
+unfolding littleOf
+little-start s =
+    let h : length s ≤ length s = omega arith in
+    rw (drop-of-length-le s h)
+
+pub little-turn : (s : List ℕ) (i j n b : ℕ) → i < length s → j ≡ i + 1 → n ≡ littleOf (drop j s) → b ≡ getD s i 0 → n * 256 + b ≡ littleOf (drop i s)
+unfolding littleOf
+little-turn s i j n b h f q p = rw (drop-cons s i 0 h) (rw (q, p, f, add-one))
+
+pub little-end : (s : List ℕ) (i n : ℕ) → i ≤ 0 → n ≡ littleOf (drop i s) → n ≡ littleOf s
+little-end s i n h q =
+    let e : i ≡ 0 = omega arith in
+    rw e at q
+
+-- The number of octets is one of their width.
+pub big-below : (s : List ℕ) (w n : ℕ) → ((i : ℕ) → getD s i 0 < 256) → n < range w → bigFrom n s < range (w + length s)
+unfolding bigFrom
+big-below [] w n h k =
+    let e : w + 0 ≡ w = omega arith in
+    rw e k
+big-below (b ∷ s) w n h k =
+    let e : w + 1 + length s ≡ w + suc (length s) = omega arith in
+    rw e at (big-below s (w + 1) (n * 256 + b) (λ i. h (suc i)) (push w n b k (h 0)))
+
+pub little-below : (s : List ℕ) → ((i : ℕ) → getD s i 0 < 256) → littleOf s < range (length s)
+unfolding littleOf
+little-below [] h = lit< tt
+little-below (b ∷ s) h = rw (← add-one (length s)) (push (length s) (littleOf s) b (little-below s (λ i. h (suc i))) (h 0))
+
+pub number-below : (little : Bool) (s : List ℕ) → ((i : ℕ) → getD s i 0 < 256) → numberOf little s < range (length s)
+unfolding numberOf
+number-below true s h = little-below s h
+number-below false s h =
+    let e : 0 + length s ≡ length s = omega arith in
+    rw e at (big-below s 0 0 h (lit< tt))
+
+-- The bits of a signed local, read back at the machine's width W, are the two's complement number of w octets.
+pub twos-low : (W : Width) (w n : ℕ) → 2 * n < range w → n < 2 ^ hbits W → toZ W n ≡ twos w n
+unfolding twos
+twos-low W w n h f = toZ-pos W f ∙ simp (lt-ltb _ _ h)
+
+pub twos-high : (W : Width) (w n x : ℕ) → range w ≤ 2 * n → range w - suc n < 2 ^ hbits W → x ≡ 2 ^ bits W - suc (range w - suc n) → toZ W x ≡ twos w n
+unfolding twos
+twos-high W w n x h f e = ap (toZ W) e ∙ toZ-neg W (range w - suc n) f ∙ simp (le-ltb _ _ h)

@@ -1,0 +1,48 @@
+-- `octets::extended` meets its contract: below half of the range the number is itself, else the complement of its distance from the
+-- top. Assumes nothing.
+use Prim.Native.Nat.{_-_}
+use mir.Syntax.{w32}
+use Rattle.octets.proofs.Laws.{twos-low, twos-high}
+use borrow.Author.Needs.{needs}
+use Rattle.octets.proofs.extended.Statement.{statement}
+use Rattle.octets.proofs.extended.Tie as tie
+use Rattle.octets.proofs.extended.Reads as reads
+use Rattle.octets.proofs.extended.Lts as lts
+use Rattle.octets.proofs.span.Reads as span-reads
+
+span-requires : tie.Need-span-requires
+span-requires c κs = search needs
+
+mul-if1 : tie.Need-mul-if1
+mul-if1 c = search needs
+
+cast-result : tie.Need-cast-result
+cast-result c = search needs
+
+sub-result : tie.Need-sub-result
+sub-result c = search needs
+
+sub-result-2 : tie.Need-sub-result-2
+sub-result-2 c = search needs
+
+cast-result-2 : tie.Need-cast-result-2
+cast-result-2 c = search needs
+
+returns : tie.Need-returns
+returns c = twos-low w32 _ _ (search needs) (search needs)
+
+returns-2 : tie.Need-returns-2
+returns-2 c = twos-high w32 _ _ (4294967295 - (c .before .span .result - 1 - c .before .before .args .n)) (search needs) (search needs) (search needs)
+
+pub extended-spec : {M : Type 1} → statement M
+extended-spec =
+    tie.close
+    (tie.spec
+    span-requires
+    mul-if1
+    cast-result
+    sub-result
+    sub-result-2
+    cast-result-2
+    returns
+    returns-2)

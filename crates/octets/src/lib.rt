@@ -1,0 +1,108 @@
+// Octets: a part of a file, and the number that a few octets stand for.
+//
+// For the crates that read items, attributes and samples: none of them turns octets into numbers by itself.
+// Promises: each public function answers for every input and its whole answer is a definition of specs/. What lies past
+// the end is not there, and octets past the eighth (of a signed number, the fourth) are not looked at.
+// Read first: specs/Number.antt; then the laws of proofs/Laws.antt, which callers cite.
+ghost use mathlib.Core.Path.{_≡_};
+ghost use mathlib.Core.Bool.{true, false};
+ghost use Prim.Native.Nat.{_<_, _≤_};
+ghost use lib.ListN.{length, take, drop};
+ghost use Rattle.octets.specs.Number.{range, twos, signedOf, Read};
+
+// The octets of s from at on, at most n.
+pub fn part(s: &[u8], at: usize, n: usize) -> &[u8]
+    ensures { λ r. ⌜ now r ≡ take n (drop at (now (s .entry))) ⌝ }
+{
+    let l = s.len();
+    if l <= at {
+        return &s[l..];
+    }
+    if l - at <= n {
+        return &s[at..];
+    }
+    let e = at + n;
+    &s[at..e]
+}
+
+fn wide(b: u8) -> u64
+    ensures { λ r. ⌜ (r ≡ b) × (r < 256) ⌝ }
+{
+    b as u64
+}
+
+// Highest octet first.
+fn big_endian(s: &[u8]) -> u64
+    requires { ⌜ length (now s) ≤ 8 ⌝ }
+    ensures { λ r. ⌜ Read false (now (s .entry)) r ⌝ }
+{
+    let mut n = 0u64;
+    let mut i = 0usize;
+    while i < s.len() {
+        n = n * 256 + wide(s[i]);
+        i += 1;
+    }
+    n
+}
+
+// Lowest octet first.
+fn little_endian(s: &[u8]) -> u64
+    requires { ⌜ length (now s) ≤ 8 ⌝ }
+    ensures { λ r. ⌜ Read true (now (s .entry)) r ⌝ }
+{
+    let mut n = 0u64;
+    let mut i = s.len();
+    while 0 < i {
+        i -= 1;
+        n = n * 256 + wide(s[i]);
+    }
+    n
+}
+
+// The number of the first eight octets.
+pub fn number(s: &[u8], little: bool) -> u64
+    ensures { λ r. ⌜ Read «little» (take 8 (now (s .entry))) r ⌝ }
+{
+    let x = part(s, 0, 8);
+    if little {
+        little_endian(x)
+    } else {
+        big_endian(x)
+    }
+}
+
+// How many numbers w octets tell apart.
+fn span(w: usize) -> u64
+    requires { ⌜ w ≤ 4 ⌝ }
+    ensures { λ r. ⌜ (r ≡ range w) × (r ≤ 4294967296) ⌝ }
+{
+    1 << (8 * w)
+}
+
+// Two's complement at w octets: the sign is carried up from the top octet.
+fn extended(n: u64, w: usize) -> i32
+    requires { ⌜ (w ≤ 4) × (n < range w) ⌝ }
+    ensures { λ r. ⌜ r ≡ twos w n ⌝ }
+{
+    let full = span(w);
+    if 2 * n < full {
+        n as i32
+    } else {
+        !((full - 1 - n) as i32)
+    }
+}
+
+// The signed number of the first four octets.
+pub fn signed(s: &[u8], little: bool) -> i32
+    ensures { λ r. ⌜ r ≡ signedOf «little» (take 4 (now (s .entry))) ⌝ }
+{
+    let x = part(s, 0, 4);
+    extended(number(x, little), x.len())
+}
+
+// The signed number of one octet.
+pub fn signed_octet(b: u8) -> i8
+    ensures { λ r. ⌜ r ≡ twos 1 b ⌝ }
+{
+    if b < 128 { b as i8 } else { !((255 - b) as i8) }
+}

@@ -1,0 +1,269 @@
+//! The questions a file can be asked: the check with its frame count, the attributes of a channel
+//! in a frame, the place and value of a sample, and samples in bulk.
+
+use crate::items::bits;
+use crate::scan::{scan, Frame};
+use crate::settings::Record;
+
+/// Why there is no answer, and the offset of the item's tag (0 for 15 and from 20 up).
+#[derive(Clone, Copy, PartialEq, Eq, Debug)]
+pub struct Refusal {
+    pub number: u8,
+    pub place: u64,
+}
+
+impl Refusal {
+    pub const CONTEXT_TAG: u8 = 1;
+    pub const LENGTH_OCTET: u8 = 2;
+    pub const PAST_END: u8 = 3;
+    pub const LONG_CHANNEL: u8 = 4;
+    pub const BARRED_TAG: u8 = 5;
+    pub const LENGTH: u8 = 6;
+    pub const VALUE: u8 = 7;
+    pub const CHANNEL_NUMBER: u8 = 8;
+    pub const COMPRESSED: u8 = 9;
+    pub const UNENDED_GROUP: u8 = 10;
+    pub const FRAMES: u8 = 11;
+    pub const SAMPLE_WIDTH: u8 = 12;
+    pub const START: u8 = 13;
+    pub const SHORT_WAVEFORM: u8 = 14;
+    pub const LONG_FILE: u8 = 15;
+    pub const NO_FRAME: u8 = 20;
+    pub const NO_CHANNEL: u8 = 21;
+    pub const NO_SAMPLE: u8 = 22;
+    pub const NO_ROOM: u8 = 23;
+
+    pub(crate) fn without_place(number: u8) -> Refusal {
+        Refusal { number, place: 0 }
+    }
+}
+
+/// Interval or resolution: mantissa times ten to the exponent, in the unit.
+#[derive(Clone, Copy, PartialEq, Eq, Debug)]
+pub struct Scale {
+    pub unit: u8,
+    pub exponent: i8,
+    pub mantissa: i32,
+}
+
+/// What a recording holds of one channel in one frame, but for its samples.
+#[derive(Clone, Copy, PartialEq, Eq, Debug)]
+pub struct Attributes {
+    pub start: i32,
+    pub channels: u32,
+    pub sequences: u32,
+    pub block: u32,
+    pub class: u16,
+    pub lead: u16,
+    pub kind: u8,
+    pub interval: Scale,
+    pub resolution: Scale,
+    /// Zero bits where no offset is defined.
+    pub offset: u64,
+    pub null: Option<u64>,
+}
+
+/// A sample's value, raw: the offset is not applied.
+#[derive(Clone, Copy, Debug)]
+pub enum Value {
+    Whole(i64),
+    Status(u16),
+    Single(f32),
+    Double(f64),
+    /// The bits of a float that is no number.
+    NotNumber(u64),
+    Null,
+}
+
+/// Floats are the same when their bits are: a zero of the other sign is another value.
+impl PartialEq for Value {
+    fn eq(&self, other: &Value) -> bool {
+        match (*self, *other) {
+            (Value::Whole(a), Value::Whole(b)) => a == b,
+            (Value::Status(a), Value::Status(b)) => a == b,
+            (Value::Single(a), Value::Single(b)) => a.to_bits() == b.to_bits(),
+            (Value::Double(a), Value::Double(b)) => a.to_bits() == b.to_bits(),
+            (Value::NotNumber(a), Value::NotNumber(b)) => a == b,
+            (Value::Null, Value::Null) => true,
+            _ => false,
+        }
+    }
+}
+
+impl Eq for Value {}
+
+/// Checks the file and counts its frames.
+pub fn check(octets: &[u8]) -> Result<u32, Refusal> {
+    scan(octets, |_, _| {})
+}
+
+/// The attributes of a channel in a frame.
+pub fn attributes(octets: &[u8], frame: u32, channel: u32) -> Result<Attributes, Refusal> {
+    let Series { frame, record, .. } = series(octets, frame, channel)?;
+    Ok(Attributes {
+        start: frame.start,
+        channels: frame.channels,
+        sequences: frame.sequences,
+        block: record.block,
+        class: record.class,
+        lead: record.lead,
+        kind: record.kind,
+        interval: record.interval,
+        resolution: record.resolution,
+        offset: record.offset.bits,
+        null: record.null(),
+    })
+}
+
+/// The place and value of a sample.
+pub fn sample(
+    octets: &[u8],
+    frame: u32,
+    channel: u32,
+    number: u64,
+) -> Result<(u64, Value), Refusal> {
+    let series = series(octets, frame, channel)?;
+    if number >= series.samples() {
+        return Err(Refusal::without_place(Refusal::NO_SAMPLE));
+    }
+    let at = series.offset(number);
+    let width = usize::from(series.record.width());
+    let bits = bits(&series.frame.waveform[at..at + width], series.frame.little);
+    let place = (series.frame.place + at) as u64;
+    Ok((place, value(bits, &series.record)))
+}
+
+/// Fills `out` with the bits of consecutive samples from `first` on, as many as fit or there are,
+/// and answers how many. Bits are not sign extended and nulls are not marked.
+pub fn samples(
+    octets: &[u8],
+    frame: u32,
+    channel: u32,
+    first: u64,
+    out: &mut [u64],
+) -> Result<usize, Refusal> {
+    let series = series(octets, frame, channel)?;
+    if first >= series.samples() {
+        return Err(Refusal::without_place(Refusal::NO_SAMPLE));
+    }
+    Ok(match (series.record.width(), series.frame.little) {
+        (1, _) => series.gather(first, out, |[octet]| octet.into()),
+        (2, false) => series.gather(first, out, |octets| u16::from_be_bytes(octets).into()),
+        (2, true) => series.gather(first, out, |octets| u16::from_le_bytes(octets).into()),
+        (4, false) => series.gather(first, out, |octets| u32::from_be_bytes(octets).into()),
+        (4, true) => series.gather(first, out, |octets| u32::from_le_bytes(octets).into()),
+        (_, false) => series.gather(first, out, u64::from_be_bytes),
+        (_, true) => series.gather(first, out, u64::from_le_bytes),
+    })
+}
+
+/// The samples of one channel in one frame, and where they lie.
+struct Series<'a> {
+    frame: Frame<'a>,
+    record: Record,
+    /// Block octets of all lower channels.
+    lower: u64,
+}
+
+impl Series<'_> {
+    fn samples(&self) -> u64 {
+        u64::from(self.frame.sequences) * u64::from(self.record.block)
+    }
+
+    /// Offset of a sample in the waveform.
+    fn offset(&self, number: u64) -> usize {
+        let block = u64::from(self.record.block);
+        let sequence = number / block * self.frame.sequence_octets;
+        let in_block = number % block * u64::from(self.record.width());
+        (sequence + self.lower + in_block) as usize
+    }
+
+    /// Copies samples from `first` on, which is below their number, and answers how many.
+    #[inline]
+    fn gather<const W: usize>(
+        &self,
+        first: u64,
+        out: &mut [u64],
+        bits: impl Fn([u8; W]) -> u64,
+    ) -> usize {
+        let lower = self.lower as usize;
+        let waveform = self.frame.waveform;
+        // A channel on its own is one long block.
+        let alone = self.frame.channels == 1;
+        let (block, sequence_octets) = match alone {
+            true => (self.samples() as usize, waveform.len()),
+            false => (
+                self.record.block as usize,
+                self.frame.sequence_octets as usize,
+            ),
+        };
+        let first = first as usize;
+        let sequences = waveform[first / block * sequence_octets..].chunks_exact(sequence_octets);
+        if block == 1 {
+            let count = out.len().min(sequences.len());
+            for (slot, sequence) in out.iter_mut().zip(sequences) {
+                let (sample, _) = sequence[lower..].split_first_chunk().unwrap();
+                *slot = bits(*sample);
+            }
+            return count;
+        }
+        let mut skipped = first % block;
+        let mut filled = 0;
+        for sequence in sequences {
+            let (samples, _) = sequence[lower..lower + block * W].as_chunks();
+            let room = &mut out[filled..];
+            let count = room.len().min(block - skipped);
+            for (slot, sample) in room.iter_mut().zip(&samples[skipped..]) {
+                *slot = bits(*sample);
+            }
+            filled += count;
+            skipped = 0;
+            if filled == out.len() {
+                break;
+            }
+        }
+        filled
+    }
+}
+
+/// The samples of a channel in a frame, once the whole file is accepted.
+fn series(octets: &[u8], frame: u32, channel: u32) -> Result<Series<'_>, Refusal> {
+    let mut found = None;
+    let frames = scan(octets, |standing, met| {
+        if met.number == frame && channel < met.channels {
+            let lower = standing.records(channel).map(Record::block_octets).sum();
+            found = Some(Series {
+                frame: *met,
+                record: *standing.record(channel),
+                lower,
+            });
+        }
+    })?;
+    let missing = match frame < frames {
+        true => Refusal::NO_CHANNEL,
+        false => Refusal::NO_FRAME,
+    };
+    found.ok_or(Refusal::without_place(missing))
+}
+
+/// The value that bits of a sample stand for.
+fn value(bits: u64, record: &Record) -> Value {
+    if record.null() == Some(bits) {
+        return Value::Null;
+    }
+    match record.kind {
+        0 => Value::Whole((bits as i16).into()),
+        2 => Value::Whole((bits as i32).into()),
+        5 => Value::Whole((bits as i8).into()),
+        4 => Value::Status(bits as u16),
+        7 => match f32::from_bits(bits as u32) {
+            single if single.is_nan() => Value::NotNumber(bits),
+            single => Value::Single(single),
+        },
+        8 => match f64::from_bits(bits) {
+            double if double.is_nan() => Value::NotNumber(bits),
+            double => Value::Double(double),
+        },
+        _ => Value::Whole(bits as i64),
+    }
+}
