@@ -94,7 +94,7 @@ impl Random {
         self.next() % limit
     }
 
-    fn from_to(&mut self, first: u64, last: u64) -> u64 {
+    fn between(&mut self, first: u64, last: u64) -> u64 {
         first + self.below(last - first + 1)
     }
 
@@ -133,7 +133,7 @@ impl Random {
 
     /// The number of a fault to build in; 11 needs a long file and is made rarer.
     fn fault(&mut self) -> u8 {
-        match self.from_to(1, 14) as u8 {
+        match self.between(1, 14) as u8 {
             11 if self.one_in(2) => 12,
             number => number,
         }
@@ -247,7 +247,7 @@ impl Maker {
         }
         let octets = (length as u32).to_be_bytes();
         let needless = octets[..3].iter().take_while(|octet| **octet == 0).count();
-        let skipped = self.random.from_to(0, needless as u64) as usize;
+        let skipped = self.random.between(0, needless as u64) as usize;
         let mut form = vec![0x80 + (4 - skipped) as u8];
         form.extend(&octets[skipped..]);
         form
@@ -276,14 +276,14 @@ impl Maker {
     /// A number in some allowed length that holds it.
     fn whole(&mut self, number: u64) -> Vec<u8> {
         let needed = (1..4).find(|n| number >> (8 * n) == 0).unwrap_or(4);
-        let width = self.random.from_to(needed, 4) as usize;
+        let width = self.random.between(needed, 4) as usize;
         self.turned(number, width)
     }
 
     fn signed(&mut self, number: i32) -> Vec<u8> {
         let holds = |n: &u64| number << (32 - 8 * n) >> (32 - 8 * n) == number;
         let needed = (1..4).find(holds).unwrap_or(4);
-        let width = self.random.from_to(needed, 4) as usize;
+        let width = self.random.between(needed, 4) as usize;
         self.turned(number as u64, width)
     }
 
@@ -300,38 +300,38 @@ impl Maker {
     fn block(&mut self) -> u64 {
         match self.random.below(40) {
             0 => LAST_BLOCK,
-            1 => self.random.from_to(1, LAST_BLOCK),
-            2..=4 => self.random.from_to(4, 40),
-            _ => self.random.from_to(1, 3),
+            1 => self.random.between(1, LAST_BLOCK),
+            2..=4 => self.random.between(4, 40),
+            _ => self.random.between(1, 3),
         }
     }
 
     fn channel_count(&mut self) -> u64 {
         match self.random.below(60) {
             0 => self.random.pick(&[127, 128, 129, 200, 255, 256]),
-            1..=4 => self.random.from_to(5, 12),
-            _ => self.random.from_to(1, 4),
+            1..=4 => self.random.between(5, 12),
+            _ => self.random.between(1, 4),
         }
     }
 
     fn sequence_count(&mut self) -> u64 {
         match self.random.below(12) {
-            0 => self.random.from_to(1, u32::MAX.into()),
+            0 => self.random.between(1, u32::MAX.into()),
             1 => u32::MAX.into(),
-            _ => self.random.from_to(1, 4),
+            _ => self.random.between(1, 4),
         }
     }
 
     /// A unit, an exponent and a mantissa of at least 1.
     fn scale(&mut self, last_unit: u64) -> Vec<u8> {
-        let width = self.random.from_to(1, 4);
+        let width = self.random.between(1, 4);
         let limit = 1 << (8 * width - 1);
         let mantissa = match self.random.below(4) {
             0 => limit - 1,
             1 => 1,
-            _ => self.random.from_to(1, limit - 1),
+            _ => self.random.between(1, limit - 1),
         };
-        let mut value = vec![self.random.from_to(0, last_unit) as u8, self.random.octet()];
+        let mut value = vec![self.random.between(0, last_unit) as u8, self.random.octet()];
         value.extend(self.turned(mantissa, width as usize));
         value
     }
@@ -342,7 +342,7 @@ impl Maker {
             true => self.random.below(33),
             false => 0,
         };
-        let length = self.random.from_to(1, 2) + text;
+        let length = self.random.between(1, 2) + text;
         self.random.octets(length)
     }
 
@@ -356,7 +356,7 @@ impl Maker {
     /// An item of tag 00 that ends nothing.
     fn zero_item(&mut self, may_be_empty: bool) -> Vec<u8> {
         let fewest = u64::from(!may_be_empty);
-        let length = self.random.from_to(fewest, 3);
+        let length = self.random.between(fewest, 3);
         let value = self.random.octets(length);
         self.item(tag::END, &value)
     }
@@ -474,7 +474,7 @@ impl Maker {
         match self.random.below(6) {
             0 => last as usize,
             1 => last.min(128) as usize,
-            _ => self.random.from_to(0, last) as usize,
+            _ => self.random.between(0, last) as usize,
         }
     }
 
@@ -482,7 +482,7 @@ impl Maker {
     fn channel_number(&mut self, channel: u64) -> Vec<u8> {
         let needed = (1..4).find(|n| channel >> (7 * n) == 0).unwrap_or(4);
         let octets = match self.random.one_in(5) {
-            true => self.random.from_to(needed, 4),
+            true => self.random.between(needed, 4),
             false => needed,
         };
         (0..octets)
@@ -547,7 +547,7 @@ impl Maker {
     fn group_channel(&mut self) -> u64 {
         match self.count {
             Some(_) => self.some_channel() as u64,
-            None if self.random.one_in(3) => self.random.from_to(0, LAST_CHANNEL_NUMBER),
+            None if self.random.one_in(3) => self.random.between(0, LAST_CHANNEL_NUMBER),
             None => self.random.below(4),
         }
     }
@@ -611,7 +611,7 @@ impl Maker {
                 let fewer = match fit {
                     0 => None,
                     _ if self.random.one_in(2) => None,
-                    _ => Some(self.random.from_to(1, fit.min(4))),
+                    _ => Some(self.random.between(1, fit.min(4))),
                 };
                 self.set_sequences(fewer);
             }
@@ -634,7 +634,7 @@ impl Maker {
         };
         let sequences = match self.sequences {
             Some(sequences) => sequences.into(),
-            None => self.random.from_to(0, (room / sequence_octets).min(4)),
+            None => self.random.between(0, (room / sequence_octets).min(4)),
         };
         let surplus = match self.random.one_in(2) {
             true => self.random.some_octets(surplus_limit),
@@ -863,7 +863,7 @@ impl Maker {
     fn length_octet(&mut self) -> Fault {
         let around = self.around();
         let mut item = vec![self.allowed_tag(around)];
-        let bad = self.random.from_to(0x85, 0xFF) as u8;
+        let bad = self.random.between(0x85, 0xFF) as u8;
         if around == Around::Nothing && self.random.one_in(3) {
             let channel = self.random.below(300);
             item = self.group_head(channel, None);
@@ -897,7 +897,7 @@ impl Maker {
         match self.random.below(3) {
             0 => {}
             1 => {
-                let octets = self.random.from_to(1, 4);
+                let octets = self.random.between(1, 4);
                 item.push(0x80 + octets as u8);
                 item.extend(self.random.some_octets(octets));
             }
@@ -947,16 +947,16 @@ impl Maker {
             false => self.random.pick(&CHANNEL_TAGS),
         };
         let longer = match self.random.one_in(8) {
-            true => self.random.from_to(35, 200),
+            true => self.random.between(35, 200),
             false => 0,
         };
         let length = longer
             + match tag {
-                tag::BYTE_ORDER | tag::KIND => self.random.from_to(2, 5),
-                tag::CLASS | tag::LEAD => self.random.from_to(35, 40),
+                tag::BYTE_ORDER | tag::KIND => self.random.between(2, 5),
+                tag::CLASS | tag::LEAD => self.random.between(35, 40),
                 tag::INTERVAL | tag::RESOLUTION => self.random.pick(&[1, 2, 7, 8]),
                 tag::OFFSET | tag::NULL => self.random.pick(&[3, 5, 6, 7, 9, 16]),
-                _ => self.random.from_to(5, 9),
+                _ => self.random.between(5, 9),
             };
         let value = self.random.octets(length);
         let item = self.item(tag, &value);
@@ -972,8 +972,8 @@ impl Maker {
                 .pick(&[tag::BLOCK, tag::KIND, tag::INTERVAL, tag::RESOLUTION]),
         };
         let value = match tag {
-            tag::BYTE_ORDER => vec![self.random.from_to(2, 255) as u8],
-            tag::KIND => vec![self.random.from_to(9, 255) as u8],
+            tag::BYTE_ORDER => vec![self.random.between(2, 255) as u8],
+            tag::KIND => vec![self.random.between(9, 255) as u8],
             tag::BLOCK => self.number_fault(LAST_BLOCK),
             tag::CHANNELS => self.number_fault(MOST_CHANNELS),
             tag::SEQUENCES => self.number_fault(u32::MAX.into()),
@@ -988,7 +988,7 @@ impl Maker {
     fn number_fault(&mut self, last: u64) -> Vec<u8> {
         let number = match self.random.below(3) {
             0 => last + 1,
-            1 => self.random.from_to(last, u32::MAX.into()) + 1,
+            1 => self.random.between(last, u32::MAX.into()) + 1,
             _ => 0,
         };
         match number >> 32 {
@@ -1002,7 +1002,7 @@ impl Maker {
         let mut value = self.scale(last_unit.into());
         let which = self.random.below(4);
         if which <= 1 {
-            value[0] = self.random.from_to(u64::from(last_unit) + 1, 255) as u8;
+            value[0] = self.random.between(u64::from(last_unit) + 1, 255) as u8;
         }
         if which >= 1 {
             let width = value.len() - 2;
@@ -1025,8 +1025,8 @@ impl Maker {
         let count = self.channels() as u64;
         let channel = match self.random.below(3) {
             0 => count,
-            1 => self.random.from_to(count, LAST_CHANNEL_NUMBER),
-            _ => self.random.from_to(count, count + 300),
+            1 => self.random.between(count, LAST_CHANNEL_NUMBER),
+            _ => self.random.between(count, count + 300),
         };
         let open = self.random.one_in(2);
         // Its contents may be anything: they are not reached.
@@ -1037,7 +1037,7 @@ impl Maker {
     }
 
     fn compressed(&mut self) -> Fault {
-        let length = self.random.from_to(1, 6);
+        let length = self.random.between(1, 6);
         let value = self.random.octets(length);
         let item = self.item(tag::COMPRESSION, &value);
         self.put_fault(Around::Nothing, &item)
@@ -1113,10 +1113,10 @@ impl Maker {
     /// Few channels with short blocks, everything settled, and no number of sequences set.
     fn small(&mut self) {
         if self.channels() > 6 {
-            let count = self.random.from_to(1, 4);
+            let count = self.random.between(1, 4);
             self.set_count(Some(count));
         }
-        let block = self.random.from_to(1, 3);
+        let block = self.random.between(1, 3);
         self.set_root_block(block);
         self.settle_widths();
         self.set_sequences(None);
@@ -1138,7 +1138,7 @@ impl Maker {
             true => self.large_root_block(),
             false => self.small(),
         }
-        let sequences = self.random.from_to(1, 3);
+        let sequences = self.random.between(1, 3);
         let advance = u64::from(self.root.block) * sequences;
         let short = self.random.below(advance.min(0x7FFF_FFFF)) as i32;
         self.set_start(Some(i32::MAX - short));
@@ -1183,7 +1183,7 @@ fn masked(bits: u64, width: u8) -> u64 {
 fn damaged(mut file: Vec<u8>, random: &mut Random) -> Vec<u8> {
     let pieces = match random.one_in(2) {
         true => 1,
-        false => random.from_to(2, 4),
+        false => random.between(2, 4),
     };
     for _ in 0..pieces {
         damage(&mut file, random);
@@ -1225,10 +1225,10 @@ fn stretch(file: &mut [u8], random: &mut Random) {
     }
     let at = random.pick(&lengths);
     file[at] = match random.below(6) {
-        0 => random.from_to(0x80, 0x86) as u8,
+        0 => random.between(0x80, 0x86) as u8,
         1 => file[at].wrapping_add(random.octet()),
         2 => file[at].wrapping_sub(1),
-        _ => file[at].wrapping_add(random.from_to(1, 3) as u8),
+        _ => file[at].wrapping_add(random.between(1, 3) as u8),
     };
 }
 

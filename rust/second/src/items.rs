@@ -44,7 +44,7 @@ pub(crate) struct Item {
 impl Item {
     /// Reads the item at `at`. `octets` ends where the file or the definite group around the item
     /// ends, and `at` is below that. The error is the refusal's number, its place is `at`.
-    #[inline]
+    #[inline(always)]
     pub fn read(octets: &[u8], at: usize, inside: bool) -> Result<Item, u8> {
         let tag = octets[at];
         if tag & tag::CONTEXT != 0 && tag != tag::GROUP {

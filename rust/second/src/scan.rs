@@ -48,19 +48,18 @@ pub(crate) struct Standing {
 impl Standing {
     const FRAME_LIMIT: u32 = 4096;
 
-    fn new() -> Standing {
-        Standing {
-            little: false,
-            count: None,
-            sequences: None,
-            start: None,
-            continued: 0,
-            frames: 0,
-            root: Record::DEFAULT,
-            records: [Record::DEFAULT; Frame::CHANNEL_LIMIT as usize],
-            own: 0,
-        }
-    }
+    /// A constant, so that the table is copied once and not built first.
+    const DEFAULT: Standing = Standing {
+        little: false,
+        count: None,
+        sequences: None,
+        start: None,
+        continued: 0,
+        frames: 0,
+        root: Record::DEFAULT,
+        records: [Record::DEFAULT; Frame::CHANNEL_LIMIT as usize],
+        own: 0,
+    };
 
     /// What holds for a channel.
     #[inline]
@@ -210,7 +209,7 @@ pub(crate) fn scan<'a>(
     if octets.len() as u64 > FILE_LIMIT {
         return Err(Refusal::without_place(Refusal::LONG_FILE));
     }
-    let mut standing = Standing::new();
+    let mut standing = Standing::DEFAULT;
     let mut at = 0;
     while at < octets.len() {
         let item = Item::read(octets, at, false).map_err(refused_at(at))?;

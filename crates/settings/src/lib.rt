@@ -1,0 +1,324 @@
+// The settings of a channel: the attributes of document 01's table that may stand in a group, their defaults and limits, and the
+// one way in which a definition changes them.
+//
+// Promises, for any octets at all: `define` answers the change that a definition asks for, or 6 or 7; `apply` carries a change out in
+// one record and `apply_all` in all of them. A new attribute is one more case of `Attribute` and `Change`.
+// Read first: specs/Settings.antt, then specs/Define.antt.
+ghost use mathlib.Core.Path.{_≡_};
+ghost use lib.ListN.{getD, take};
+ghost use Rattle.octets.specs.Number.{numberOf};
+ghost use Rattle.settings.specs.Settings.{defaultSettings, defaultTable, applied, allApplied};
+ghost use Rattle.settings.specs.Define.{tagged, scaleLength, bitsLength, lengthFits, standingIn, codeOf, scaleOf, bitsOf, changeOf, blockFits, scaleFits, inRange, defined};
+use items::Refusal;
+use values::Bits;
+
+// A unit, an exponent of ten and a mantissa.
+pub struct Scale {
+    pub unit: u8,
+    pub exponent: i8,
+    pub mantissa: i32,
+}
+
+// What stands for one channel. Offset and null of width 0 are not defined.
+pub struct Settings {
+    pub block: u32,
+    pub class: u16,
+    pub lead: u16,
+    pub kind: u8,
+    pub interval: Scale,
+    pub resolution: Scale,
+    pub offset: Bits,
+    pub null: Bits,
+}
+
+impl Settings {
+    // Channels of a frame, and so records of settings.
+    pub const CHANNELS: usize = 256;
+
+    // The largest block length.
+    pub const BLOCK_LIMIT: u32 = 1_048_576;
+
+    // Document 01's defaults.
+    pub fn default() -> Settings
+        ensures { λ r. ⌜ r ≡ defaultSettings ⌝ }
+    {
+        Settings {
+            block: 1,
+            class: 0,
+            lead: 0,
+            kind: 0,
+            interval: Scale {
+                unit: 0,
+                exponent: 0,
+                mantissa: 1000,
+            },
+            resolution: Scale {
+                unit: 0,
+                exponent: -6,
+                mantissa: 1,
+            },
+            offset: Bits { width: 0, bits: 0 },
+            null: Bits { width: 0, bits: 0 },
+        }
+    }
+
+    // All channel records at the defaults.
+    pub fn table() -> [Settings; Settings::CHANNELS]
+        ensures { λ r. ⌜ r ≡ defaultTable ⌝ }
+    {
+        let d = Settings::default();
+        [d; Settings::CHANNELS]
+    }
+}
+
+// One attribute's new value.
+pub enum Change {
+    Block(u32),
+    Class(u16),
+    Lead(u16),
+    Kind(u8),
+    Interval(Scale),
+    Resolution(Scale),
+    Offset(Bits),
+    Null(Bits),
+}
+
+// A record with one attribute changed.
+pub fn apply(s: Settings, c: Change) -> Settings
+    ensures { λ r. ⌜ r ≡ applied c s ⌝ }
+{
+    let mut t = s;
+    match c {
+        Change::Block(n) => {
+            t.block = n;
+        }
+        Change::Class(n) => {
+            t.class = n;
+        }
+        Change::Lead(n) => {
+            t.lead = n;
+        }
+        Change::Kind(n) => {
+            t.kind = n;
+        }
+        Change::Interval(x) => {
+            t.interval = x;
+        }
+        Change::Resolution(x) => {
+            t.resolution = x;
+        }
+        Change::Offset(x) => {
+            t.offset = x;
+        }
+        Change::Null(x) => {
+            t.null = x;
+        }
+    }
+    t
+}
+
+// All records with one attribute changed.
+pub fn apply_all(mut t: [Settings; 256], c: Change) -> [Settings; 256]
+    ensures { λ r. ⌜ r ≡ allApplied c t ⌝ }
+{
+    for i in 0..256usize {
+        t[i] = apply(t[i], c);
+    }
+    t
+}
+
+// The attributes that may stand in a group.
+pub enum Attribute {
+    Block,
+    Class,
+    Lead,
+    Kind,
+    Interval,
+    Resolution,
+    Offset,
+    Null,
+}
+
+// The attribute that a tag defines, if it defines one of these.
+pub enum Tagged {
+    Defines(Attribute),
+    Other,
+}
+
+pub fn attribute_of(tag: u8) -> Tagged
+    ensures { λ r. ⌜ r ≡ tagged tag ⌝ }
+{
+    match tag {
+        0x04 => Tagged::Defines(Attribute::Block),
+        0x08 => Tagged::Defines(Attribute::Class),
+        0x09 => Tagged::Defines(Attribute::Lead),
+        0x0A => Tagged::Defines(Attribute::Kind),
+        0x0B => Tagged::Defines(Attribute::Interval),
+        0x0C => Tagged::Defines(Attribute::Resolution),
+        0x0D => Tagged::Defines(Attribute::Offset),
+        0x12 => Tagged::Defines(Attribute::Null),
+        _ => Tagged::Other,
+    }
+}
+
+// The lengths that an interval or a resolution may have.
+fn scale_length(n: usize) -> bool
+    ensures { λ r. ⌜ r ≡ scaleLength n ⌝ }
+{
+    n == 0 || (3 <= n && n <= 6)
+}
+
+// The lengths that bits may have.
+fn bits_length(n: usize) -> bool
+    ensures { λ r. ⌜ r ≡ bitsLength n ⌝ }
+{
+    n <= 2 || (n == 4 || n == 8)
+}
+
+// The lengths of document 01's table.
+pub fn length_fits(a: Attribute, n: usize) -> bool
+    ensures { λ r. ⌜ r ≡ lengthFits a n ⌝ }
+{
+    match a {
+        Attribute::Block => n <= 4,
+        Attribute::Class => n <= 34,
+        Attribute::Lead => n <= 34,
+        Attribute::Kind => n <= 1,
+        Attribute::Interval => scale_length(n),
+        Attribute::Resolution => scale_length(n),
+        Attribute::Offset => bits_length(n),
+        Attribute::Null => bits_length(n),
+    }
+}
+
+// An attribute as it stands in a record.
+pub fn standing_in(a: Attribute, s: Settings) -> Change
+    ensures { λ r. ⌜ r ≡ standingIn a s ⌝ }
+{
+    let interval = s.interval;
+    let resolution = s.resolution;
+    let offset = s.offset;
+    let null = s.null;
+    match a {
+        Attribute::Block => Change::Block(s.block),
+        Attribute::Class => Change::Class(s.class),
+        Attribute::Lead => Change::Lead(s.lead),
+        Attribute::Kind => Change::Kind(s.kind),
+        Attribute::Interval => Change::Interval(interval),
+        Attribute::Resolution => Change::Resolution(resolution),
+        Attribute::Offset => Change::Offset(offset),
+        Attribute::Null => Change::Null(null),
+    }
+}
+
+// A block length of at most four octets.
+fn block_of(v: &[u8], little: bool) -> u32
+    ensures { λ r. ⌜ r ≡ numberOf «little» (take 4 (now (v .entry))) ⌝ }
+{
+    octets::number(octets::part(v, 0, 4), little) as u32
+}
+
+// A code: one octet, or the first two by the byte order. Text after it is stepped over.
+fn code_of(v: &[u8], little: bool) -> u16
+    ensures { λ r. ⌜ r ≡ codeOf «little» (now (v .entry)) ⌝ }
+{
+    octets::number(octets::part(v, 0, 2), little) as u16
+}
+
+// The octet at a place, 0 past the end.
+fn octet(v: &[u8], at: usize) -> u8
+    ensures { λ r. ⌜ r ≡ getD (now (v .entry)) at 0 ⌝ }
+{
+    if at < v.len() { v[at] } else { 0 }
+}
+
+// A unit octet, a signed exponent octet and a mantissa, which alone is turned by the byte order.
+fn scale_of(v: &[u8], little: bool) -> Scale
+    ensures { λ r. ⌜ r ≡ scaleOf «little» (now (v .entry)) ⌝ }
+{
+    Scale {
+        unit: octet(v, 0),
+        exponent: octets::signed_octet(octet(v, 1)),
+        mantissa: octets::signed(octets::part(v, 2, 4), little),
+    }
+}
+
+// Bits of at most eight octets, and how many octets they are.
+fn bits_of(v: &[u8], little: bool) -> Bits
+    ensures { λ r. ⌜ r ≡ bitsOf «little» (now (v .entry)) ⌝ }
+{
+    let x = octets::part(v, 0, 8);
+    Bits {
+        width: x.len() as u8,
+        bits: octets::number(x, little),
+    }
+}
+
+// The new value that a definition's octets hold.
+pub fn change_of(a: Attribute, v: &[u8], little: bool) -> Change
+    ensures { λ r. ⌜ r ≡ changeOf a «little» (now (v .entry)) ⌝ }
+{
+    match a {
+        Attribute::Block => Change::Block(block_of(v, little)),
+        Attribute::Class => Change::Class(code_of(v, little)),
+        Attribute::Lead => Change::Lead(code_of(v, little)),
+        Attribute::Kind => Change::Kind(octet(v, 0)),
+        Attribute::Interval => Change::Interval(scale_of(v, little)),
+        Attribute::Resolution => Change::Resolution(scale_of(v, little)),
+        Attribute::Offset => Change::Offset(bits_of(v, little)),
+        Attribute::Null => Change::Null(bits_of(v, little)),
+    }
+}
+
+fn block_fits(n: u32) -> bool
+    ensures { λ r. ⌜ r ≡ blockFits n ⌝ }
+{
+    1 <= n && n <= Settings::BLOCK_LIMIT
+}
+
+// A unit up to the last one, and a mantissa of at least 1.
+fn scale_fits(last: u8, x: Scale) -> bool
+    ensures { λ r. ⌜ r ≡ scaleFits last x ⌝ }
+{
+    x.unit <= last && 0 < x.mantissa
+}
+
+// The values of document 01's table.
+pub fn in_range(c: Change) -> bool
+    ensures { λ r. ⌜ r ≡ inRange c ⌝ }
+{
+    match c {
+        Change::Block(n) => block_fits(n),
+        Change::Class(_) => true,
+        Change::Lead(_) => true,
+        Change::Kind(n) => n <= 8,
+        Change::Interval(x) => scale_fits(2, x),
+        Change::Resolution(x) => scale_fits(22, x),
+        Change::Offset(_) => true,
+        Change::Null(_) => true,
+    }
+}
+
+// What a definition asks for.
+pub enum Defined {
+    Changed(Change),
+    Refused(u8),
+}
+
+// The definition of an attribute by the octets v; length 0 goes back to what stands in `base`.
+pub fn define(a: Attribute, v: &[u8], little: bool, base: Settings) -> Defined
+    ensures { λ r. ⌜ r ≡ defined a «little» base (now (v .entry)) ⌝ }
+{
+    if !length_fits(a, v.len()) {
+        return Defined::Refused(Refusal::LENGTH);
+    }
+    if v.len() == 0 {
+        return Defined::Changed(standing_in(a, base));
+    }
+    let c = change_of(a, v, little);
+    if in_range(c) {
+        Defined::Changed(c)
+    } else {
+        Defined::Refused(Refusal::VALUE)
+    }
+}
