@@ -1,16 +1,17 @@
 -- Laws of the numbers of octets, each stated once for any width.
 --     part-past, part-rest, part-whole, take-length-le, part-short    a part that runs past the end
---     read-all    octets that are no more than eight
+--     take-octets, drop-octets, read-all    a part of octets, and octets that are no more than eight
 --     range-suc, range-bits, range-pos, push, push-back, cap, room    one octet more
 --     big-turn, big-end, little-start, little-turn, little-end    a loop that reads octets from the front, and from the back
---     number-below, number-take    a number is one of its width
+--     big-below, little-below, number-below    a number is one of its width
+--     number-none, number-one, signed-one    the number of no octet, and of one
 --     twos-low, twos-high    what the machine reads back from a signed local's bits is the two's complement number
 -- Assumes nothing.
-use mathlib.Core.Path.{_≡_, refl, sym, ap, subst, _∙_}
+use mathlib.Core.Path.{_≡_, refl, sym, ap, _∙_}
 use mathlib.Core.List.{List, [], _∷_}
 use mathlib.Core.Bool.{Bool, true, false}
 use Prim.Native.Nat.{ℕ, zero, suc, _+_, _*_, _-_, _^_, _<_, _≤_}
-use native.Mathlib.Nat.{le-trans, lt-of-lt-of-le, min-le-left, one-le-pow, pow-suc, pow-le-pow-right}
+use native.Mathlib.Nat.{lt-of-lt-of-le, min-le-left, one-le-pow, pow-suc, pow-le-pow-right, le-trans}
 use native.Mathlib.Numerals.{add-one}
 use native.Mathlib.Omega.{arith}
 use borrow.Author.Tests.{lt-ltb, le-ltb}
@@ -18,11 +19,11 @@ use lib.Arith.{digits-lt}
 use lib.Dec.{lit<}
 use lib.Pow.{pow-add}
 use lib.ListN.{length, getD, take, drop, length-take, length-drop, drop-of-length-le}
-use lib.Seq.{drop-cons, drop-length, take-all, take-nil}
+use lib.Seq.{drop-cons, drop-length, getD-drop, take-all, take-nil}
 use mir.Syntax.{Width}
 use mir.Val.{bits, hbits, toZ}
 use mir.Facts.{toZ-pos, toZ-neg}
-use Rattle.octets.specs.Number.{range, bigFrom, littleOf, numberOf, twos, Read}
+use Rattle.octets.specs.Number.{range, bigFrom, littleOf, numberOf, twos, signedOf, Read}
 
 -- What lies past the end is not there, so a part is at most as long as asked for.
 module _ (s : List ℕ) (at n : ℕ) where
@@ -44,6 +45,16 @@ take-length-le n s = rw length-take (min-le-left n (length s))
 
 pub part-short : (n : ℕ) (s x : List ℕ) → x ≡ take n s → length x ≤ n
 part-short n s x e = rw e (take-length-le n s)
+
+-- A part of octets is octets.
+pub take-octets : (n : ℕ) (s : List ℕ) → ((i : ℕ) → getD s i 0 < 256) → (i : ℕ) → getD (take n s) i 0 < 256
+take-octets zero s h i = lit< tt
+take-octets (suc n) [] h i = lit< tt
+take-octets (suc n) (b ∷ s) h zero = h 0
+take-octets (suc n) (b ∷ s) h (suc i) = take-octets n s (λ j. h (suc j)) i
+
+pub drop-octets : (n : ℕ) (s : List ℕ) → ((i : ℕ) → getD s i 0 < 256) → (i : ℕ) → getD (drop n s) i 0 < 256
+drop-octets n s h i = rw getD-drop (h (n + i))
 
 -- Octets that are no more than eight are all looked at.
 pub read-all : (little : Bool) (x : List ℕ) (n : ℕ) → length x ≤ 8 → Read little (take 8 x) n → Read little x n
@@ -80,7 +91,8 @@ push-back l k n b z h q r =
     rw e at (push (l - k) n b q r)
 
 -- From the front: what is left to read gives the answer.
-pub big-turn : (s : List ℕ) (i n b e : ℕ) → i < length s → bigFrom n (drop i s) ≡ e → b ≡ getD s i 0 → bigFrom (n * 256 + b) (drop (i + 1) s) ≡ e
+pub big-turn : (s : List ℕ) (i n b e : ℕ) →
+    i < length s → bigFrom n (drop i s) ≡ e → b ≡ getD s i 0 → bigFrom (n * 256 + b) (drop (i + 1) s) ≡ e
 unfolding bigFrom
 big-turn s i n b e h q p = rw p (rw add-one (rw (drop-cons s i 0 h) at q))
 
@@ -95,7 +107,8 @@ little-start s =
     let h : length s ≤ length s = omega arith in
     rw (drop-of-length-le s h)
 
-pub little-turn : (s : List ℕ) (i j n b : ℕ) → i < length s → j ≡ i + 1 → n ≡ littleOf (drop j s) → b ≡ getD s i 0 → n * 256 + b ≡ littleOf (drop i s)
+pub little-turn : (s : List ℕ) (i j n b : ℕ) →
+    i < length s → j ≡ i + 1 → n ≡ littleOf (drop j s) → b ≡ getD s i 0 → n * 256 + b ≡ littleOf (drop i s)
 unfolding littleOf
 little-turn s i j n b h f q p = rw (drop-cons s i 0 h) (rw (q, p, f, add-one))
 
@@ -126,11 +139,35 @@ number-below false s h =
     let e : 0 + length s ≡ length s = omega arith in
     rw e at (big-below s 0 0 h (lit< tt))
 
+-- The number of no octet, and of one, in either byte order.
+pub number-none : (little : Bool) → numberOf little [] ≡ 0
+unfolding numberOf bigFrom littleOf
+number-none true = refl
+number-none false = refl
+
+pub number-one : (little : Bool) (b : ℕ) → numberOf little (b ∷ []) ≡ b
+unfolding numberOf bigFrom littleOf
+number-one true b = omega arith
+number-one false b = omega arith
+
+pub signed-one : (little : Bool) (b : ℕ) → signedOf little (b ∷ []) ≡ twos 1 b
+unfolding signedOf
+signed-one little b = rw (number-one little b)
+
 -- The bits of a signed local, read back at the machine's width W, are the two's complement number of w octets.
 pub twos-low : (W : Width) (w n : ℕ) → 2 * n < range w → n < 2 ^ hbits W → toZ W n ≡ twos w n
 unfolding twos
 twos-low W w n h f = toZ-pos W f ∙ simp (lt-ltb _ _ h)
 
-pub twos-high : (W : Width) (w n x : ℕ) → range w ≤ 2 * n → range w - suc n < 2 ^ hbits W → x ≡ 2 ^ bits W - suc (range w - suc n) → toZ W x ≡ twos w n
+pub twos-high : (W : Width) (w n x : ℕ) →
+    range w ≤ 2 * n → range w - suc n < 2 ^ hbits W → x ≡ 2 ^ bits W - suc (range w - suc n) → toZ W x ≡ twos w n
 unfolding twos
 twos-high W w n x h f e = ap (toZ W) e ∙ toZ-neg W (range w - suc n) f ∙ simp (le-ltb _ _ h)
+
+-- The number of a part of at most eight octets, as it was read.
+module _ (little : Bool) (n : ℕ) (v x : List ℕ) {r : ℕ} (h : n ≤ 8) (e : x ≡ take n v) (q : Read little (take 8 x) r) where
+  pub part-read : r ≡ numberOf little (take n v)
+  part-read = read-all little x r (le-trans (part-short n v x e) h) q .value ∙ ap (numberOf little) e
+
+  pub part-fits : r < range n
+  part-fits = lt-of-lt-of-le (read-all little x r (le-trans (part-short n v x e) h) q .below) (cap (length x) n (part-short n v x e))

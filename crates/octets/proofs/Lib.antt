@@ -1,3 +1,4 @@
--- Laws of the definitions of specs/, which this crate's proofs and its callers cite.
+-- Laws of the definitions of specs/, which this crate's proofs and its callers cite, and examples.
 pub mod Pick
 pub mod Laws
+pub mod Examples

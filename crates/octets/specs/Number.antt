@@ -27,7 +27,7 @@ unfoldable pub numberOf : Bool → List ℕ → ℕ
 numberOf true s = littleOf s
 numberOf false s = bigFrom 0 s
 
--- Two's complement at w octets: a number in the upper half of the range counts down from the top.
+-- Two's complement at w octets: a number from half of the range on stands for itself less the range; at no octets 0 is 0.
 unfoldable pub twos : ℕ → ℕ → ℤ
 twos w n = pick (ltb (2 * n) (range w)) (pos n) (negsuc (range w - suc n))
 

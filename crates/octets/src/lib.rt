@@ -8,7 +8,7 @@ ghost use mathlib.Core.Path.{_≡_};
 ghost use mathlib.Core.Bool.{true, false};
 ghost use Prim.Native.Nat.{_<_, _≤_};
 ghost use lib.ListN.{length, take, drop};
-ghost use Rattle.octets.specs.Number.{range, twos, signedOf, Read};
+ghost use Rattle.octets.specs.Number.{range, numberOf, twos, signedOf, Read};
 
 // The octets of s from at on, at most n.
 pub fn part(s: &[u8], at: usize, n: usize) -> &[u8]
@@ -25,6 +25,7 @@ pub fn part(s: &[u8], at: usize, n: usize) -> &[u8]
     &s[at..e]
 }
 
+// An octet as a number.
 fn wide(b: u8) -> u64
     ensures { λ r. ⌜ (r ≡ b) × (r < 256) ⌝ }
 {
@@ -69,6 +70,20 @@ pub fn number(s: &[u8], little: bool) -> u64
     } else {
         big_endian(x)
     }
+}
+
+// The number of the first two octets.
+pub fn two(s: &[u8], little: bool) -> u16
+    ensures { λ r. ⌜ r ≡ numberOf «little» (take 2 (now (s .entry))) ⌝ }
+{
+    number(part(s, 0, 2), little) as u16
+}
+
+// The number of the first four octets.
+pub fn four(s: &[u8], little: bool) -> u32
+    ensures { λ r. ⌜ r ≡ numberOf «little» (take 4 (now (s .entry))) ⌝ }
+{
+    number(part(s, 0, 4), little) as u32
 }
 
 // How many numbers w octets tell apart.

@@ -5,13 +5,10 @@
 use mathlib.Core.Path.{_≡_, refl, sym, ap, _∙_}
 use mathlib.Core.List.{List}
 use mathlib.Core.Bool.{Bool, true, false, not}
-use Prim.Native.Nat.{ℕ, _<_, _≤_, _^_}
-use native.Mathlib.Nat.{le-trans, lt-of-lt-of-le}
+use Prim.Native.Nat.{ℕ, _<_}
 use borrow.Author.Tests.{eq-eqb, ne-eqb}
-use lib.ListN.{length, getD, take, getD-replicate}
+use lib.ListN.{length, getD, getD-replicate}
 use Rattle.octets.specs.Pick.{pick}
-use Rattle.octets.specs.Number.{numberOf, Read}
-use Rattle.octets.proofs.Laws.{read-all, part-short, cap}
 use Rattle.items.specs.Refusals.{unfitLength, unfitValue}
 use Rattle.settings.specs.declared.Settings.{Settings}
 use Rattle.settings.specs.declared.Attribute.{Attribute}
@@ -40,12 +37,3 @@ module _ (a : Attribute) (little : Bool) (base : Settings) (v : List ℕ) where
   pub define-value : lengthFits a (length v) ≡ true → (length v ≡ 0 → ⊥) → inRange (changeOf a little v) ≡ false → Refused unfitValue ≡ defined a little base v
   unfolding defined
   define-value f z r = simp (f, ne-eqb (length v) 0 z, r)
-
--- ---- numbers of a part that is at most eight octets long
-
-module _ (little : Bool) (n : ℕ) (v x : List ℕ) {r : ℕ} (h : n ≤ 8) (e : x ≡ take n v) (q : Read little (take 8 x) r) where
-  pub part-read : r ≡ numberOf little (take n v)
-  part-read = read-all little x r (le-trans (part-short n v x e) h) q .value ∙ ap (numberOf little) e
-
-  pub part-fits : r < 256 ^ n
-  part-fits = lt-of-lt-of-le (read-all little x r (le-trans (part-short n v x e) h) q .below) (cap (length x) n (part-short n v x e))

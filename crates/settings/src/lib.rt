@@ -5,10 +5,9 @@
 // one record and `apply_all` in all of them. A new attribute is one more case of `Attribute` and `Change`.
 // Read first: specs/Settings.antt, then specs/Define.antt.
 ghost use mathlib.Core.Path.{_≡_};
-ghost use lib.ListN.{getD, take};
-ghost use Rattle.octets.specs.Number.{numberOf};
+ghost use lib.ListN.{getD};
 ghost use Rattle.settings.specs.Settings.{defaultSettings, defaultTable, applied, allApplied};
-ghost use Rattle.settings.specs.Define.{tagged, scaleLength, bitsLength, lengthFits, standingIn, codeOf, scaleOf, bitsOf, changeOf, blockFits, scaleFits, inRange, defined};
+ghost use Rattle.settings.specs.Define.{tagged, scaleLength, bitsLength, lengthFits, standingIn, scaleOf, bitsOf, changeOf, blockFits, scaleFits, inRange, defined};
 use items::Refusal;
 use values::Bits;
 
@@ -211,20 +210,6 @@ pub fn standing_in(a: Attribute, s: Settings) -> Change
     }
 }
 
-// A block length of at most four octets.
-fn block_of(v: &[u8], little: bool) -> u32
-    ensures { λ r. ⌜ r ≡ numberOf «little» (take 4 (now (v .entry))) ⌝ }
-{
-    octets::number(octets::part(v, 0, 4), little) as u32
-}
-
-// A code: one octet, or the first two by the byte order. Text after it is stepped over.
-fn code_of(v: &[u8], little: bool) -> u16
-    ensures { λ r. ⌜ r ≡ codeOf «little» (now (v .entry)) ⌝ }
-{
-    octets::number(octets::part(v, 0, 2), little) as u16
-}
-
 // The octet at a place, 0 past the end.
 fn octet(v: &[u8], at: usize) -> u8
     ensures { λ r. ⌜ r ≡ getD (now (v .entry)) at 0 ⌝ }
@@ -259,9 +244,9 @@ pub fn change_of(a: Attribute, v: &[u8], little: bool) -> Change
     ensures { λ r. ⌜ r ≡ changeOf a «little» (now (v .entry)) ⌝ }
 {
     match a {
-        Attribute::Block => Change::Block(block_of(v, little)),
-        Attribute::Class => Change::Class(code_of(v, little)),
-        Attribute::Lead => Change::Lead(code_of(v, little)),
+        Attribute::Block => Change::Block(octets::four(v, little)),
+        Attribute::Class => Change::Class(octets::two(v, little)),
+        Attribute::Lead => Change::Lead(octets::two(v, little)),
         Attribute::Kind => Change::Kind(octet(v, 0)),
         Attribute::Interval => Change::Interval(scale_of(v, little)),
         Attribute::Resolution => Change::Resolution(scale_of(v, little)),

@@ -1,5 +1,105 @@
-// Stub.
+// Values: what the octets of one sample stand for.
+//
+// For the answer to a sample's question, and for every crate that keeps null or offset bits (Bits).
+// Promises: each public function answers for every input and its whole answer is a definition of specs/Sample.antt. A
+// single or double that is handed out has exactly the file's bits, and so has a float that is no number (proofs/Exact.antt).
+// Read first: specs/Sample.antt, in the order of the rules.
+ghost use mathlib.Core.Path.{_≡_};
+ghost use Prim.Native.Nat.{_<_, _≤_};
+ghost use lib.ListN.{length};
+ghost use lib.IntN.{pos};
+ghost use Rattle.octets.specs.Number.{range, signedOf, Read};
+ghost use Rattle.values.specs.Sample.{widthOf, singleOf, doubleOf, plainOf, valueOf};
+
+// A value is one of six kinds, whose numbers are those of `kindOf`.
+pub enum Value {
+    Whole(i64),
+    Status(u16),
+    Single(f32),
+    Double(f64),
+    NotNumber(u64),
+    Null,
+}
+
+// Raw bits of a width in octets. Width 0: not defined.
 pub struct Bits {
     pub width: u8,
     pub bits: u64,
+}
+
+// Octets of a sample by its data type.
+pub fn width(kind: u8) -> usize
+    ensures { λ r. ⌜ r ≡ widthOf kind ⌝ }
+{
+    let widths: [usize; 9] = [2, 2, 4, 1, 2, 1, 4, 4, 8];
+    let k = kind as usize;
+    if k < 9 { widths[k] } else { 0 }
+}
+
+// A whole number with a sign.
+fn whole(x: &[u8], little: bool) -> Value
+    requires { ⌜ length (now x) ≤ 4 ⌝ }
+    ensures { λ r. ⌜ r ≡ Value.Whole (signedOf «little» (now (x .entry))) ⌝ }
+{
+    let z = octets::signed(x, little);
+    Value::Whole(z as i64)
+}
+
+// A whole number without a sign.
+fn count(n: u64) -> Value
+    requires { ⌜ n < range 4 ⌝ }
+    ensures { λ r. ⌜ r ≡ Value.Whole (pos n) ⌝ }
+{
+    Value::Whole(n as i64)
+}
+
+// A single, or its bits where they are no number's: without the sign they are above infinity's.
+fn single(n: u64) -> Value
+    requires { ⌜ n < range 4 ⌝ }
+    ensures { λ r. ⌜ r ≡ singleOf n ⌝ }
+{
+    if 0x7F800000 < n % 0x80000000 {
+        return Value::NotNumber(n);
+    }
+    Value::Single(f32::from_bits(n as u32))
+}
+
+// A double, or its bits where they are no number's.
+fn double(n: u64) -> Value
+    ensures { λ r. ⌜ r ≡ doubleOf n ⌝ }
+{
+    if 0x7FF0000000000000 < n % 0x8000000000000000 {
+        return Value::NotNumber(n);
+    }
+    Value::Double(f64::from_bits(n))
+}
+
+// A sample that is not null, of the octets x with the bits n.
+fn plain(x: &[u8], little: bool, kind: u8, n: u64) -> Value
+    requires { ⌜ (length (now x) ≤ widthOf kind) × Read «little» (now x) n ⌝ }
+    ensures { λ r. ⌜ r ≡ plainOf kind «little» (now (x .entry)) ⌝ }
+{
+    match kind {
+        0 | 2 | 5 => whole(x, little),
+        1 | 3 | 6 => count(n),
+        4 => Value::Status(n as u16),
+        7 => single(n),
+        8 => double(n),
+        _ => Value::Whole(0),
+    }
+}
+
+// The value of the sample that v starts with.
+pub fn sample_value(v: &[u8], little: bool, kind: u8, null: Bits) -> Value
+    ensures { λ r. ⌜ r ≡ valueOf kind null «little» (now (v .entry)) ⌝ }
+{
+    let w = width(kind);
+    let x = octets::part(v, 0, w);
+    let n = octets::number(x, little);
+    if null.width != 0 {
+        if null.bits == n {
+            return Value::Null;
+        }
+    }
+    plain(x, little, kind, n)
 }

@@ -11,9 +11,6 @@ use Rattle.octets.proofs.Laws.{push, cap, room, big-turn, big-end}
 use borrow.Author.Needs.{needs}
 use Rattle.octets.proofs.big_endian.Statement.{statement}
 use Rattle.octets.proofs.big_endian.Tie as tie
-use Rattle.octets.proofs.big_endian.Reads as reads
-use Rattle.octets.proofs.big_endian.Lts as lts
-use Rattle.octets.proofs.wide.Reads as wide-reads
 
 abbrev Inv-loop : tie.InvT-loop
 Inv-loop s n₀ i₀ n i = (i ≤ length s) × (n < range i) × (bigFrom n (drop i s) ≡ bigFrom 0 s)
@@ -43,11 +40,22 @@ loop-less : tie.Need-loop-less Inv-loop μ-loop
 loop-less c = search needs
 
 loop-again : tie.Need-loop-again Inv-loop μ-loop
-loop-again c = (search needs, push _ _ _ (c .before .before .before .loop .inv .1) (c .wide .ensures .1), big-turn _ _ _ _ _ (c .before .before .loop-test .taken) (c .before .before .before .loop .inv .2) (c .wide .ensures .0))
+loop-again c =
+    let l = c .before .before .before .loop in
+    let test = c .before .before .loop-test .taken in (
+      search needs,
+      push _ _ _ (l .inv .1) (c .wide .ensures .1),
+      big-turn _ _ _ _ _ test (l .inv .2) (c .wide .ensures .0),
+    )
 
 returns : tie.Need-returns Inv-loop μ-loop
 unfolding numberOf
-returns c = record { value = big-end _ _ _ _ (c .loop-test .left) (c .before .loop .inv .2); below = lt-of-lt-of-le (c .before .loop .inv .1) (cap _ _ (c .before .loop .inv .0)) }
+returns c =
+    let inv = c .before .loop .inv in
+    record {
+      value = big-end _ _ _ _ (c .loop-test .left) (inv .2);
+      below = lt-of-lt-of-le (inv .1) (cap _ _ (inv .0));
+    }
 
 pub big-endian-spec : {M : Type 1} → statement M
 big-endian-spec =

@@ -6,9 +6,6 @@ use Rattle.octets.proofs.Laws.{twos-low, twos-high}
 use borrow.Author.Needs.{needs}
 use Rattle.octets.proofs.extended.Statement.{statement}
 use Rattle.octets.proofs.extended.Tie as tie
-use Rattle.octets.proofs.extended.Reads as reads
-use Rattle.octets.proofs.extended.Lts as lts
-use Rattle.octets.proofs.span.Reads as span-reads
 
 span-requires : tie.Need-span-requires
 span-requires c κs = search needs

@@ -3,11 +3,6 @@ use Rattle.octets.proofs.Laws.{part-short}
 use borrow.Author.Needs.{needs}
 use Rattle.octets.proofs.number.Statement.{statement}
 use Rattle.octets.proofs.number.Tie as tie
-use Rattle.octets.proofs.number.Reads as reads
-use Rattle.octets.proofs.number.Lts as lts
-use Rattle.octets.proofs.big_endian.Reads as big-endian-reads
-use Rattle.octets.proofs.little_endian.Reads as little-endian-reads
-use Rattle.octets.proofs.part.Reads as part-reads
 
 part-requires : tie.Need-part-requires
 part-requires c κs = search needs

@@ -4,8 +4,6 @@ use Rattle.octets.proofs.Laws.{part-past, part-rest, part-whole}
 use borrow.Author.Needs.{needs}
 use Rattle.octets.proofs.part.Statement.{statement}
 use Rattle.octets.proofs.part.Tie as tie
-use Rattle.octets.proofs.part.Reads as reads
-use Rattle.octets.proofs.part.Lts as lts
 
 sub-result : tie.Need-sub-result
 sub-result c = search needs

@@ -10,11 +10,6 @@ use Rattle.octets.proofs.Laws.{part-short, read-all}
 use borrow.Author.Needs.{needs}
 use Rattle.octets.proofs.signed.Statement.{statement}
 use Rattle.octets.proofs.signed.Tie as tie
-use Rattle.octets.proofs.signed.Reads as reads
-use Rattle.octets.proofs.signed.Lts as lts
-use Rattle.octets.proofs.extended.Reads as extended-reads
-use Rattle.octets.proofs.number.Reads as number-reads
-use Rattle.octets.proofs.part.Reads as part-reads
 
 -- the part that counts, with the number that was read of it
 short : (c : tie.After-number) → length (c .before .part .result .now) ≤ 4

@@ -5,8 +5,6 @@ use Rattle.octets.proofs.Laws.{twos-low, twos-high}
 use borrow.Author.Needs.{needs}
 use Rattle.octets.proofs.signed_octet.Statement.{statement}
 use Rattle.octets.proofs.signed_octet.Tie as tie
-use Rattle.octets.proofs.signed_octet.Reads as reads
-use Rattle.octets.proofs.signed_octet.Lts as lts
 
 cast-result : tie.Need-cast-result
 cast-result c = search needs

@@ -6,8 +6,6 @@ use Rattle.octets.proofs.Laws.{range-bits}
 use borrow.Author.Needs.{needs}
 use Rattle.octets.proofs.span.Statement.{statement}
 use Rattle.octets.proofs.span.Tie as tie
-use Rattle.octets.proofs.span.Reads as reads
-use Rattle.octets.proofs.span.Lts as lts
 
 mul-result : tie.Need-mul-result
 mul-result c = search needs

@@ -9,7 +9,7 @@ use native.Mathlib.Nat.{lt-of-lt-of-le}
 use lib.Dec.{lit≤}
 use lib.ListN.{take, drop, length}
 use Rattle.octets.specs.Number.{numberOf, Read, range}
-use Rattle.settings.proofs.Laws.{part-read, part-fits}
+use Rattle.octets.proofs.Laws.{part-read, part-fits}
 use Rattle.settings.specs.Define.{bitsOf}
 use borrow.Author.Needs.{needs}
 use Rattle.settings.proofs.bits_of.Statement.{statement}

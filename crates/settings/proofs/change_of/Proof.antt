@@ -9,8 +9,8 @@ use Rattle.settings.proofs.change_of.Tie as tie
 use Rattle.settings.proofs.change_of.Reads as reads
 use Rattle.settings.proofs.change_of.Lts as lts
 use Rattle.settings.proofs.bits_of.Reads as bits-of-reads
-use Rattle.settings.proofs.block_of.Reads as block-of-reads
-use Rattle.settings.proofs.code_of.Reads as code-of-reads
+use Rattle.octets.proofs.four.Reads as four-reads
+use Rattle.octets.proofs.two.Reads as two-reads
 use Rattle.settings.proofs.octet.Reads as octet-reads
 use Rattle.settings.proofs.scale_of.Reads as scale-of-reads
 
@@ -19,24 +19,24 @@ enum-told : tie.Need-enum-told
 enum-told c = search needs
 
 -- src/lib.rt:262:43
-block-of-requires : tie.Need-block-of-requires
-block-of-requires c κs = search needs
+four-requires : tie.Need-four-requires
+four-requires c κs = search needs
 
 -- src/lib.rt:263:43
 enum-told-2 : tie.Need-enum-told-2
 enum-told-2 c = search needs
 
 -- src/lib.rt:263:43
-code-of-requires : tie.Need-code-of-requires
-code-of-requires c κs = search needs
+two-requires : tie.Need-two-requires
+two-requires c κs = search needs
 
 -- src/lib.rt:264:41
 enum-told-3 : tie.Need-enum-told-3
 enum-told-3 c = search needs
 
 -- src/lib.rt:264:41
-code-of-requires-2 : tie.Need-code-of-requires-2
-code-of-requires-2 c κs = search needs
+two-requires-2 : tie.Need-two-requires-2
+two-requires-2 c κs = search needs
 
 -- src/lib.rt:265:41
 enum-told-4 : tie.Need-enum-told-4
@@ -80,15 +80,15 @@ bits-of-requires-2 c κs = search needs
 
 -- src/lib.rt:258:1
 returns : tie.Need-returns
-returns c = ap Change.Block (c .block-of .ensures) ∙ ap (λ (a : Attribute). changeOf a (c .before .before .before .before .args .little) (c .before .before .before .before .args .v .now)) (sym (c .before .enum-told .given .1))
+returns c = ap Change.Block (c .four .ensures) ∙ ap (λ (a : Attribute). changeOf a (c .before .before .before .before .args .little) (c .before .before .before .before .args .v .now)) (sym (c .before .enum-told .given .1))
 
 -- src/lib.rt:258:1
 returns-2 : tie.Need-returns-2
-returns-2 c = ap Change.Class (c .code-of .ensures) ∙ ap (λ (a : Attribute). changeOf a (c .before .before .before .before .args .little) (c .before .before .before .before .args .v .now)) (sym (c .before .enum-told2 .given .1))
+returns-2 c = ap Change.Class (c .two .ensures) ∙ ap (λ (a : Attribute). changeOf a (c .before .before .before .before .args .little) (c .before .before .before .before .args .v .now)) (sym (c .before .enum-told2 .given .1))
 
 -- src/lib.rt:258:1
 returns-3 : tie.Need-returns-3
-returns-3 c = ap Change.Lead (c .code-of2 .ensures) ∙ ap (λ (a : Attribute). changeOf a (c .before .before .before .before .args .little) (c .before .before .before .before .args .v .now)) (sym (c .before .enum-told3 .given .1))
+returns-3 c = ap Change.Lead (c .two2 .ensures) ∙ ap (λ (a : Attribute). changeOf a (c .before .before .before .before .args .little) (c .before .before .before .before .args .v .now)) (sym (c .before .enum-told3 .given .1))
 
 -- src/lib.rt:258:1
 returns-4 : tie.Need-returns-4
@@ -115,11 +115,11 @@ change-of-spec =
     tie.close
     (tie.spec
     enum-told
-    block-of-requires
+    four-requires
     enum-told-2
-    code-of-requires
+    two-requires
     enum-told-3
-    code-of-requires-2
+    two-requires-2
     enum-told-4
     octet-requires
     enum-told-5

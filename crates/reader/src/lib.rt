@@ -1,0 +1,341 @@
+// The reader: every file settled, every attribute and sample found.
+//
+// Promises, for any octets at all: `check` counts the frames or answers the refusal of document 01 with its number and place;
+// `attributes` answers what stands for a channel in a frame, and `sample` where a sample lies and what it is, or a refusal. All three are
+// thin over `scan`, which walks the file once.
+// Read first: specs/Standing.antt (what an item asks for), specs/Frame.antt (frames and samples), specs/Verdict.antt (the file),
+// specs/Answer.antt (the questions).
+ghost use mathlib.Core.Path.{_≡_};
+ghost use Prim.Native.Nat.{_+_, _*_, _≤_, _<_, _^_};
+ghost use lib.ListN.{length, take, drop};
+ghost use Rattle.settings.specs.Define.{tagged, defined};
+ghost use Rattle.reader.specs.Standing.{firstStanding, withOrder, withCount, withSequences, withStart, withContinued, withRoot, orderEffect, countEffect, sequencesEffect, startEffect, compressedEffect, allEffect, oneEffect, rootEffect, plainEffect, memberEffect, groupEffect, valueAt, effectOf};
+ghost use Rattle.reader.specs.Frame.{channelsOf, sequencesOf, pointerFits, pointerAfter, framedAs};
+use items::Cursor;
+use items::Item;
+use items::Next;
+use items::Refusal;
+use settings::Attribute;
+use settings::Change;
+use settings::Defined;
+use settings::Settings;
+use settings::Tagged;
+use values::Bits;
+use values::Value;
+
+// What stands outside the channels' own records. `counted` 0: no channel count stands. `sequences` 0: by waveform length. `start` is
+// the start pointer of a frame that came now, `continued` the one to which the previous frame leads.
+pub struct Standing {
+    pub little: bool,
+    pub counted: u32,
+    pub sequences: u32,
+    pub start: i64,
+    pub continued: i64,
+    pub root: Settings,
+}
+
+impl Standing {
+    // Frames of a file.
+    pub const FRAMES: u32 = 4096;
+
+    // Octets of a file.
+    pub const OCTETS: usize = 0x7FFF_FFFF;
+
+    // Before the first item.
+    pub fn first() -> Standing
+        ensures { λ r. ⌜ r ≡ firstStanding ⌝ }
+    {
+        let root = Settings::default();
+        Standing {
+            little: false,
+            counted: 0,
+            sequences: 0,
+            start: 0,
+            continued: 0,
+            root,
+        }
+    }
+
+    fn with_order(mut self, little: bool) -> Standing
+        ensures { λ r. ⌜ r ≡ withOrder «little» self ⌝ }
+    {
+        self.little = little;
+        self
+    }
+
+    fn with_count(mut self, counted: u32) -> Standing
+        ensures { λ r. ⌜ r ≡ withCount counted self ⌝ }
+    {
+        self.counted = counted;
+        self
+    }
+
+    fn with_sequences(mut self, sequences: u32) -> Standing
+        ensures { λ r. ⌜ r ≡ withSequences sequences self ⌝ }
+    {
+        self.sequences = sequences;
+        self
+    }
+
+    fn with_start(mut self, start: i64) -> Standing
+        ensures { λ r. ⌜ r ≡ withStart start self ⌝ }
+    {
+        self.start = start;
+        self
+    }
+
+    // A frame has led to this pointer, and the next frame goes on there.
+    fn with_continued(mut self, z: i64) -> Standing
+        ensures { λ r. ⌜ r ≡ withContinued z self ⌝ }
+    {
+        self.start = z;
+        self.continued = z;
+        self
+    }
+
+    pub fn with_root(mut self, root: Settings) -> Standing
+        ensures { λ r. ⌜ r ≡ withRoot root self ⌝ }
+    {
+        self.root = root;
+        self
+    }
+}
+
+// What an item asks for.
+pub enum Effect {
+    // Nothing.
+    Pass,
+    // Something outside the channels' records.
+    Stand(Standing),
+    // The same, and every channel back to the root settings.
+    Reset(Standing),
+    // A definition for all channels.
+    All(Change),
+    // A definition for one channel.
+    One(u32, Change),
+    // A frame with this waveform.
+    Frame { start: usize, len: usize },
+    // A refusal.
+    Refused(u8),
+}
+
+// 01, byte order.
+fn order_effect(st: Standing, v: &[u8]) -> Effect
+    ensures { λ r. ⌜ r ≡ orderEffect st (now (v .entry)) ⌝ }
+{
+    if 1 < v.len() {
+        return Effect::Refused(Refusal::LENGTH);
+    }
+    if v.len() == 0 {
+        return Effect::Stand(st.with_order(false));
+    }
+    let b = v[0];
+    if 1 < b {
+        return Effect::Refused(Refusal::VALUE);
+    }
+    Effect::Stand(st.with_order(b == 1))
+}
+
+// 05, channels.
+fn count_effect(st: Standing, v: &[u8]) -> Effect
+    ensures { λ r. ⌜ r ≡ countEffect st (now (v .entry)) ⌝ }
+{
+    if 4 < v.len() {
+        return Effect::Refused(Refusal::LENGTH);
+    }
+    if v.len() == 0 {
+        return Effect::Reset(st.with_count(0));
+    }
+    let n = octets::four(v, st.little);
+    if n == 0 {
+        return Effect::Refused(Refusal::VALUE);
+    }
+    if 256 < n {
+        return Effect::Refused(Refusal::VALUE);
+    }
+    Effect::Reset(st.with_count(n))
+}
+
+// 06, sequences.
+fn sequences_effect(st: Standing, v: &[u8]) -> Effect
+    ensures { λ r. ⌜ r ≡ sequencesEffect st (now (v .entry)) ⌝ }
+{
+    if 4 < v.len() {
+        return Effect::Refused(Refusal::LENGTH);
+    }
+    if v.len() == 0 {
+        return Effect::Stand(st.with_sequences(0));
+    }
+    let n = octets::four(v, st.little);
+    if n == 0 {
+        return Effect::Refused(Refusal::VALUE);
+    }
+    Effect::Stand(st.with_sequences(n))
+}
+
+// 07, start pointer.
+fn start_effect(st: Standing, v: &[u8]) -> Effect
+    ensures { λ r. ⌜ r ≡ startEffect st (now (v .entry)) ⌝ }
+{
+    if 4 < v.len() {
+        return Effect::Refused(Refusal::LENGTH);
+    }
+    if v.len() == 0 {
+        return Effect::Stand(st.with_start(st.continued));
+    }
+    let z = octets::signed(v, st.little);
+    Effect::Stand(st.with_start(z as i64))
+}
+
+// 0E, compression.
+fn compressed_effect(v: &[u8]) -> Effect
+    ensures { λ r. ⌜ r ≡ compressedEffect (now (v .entry)) ⌝ }
+{
+    if v.len() == 0 {
+        Effect::Pass
+    } else {
+        Effect::Refused(Refusal::COMPRESSED)
+    }
+}
+
+fn all_effect(d: Defined) -> Effect
+    ensures { λ r. ⌜ r ≡ allEffect d ⌝ }
+{
+    match d {
+        Defined::Changed(c) => Effect::All(c),
+        Defined::Refused(number) => Effect::Refused(number),
+    }
+}
+
+fn one_effect(channel: u32, d: Defined) -> Effect
+    ensures { λ r. ⌜ r ≡ oneEffect channel d ⌝ }
+{
+    match d {
+        Defined::Changed(c) => Effect::One(channel, c),
+        Defined::Refused(number) => Effect::Refused(number),
+    }
+}
+
+// The tags that stand only outside groups; every other one is stepped over.
+fn root_effect(st: Standing, tag: u8, start: usize, v: &[u8]) -> Effect
+    ensures { λ r. ⌜ r ≡ rootEffect st tag start (now (v .entry)) ⌝ }
+{
+    match tag {
+        0x01 => order_effect(st, v),
+        0x05 => count_effect(st, v),
+        0x06 => sequences_effect(st, v),
+        0x07 => start_effect(st, v),
+        0x0E => compressed_effect(v),
+        0x1E => Effect::Frame {
+            start,
+            len: v.len(),
+        },
+        _ => Effect::Pass,
+    }
+}
+
+// An item outside a group.
+fn plain_effect(st: Standing, tag: u8, start: usize, v: &[u8]) -> Effect
+    ensures { λ r. ⌜ r ≡ plainEffect st tag start (now (v .entry)) (tagged tag) ⌝ }
+{
+    match settings::attribute_of(tag) {
+        Tagged::Defines(a) => {
+            let base = Settings::default();
+            all_effect(settings::define(a, v, st.little, base))
+        }
+        Tagged::Other => root_effect(st, tag, start, v),
+    }
+}
+
+// An item inside a group that is not ignored.
+fn member_effect(st: Standing, channel: u32, tag: u8, v: &[u8]) -> Effect
+    ensures { λ r. ⌜ r ≡ memberEffect st channel (now (v .entry)) (tagged tag) ⌝ }
+{
+    match settings::attribute_of(tag) {
+        Tagged::Defines(a) => {
+            let base = st.root;
+            one_effect(channel, settings::define(a, v, st.little, base))
+        }
+        Tagged::Other => Effect::Pass,
+    }
+}
+
+// A group's channel number.
+fn group_effect(st: Standing, channel: u32) -> Effect
+    ensures { λ r. ⌜ r ≡ groupEffect st channel ⌝ }
+{
+    if st.counted == 0 {
+        return Effect::Pass;
+    }
+    if channel < st.counted {
+        return Effect::Pass;
+    }
+    Effect::Refused(Refusal::CHANNEL_RANGE)
+}
+
+// What an item of the file s asks for.
+pub fn item_effect(s: &[u8], st: Standing, item: Item) -> Effect
+    ensures { λ r. ⌜ r ≡ effectOf (now (s .entry)) st item ⌝ }
+{
+    match item {
+        Item::Plain {
+            place: _,
+            tag,
+            start,
+            len,
+        } => plain_effect(st, tag, start, octets::part(s, start, len)),
+        Item::Group { place: _, channel } => group_effect(st, channel),
+        Item::Member {
+            place: _,
+            channel,
+            tag,
+            start,
+            len,
+        } => {
+            if st.counted == 0 {
+                return Effect::Pass;
+            }
+            member_effect(st, channel, tag, octets::part(s, start, len))
+        }
+        Item::Mark { place: _ } => Effect::Pass,
+    }
+}
+
+// What a waveform gives: the frame's sequences and what stands after it, or a refusal.
+pub enum Framed {
+    Taken(u32, Standing),
+    Refused(u8),
+}
+
+// How many channels a frame has where this count stands.
+pub fn channels_of(counted: u32) -> u32
+    ensures { λ r. ⌜ r ≡ channelsOf counted ⌝ }
+{
+    if counted == 0 { 1 } else { counted }
+}
+
+// Sequences as set, else as many as the waveform holds.
+fn sequences_of(set: u32, long: usize, octets: u64) -> u64
+    ensures { λ r. ⌜ r ≡ sequencesOf set long octets ⌝ }
+{
+    if set != 0 {
+        return set as u64;
+    }
+    if octets == 0 {
+        return 0;
+    }
+    long as u64 / octets
+}
+
+// Signed 32 bits.
+fn pointer_fits(z: i64) -> bool
+    ensures { λ r. ⌜ r ≡ pointerFits z ⌝ }
+{
+    -2_147_483_648 <= z && z <= 2_147_483_647
+}
+
+// The answer of the check: the number of frames, or the refusal.
+pub enum Checked {
+    Frames(u32),
+    Refused(Refusal),
+}

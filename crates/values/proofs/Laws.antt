@@ -1,0 +1,83 @@
+-- Laws of a sample's value.
+--     nan-yes, nan-no    the test that tells a float that is no number, for any format
+--     three, width-le, plain-signed, plain-unsigned    the tables by data type
+--     width-other, plain-other, past    and at a number that is no type
+--     null-yes, null-no    null comes first
+-- Assumes nothing.
+use mathlib.Core.Path.{_≡_, refl, _∙_}
+use mathlib.Core.Logic.{_⊎_, inl, inr, ⊎-elim}
+use mathlib.Core.Bool.{Bool, true, false}
+use mathlib.Core.List.{List}
+use Prim.Native.Nat.{ℕ, zero, suc, _*_, _%_, _<_, _≤_}
+use native.Mathlib.Omega.{arith}
+use borrow.Author.Tests.{lt-ltb, le-ltb, eq-eqb, ne-eqb}
+use lib.Dec.{lit≤}
+use lib.Ieee.{Format, nanBits, ones, hid, top}
+use lib.Ieee.Bits.{nanBits-above}
+use lib.IntN.{pos}
+use lib.ListN.{take, List·getD-eq-default}
+use Rattle.octets.specs.Number.{numberOf, signedOf}
+use Rattle.octets.proofs.Pick.{both-false}
+use Rattle.values.specs.declared.Bits.{Bits}
+use Rattle.values.specs.declared.Value.the-variants.{Whole, Null}
+use Rattle.values.specs.Sample.{widthOf, plainOf, isNull, valueOf}
+
+-- A float is no number where its bits without the sign are above infinity's.
+module _ (f : Format) (n : ℕ) where
+  pub nan-yes : ones f * hid f < n % top f → nanBits f n ≡ true
+  nan-yes h = nanBits-above f n ∙ lt-ltb _ _ h
+
+  pub nan-no : n % top f ≤ ones f * hid f → nanBits f n ≡ false
+  nan-no h = nanBits-above f n ∙ le-ltb _ _ h
+
+-- What holds of three numbers holds of one that is among them.
+pub three : (P : ℕ → Type 0) {a b c k : ℕ} → P a → P b → P c → (k ≡ a) ⊎ ((k ≡ b) ⊎ (k ≡ c)) → P k
+three P p q r h = ⊎-elim (λ e. rw e p) (⊎-elim (λ e. rw e q) (λ e. rw e r)) h
+
+-- No sample is wider than eight octets.
+pub width-le : (k : ℕ) → widthOf k ≤ 8
+unfolding widthOf
+width-le zero = lit≤ tt
+width-le (suc zero) = lit≤ tt
+width-le (suc (suc zero)) = lit≤ tt
+width-le (suc (suc (suc zero))) = lit≤ tt
+width-le (suc (suc (suc (suc zero)))) = lit≤ tt
+width-le (suc (suc (suc (suc (suc zero))))) = lit≤ tt
+width-le (suc (suc (suc (suc (suc (suc zero)))))) = lit≤ tt
+width-le (suc (suc (suc (suc (suc (suc (suc zero))))))) = lit≤ tt
+width-le (suc (suc (suc (suc (suc (suc (suc (suc zero)))))))) = lit≤ tt
+width-le (suc (suc (suc (suc (suc (suc (suc (suc (suc k))))))))) = lit≤ tt
+
+-- The signed data types, and the unsigned ones.
+module _ (k : ℕ) (little : Bool) (x : List ℕ) where
+  pub plain-signed : (k ≡ 0) ⊎ ((k ≡ 2) ⊎ (k ≡ 5)) → Whole (signedOf little x) ≡ plainOf k little x
+  unfolding plainOf
+  plain-signed h = three (λ (j : ℕ). Whole (signedOf little x) ≡ plainOf j little x) refl refl refl h
+
+  pub plain-unsigned : (k ≡ 1) ⊎ ((k ≡ 3) ⊎ (k ≡ 6)) → Whole (pos (numberOf little x)) ≡ plainOf k little x
+  unfolding plainOf
+  plain-unsigned h = three (λ (j : ℕ). Whole (pos (numberOf little x)) ≡ plainOf j little x) refl refl refl h
+
+-- At a number that is no data type.
+pub width-other : (k : ℕ) → 9 ≤ k → 0 ≡ widthOf k
+unfolding widthOf
+width-other k h = rw List·getD-eq-default
+
+pub plain-other : (k : ℕ) (little : Bool) (x : List ℕ) → 9 ≤ k → Whole (pos 0) ≡ plainOf k little x
+unfolding plainOf
+plain-other k little x h = rw List·getD-eq-default
+
+-- A number that is at least j, and not j, is above it.
+pub past : {k j : ℕ} → j ≤ k → (k ≡ j → ⊥) → suc j ≤ k
+past h n = omega arith
+
+-- Null comes first: it is defined and its bits are the sample's, or the data type decides.
+module _ (k n : ℕ) (u : Bits) (little : Bool) (x v : List ℕ) (e : x ≡ take (widthOf k) v) (b : n ≡ numberOf little x) where
+  pub null-yes : (u .width ≡ 0 → ⊥) → u .bits ≡ n → Null ≡ valueOf k u little v
+  unfolding valueOf isNull
+  null-yes h q = rw (← e, ← b) (simp (ne-eqb _ _ h, eq-eqb _ _ q))
+
+  pub null-no : (u .width ≡ 0) ⊎ (u .bits ≡ n → ⊥) → plainOf k little x ≡ valueOf k u little v
+  unfolding valueOf isNull
+  null-no (inl h) = rw (← e) (simp (eq-eqb _ _ h))
+  null-no (inr h) = rw (← e, ← b) (simp (ne-eqb _ _ h, both-false))

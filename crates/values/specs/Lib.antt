@@ -1,0 +1,2 @@
+-- What the octets of a sample stand for.
+pub mod Sample
