@@ -1,0 +1,112 @@
+-- Laws of the pass over channels: what is still to come gives the answer.
+--     Passed         the loop's invariant: the sums so far and those of the channels left make the whole
+--     passed-none    before the first channel
+--     passed-more    one channel further
+--     passed-all     after the last one
+-- Assumes nothing.
+use mathlib.Core.Path.{_≡_, refl, sym, ap, _∙_}
+use mathlib.Core.List.{List, [], _∷_}
+use mathlib.Core.Bool.{Bool, true, false}
+use Prim.Native.Nat.{ℕ, zero, suc, _+_, _-_, _*_, _^_, _≤_, _<_, min}
+use native.Mathlib.Nat.{add-assoc, zero-add, add-zero}
+use native.Mathlib.Numerals.{add-one}
+use native.Mathlib.Omega.{arith}
+use native.Mathlib.Decide.{decLe}
+use borrow.Author.Tests.{ltb-true, ltb-false}
+use lib.Dec.{ltb}
+use lib.ListN.{length, getD, take, drop, drop-of-length-le}
+use lib.Seq.{drop-cons, take-nil, take-length, take-all}
+use Rattle.octets.specs.Pick.{pick, both}
+use Rattle.octets.proofs.Pick.{pick-cases}
+use Rattle.settings.specs.declared.Settings.{Settings}
+use Rattle.settings.specs.Settings.{zeroSettings}
+use Rattle.layout.specs.declared.Layout.{Layout}
+use Rattle.layout.specs.Frame.{blockOctets, sequenceOctets, octetsBelow, channelAgrees, allAgree}
+use Rattle.layout.specs.Size.{groupSize, groupsSize}
+use Rattle.layout.specs.Measure.{layoutOf, moreOf}
+
+-- Some octets of the channels left: those below `channel`, where i channels are behind.
+abbrev leftBelow : ℕ → ℕ → List Settings → ℕ
+leftBelow channel i rest = sequenceOctets (take (channel - i) rest)
+
+pub record Passed (channel : ℕ) (cs : List Settings) (i : ℕ) (l : Layout) : Type 0 where
+  pub low : i ≤ length cs
+  pub octetsRoom : l .octets ≤ i * 2 ^ 36
+  pub belowRoom : l .below ≤ i * 2 ^ 36
+  pub groupsRoom : l .groups ≤ i * 2 ^ 36
+  pub agree : both (l .agree) (allAgree (drop i cs)) ≡ allAgree cs
+  pub octets : l .octets + sequenceOctets (drop i cs) ≡ sequenceOctets cs
+  pub below : l .below + leftBelow channel i (drop i cs) ≡ octetsBelow channel cs
+  pub groups : l .groups + groupsSize i (drop i cs) ≡ groupsSize 0 cs
+
+abbrev none : Layout
+none = record { agree = true; octets = 0; below = 0; groups = 0 }
+
+pub passed-none : (channel : ℕ) (cs : List Settings) → Passed channel cs 0 none
+unfolding octetsBelow
+passed-none channel cs =
+    let e : channel - 0 ≡ channel = omega arith in
+    record {
+      low = omega arith;
+      octetsRoom = omega arith;
+      belowRoom = omega arith;
+      groupsRoom = omega arith;
+      agree = refl;
+      octets = zero-add (sequenceOctets cs);
+      below = rw e (zero-add (sequenceOctets (take channel cs)));
+      groups = zero-add (groupsSize 0 cs);
+    }
+
+both-assoc : (a b c : Bool) → both (both a b) c ≡ both a (both b c)
+both-assoc true b c = refl
+both-assoc false b c = refl
+
+below-more : (channel i x : ℕ) (c : Settings) (rest : List Settings) → pick (ltb i channel) (x + blockOctets c) x + leftBelow channel (suc i) rest ≡ x + leftBelow channel i (c ∷ rest)
+unfolding sequenceOctets
+below-more channel i x c rest =
+    pick-cases (λ (t : ℕ). t + leftBelow channel (suc i) rest ≡ x + leftBelow channel i (c ∷ rest)) (ltb i channel)
+    (λ h. let e : channel - i ≡ suc (channel - suc i) = omega (arith, ltb-true i channel h) in rw e (add-assoc x (blockOctets c) (sequenceOctets (take (channel - suc i) rest))))
+    (λ h. let e : channel - i ≡ 0 = omega (arith, ltb-false i channel h) in let f : channel - suc i ≡ 0 = omega (arith, ltb-false i channel h) in rw (e, f))
+
+-- The number of octets below a channel grows by a channel's octets at most.
+below-room : (channel i x b k : ℕ) → x ≤ i * k → b < k → pick (ltb i channel) (x + b) x ≤ (i + 1) * k
+below-room channel i x b k h l = pick-cases (λ (t : ℕ). t ≤ (i + 1) * k) (ltb i channel) (λ _. omega arith) (λ _. omega arith)
+
+pub passed-more : (channel : ℕ) (cs : List Settings) (i : ℕ) (c : Settings) (l m : Layout) → i < length cs → c ≡ getD cs i zeroSettings → Passed channel cs i l → blockOctets c < 2 ^ 36 → groupSize i c < 2 ^ 36 → m ≡ moreOf i channel c l → Passed channel cs (i + 1) m
+unfolding allAgree sequenceOctets groupsSize
+passed-more channel cs i c l m h ec p bo gs em =
+    let d : drop i cs ≡ c ∷ drop (suc i) cs = drop-cons cs i zeroSettings h ∙ ap (λ (x : Settings). x ∷ drop (suc i) cs) (sym ec) in
+    let n : i + 1 ≡ suc i = add-one i in
+    rw em
+    record {
+      low = omega arith;
+      octetsRoom = omega (arith, p .octetsRoom);
+      belowRoom = below-room channel i (l .below) (blockOctets c) (2 ^ 36) (p .belowRoom) bo;
+      groupsRoom = omega (arith, p .groupsRoom);
+      agree = rw n (both-assoc (l .agree) (channelAgrees c) (allAgree (drop (suc i) cs)) ∙ rw d at (p .agree));
+      octets = rw n (add-assoc (l .octets) (blockOctets c) (sequenceOctets (drop (suc i) cs)) ∙ rw d at (p .octets));
+      below = rw n (below-more channel i (l .below) c (drop (suc i) cs) ∙ rw d at (p .below));
+      groups = rw n (add-assoc (l .groups) (groupSize i c) (groupsSize (suc i) (drop (suc i) cs)) ∙ rw d at (p .groups));
+    }
+
+both-true : (a : Bool) → both a true ≡ a
+both-true true = refl
+both-true false = refl
+
+pub passed-all : (channel : ℕ) (cs : List Settings) (i : ℕ) (l : Layout) → length cs ≤ i → Passed channel cs i l → l ≡ layoutOf channel cs
+unfolding layoutOf allAgree sequenceOctets groupsSize
+passed-all channel cs i l h p =
+    let d : drop i cs ≡ [] = drop-of-length-le cs h in
+    let a : l .agree ≡ allAgree cs = sym (both-true (l .agree)) ∙ rw d at (p .agree) in
+    let o : l .octets ≡ sequenceOctets cs = sym (add-zero (l .octets)) ∙ rw d at (p .octets) in
+    let b : l .below ≡ octetsBelow channel cs = sym (add-zero (l .below)) ∙ rw (d, take-nil) at (p .below) in
+    let g : l .groups ≡ groupsSize 0 cs = sym (add-zero (l .groups)) ∙ rw d at (p .groups) in
+    λ k. record { agree = a k; octets = o k; below = b k; groups = g k }
+
+-- The first records of a table, taken by a count and by as many as there are.
+pub taken-min : (t : List Settings) (count : ℕ) → take (min count (length t)) t ≡ take count t
+taken-min t count = min-by (decLe count (length t))
+  where
+    min-by : Dec (count ≤ length t) → take (min count (length t)) t ≡ take count t
+    min-by (yes h) = let e : min count (length t) ≡ count = omega arith in rw e
+    min-by (no h) = let e : min count (length t) ≡ length t = omega arith in rw e (take-length t ∙ sym (take-all count t (omega arith)))

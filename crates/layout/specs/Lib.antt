@@ -1,0 +1,3 @@
+pub mod Frame
+pub mod Size
+pub mod Measure

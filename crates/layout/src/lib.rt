@@ -1,0 +1,133 @@
+// The layout of a frame: what one pass over its channels' settings tells.
+//
+// Promises: `measure` answers, for the first `count` records of a table, whether offsets and nulls have their sample widths, the octets of
+// a sequence, those below a channel, and the octets that the channels' groups take in the canonical file.
+// Read first: specs/Frame.antt (frames and the place of a sample), specs/Size.antt.
+ghost use mathlib.Core.Path.{_≡_};
+ghost use Prim.Native.Nat.{_+_, _<_, _^_, min};
+ghost use lib.Dec.{ltb};
+ghost use lib.ListN.{take};
+ghost use Rattle.octets.specs.Pick.{pick, both};
+ghost use Rattle.layout.specs.Frame.{blockOctets, widthAgrees, channelAgrees};
+ghost use Rattle.layout.specs.Size.{channelSize, nullSize, groupSize};
+ghost use Rattle.layout.specs.Measure.{Small, Room, More, layoutOf};
+use settings::Settings;
+use values::Bits;
+
+// What a pass over channels tells.
+pub struct Layout {
+    pub agree: bool,
+    pub octets: u64,
+    pub below: u64,
+    pub groups: u64,
+}
+
+// Block length times octets per sample, below 2^36.
+pub fn block_octets(c: Settings) -> u64
+    ensures { λ r. ⌜ Small (blockOctets c) r ⌝ }
+{
+    let w = values::width(c.kind);
+    c.block as u64 * w as u64
+}
+
+// Bits that are defined have the sample's width.
+fn width_agrees(w: usize, b: Bits) -> bool
+    ensures { λ r. ⌜ r ≡ widthAgrees w b ⌝ }
+{
+    b.width == 0 || b.width as usize == w
+}
+
+// A channel's offset and null have its sample width, where they are defined.
+pub fn channel_agrees(c: Settings) -> bool
+    ensures { λ r. ⌜ r ≡ channelAgrees c ⌝ }
+{
+    let offset = c.offset;
+    let null = c.null;
+    let w = values::width(c.kind);
+    if width_agrees(w, offset) {
+        return width_agrees(w, null);
+    }
+    false
+}
+
+// A shortest channel number's octets.
+fn channel_size(k: usize) -> u64
+    ensures { λ r. ⌜ r ≡ channelSize k ⌝ }
+{
+    if k < 128 { 1 } else { 2 }
+}
+
+// The octets of a null's value.
+fn null_size(c: Settings) -> u64
+    ensures { λ r. ⌜ r ≡ nullSize c ⌝ }
+{
+    let null = c.null;
+    if null.width == 0 {
+        return 0;
+    }
+    values::width(c.kind) as u64
+}
+
+// The octets of channel k's group in the canonical file.
+pub fn group_size(k: usize, c: Settings) -> u64
+    ensures { λ r. ⌜ Small (groupSize k c) r ⌝ }
+{
+    let w = values::width(c.kind) as u64;
+    let null = null_size(c);
+    2 + channel_size(k) + (37 + w + null)
+}
+
+// Octets of a channel that lies below another one are added.
+fn added_below(i: usize, channel: u32, below: u64, octets: u64) -> u64
+    requires { ⌜ below + octets < 2 ^ 64 ⌝ }
+    ensures { λ r. ⌜ r ≡ pick (ltb i channel) (below + octets) below ⌝ }
+{
+    if i < channel as usize { below + octets } else { below }
+}
+
+fn agree_both(a: bool, b: bool) -> bool
+    ensures { λ r. ⌜ r ≡ both a b ⌝ }
+{
+    if a { b } else { false }
+}
+
+// One channel more.
+fn more(l: Layout, i: usize, channel: u32, c: Settings) -> Layout
+    requires { ⌜ Room i l ⌝ }
+    ensures { λ r. ⌜ More i channel c l r ⌝ }
+{
+    let octets = block_octets(c);
+    Layout {
+        agree: agree_both(l.agree, channel_agrees(c)),
+        octets: l.octets + octets,
+        below: added_below(i, channel, l.below, octets),
+        groups: l.groups + group_size(i, c),
+    }
+}
+
+// As many records as there are.
+fn at_most(count: u32) -> usize
+    ensures { λ r. ⌜ r ≡ min count 256 ⌝ }
+{
+    if count < 256 { count as usize } else { 256 }
+}
+
+// The first `count` records of a table, all of them where there are no more.
+pub fn measure(table: [Settings; 256], count: u32, channel: u32) -> Layout
+    ensures { λ r. ⌜ r ≡ layoutOf channel (take count table) ⌝ }
+{
+    let mut l = Layout {
+        agree: true,
+        octets: 0,
+        below: 0,
+        groups: 0,
+    };
+    let n = at_most(count);
+    let mut i = 0usize;
+    while i < n {
+        let c = table[i];
+        l = more(l, i, channel, c);
+        i += 1;
+    }
+    l
+}
