@@ -1,3 +1,4 @@
 pub mod Standing
-pub mod Frame
+pub mod Framing
 pub mod Verdict
+pub mod Answer

@@ -17,7 +17,8 @@ use Rattle.reader.specs.declared.Framed.{Framed}
 use Rattle.reader.specs.declared.Checked.{Checked}
 use Rattle.reader.specs.declared.Checked.the-variants.{Frames}
 use Rattle.reader.specs.Standing.{firstStanding, withRoot, valueAt, effectOf}
-use Rattle.reader.specs.Frame.{Frame, channelsOf, sequenceOctets, allAgree, framedAs}
+use Rattle.layout.specs.Frame.{Frame, sequenceOctets, allAgree}
+use Rattle.reader.specs.Framing.{octetsLimit, channelsOf, framedAs}
 
 -- What stands between two items: what stands outside the channels' own records, those records, and the frames met so far.
 pub record State : Type 0 where
@@ -94,10 +95,6 @@ unfoldable pub interpret : List ℕ → State → Items → Verdict
 interpret s x (item i more) = afterItem (λ y. interpret s y more) (placeAt i) (carried s x (effectOf s (x .standing) i))
 interpret s x finished = accepted (x .frames)
 interpret s x (fault r) = refused r
-
--- The octets of a file at most.
-abbrev pub octetsLimit : ℕ
-octetsLimit = 2_147_483_647
 
 -- 15 comes first.
 unfoldable pub verdict : List ℕ → Verdict

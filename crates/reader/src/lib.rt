@@ -8,9 +8,12 @@
 ghost use mathlib.Core.Path.{_≡_};
 ghost use Prim.Native.Nat.{_+_, _*_, _≤_, _<_, _^_};
 ghost use lib.ListN.{length, take, drop};
-ghost use Rattle.settings.specs.Define.{tagged, defined};
+ghost use lib.Dec.{ltb};
+ghost use lib.IntN.{pos, _+ℤ_};
+ghost use lib.Signed.{mag};
+ghost use Rattle.settings.specs.Define.{tagged};
 ghost use Rattle.reader.specs.Standing.{firstStanding, withOrder, withCount, withSequences, withStart, withContinued, withRoot, orderEffect, countEffect, sequencesEffect, startEffect, compressedEffect, allEffect, oneEffect, rootEffect, plainEffect, memberEffect, groupEffect, valueAt, effectOf};
-ghost use Rattle.reader.specs.Frame.{channelsOf, sequencesOf, pointerFits, pointerAfter, framedAs};
+ghost use Rattle.reader.specs.Framing.{channelsOf, sequencesOf, pointerFits, framedAs};
 use items::Cursor;
 use items::Item;
 use items::Next;
@@ -18,6 +21,7 @@ use items::Refusal;
 use settings::Attribute;
 use settings::Change;
 use settings::Defined;
+use settings::Scale;
 use settings::Settings;
 use settings::Tagged;
 use values::Bits;
@@ -316,13 +320,11 @@ pub fn channels_of(counted: u32) -> u32
 
 // Sequences as set, else as many as the waveform holds.
 fn sequences_of(set: u32, long: usize, octets: u64) -> u64
+    requires { ⌜ 0 < octets ⌝ }
     ensures { λ r. ⌜ r ≡ sequencesOf set long octets ⌝ }
 {
     if set != 0 {
         return set as u64;
-    }
-    if octets == 0 {
-        return 0;
     }
     long as u64 / octets
 }
@@ -334,8 +336,112 @@ fn pointer_fits(z: i64) -> bool
     -2_147_483_648 <= z && z <= 2_147_483_647
 }
 
+// The pointer after a frame: its start plus root block length times its sequences.
+fn pointer_after(start: i64, block: u32, sequences: u64) -> i64
+    requires { ⌜ (mag start < 2147483648) × (sequences < 2147483648) ⌝ }
+    ensures { λ r. ⌜ r ≡ start +ℤ pos (block * sequences) ⌝ }
+{
+    start + (block as u64 * sequences) as i64
+}
+
+// A waveform is shorter than so many sequences.
+fn too_short(long: usize, sequences: u64, octets: u64) -> bool
+    requires { ⌜ 0 < octets ⌝ }
+    ensures { λ r. ⌜ r ≡ ltb long (sequences * octets) ⌝ }
+{
+    long as u64 / octets < sequences
+}
+
+// A waveform of `long` octets after `frames` frames, where a sequence takes `octets` octets.
+pub fn frame_of(frames: u32, st: Standing, agree: bool, octets: u64, long: usize) -> Framed
+    ensures { λ r. ⌜ r ≡ framedAs frames st agree octets long ⌝ }
+{
+    if octets == 0 {
+        return Framed::Refused(Refusal::FILE_LIMIT);
+    }
+    if Standing::OCTETS < long {
+        return Framed::Refused(Refusal::FILE_LIMIT);
+    }
+    if Standing::FRAMES <= frames {
+        return Framed::Refused(Refusal::FRAME_LIMIT);
+    }
+    if !agree {
+        return Framed::Refused(Refusal::WIDTH);
+    }
+    let start = st.start;
+    if !pointer_fits(start) {
+        return Framed::Refused(Refusal::POINTER_RANGE);
+    }
+    let sequences = sequences_of(st.sequences, long, octets);
+    if too_short(long, sequences, octets) {
+        return Framed::Refused(Refusal::WAVEFORM_SHORT);
+    }
+    let root = st.root;
+    let z = pointer_after(start, root.block, sequences);
+    Framed::Taken(sequences as u32, st.with_continued(z))
+}
+
 // The answer of the check: the number of frames, or the refusal.
 pub enum Checked {
     Frames(u32),
+    Refused(Refusal),
+}
+
+// The frame and the channel that a question names.
+pub struct Asked {
+    pub frame: u32,
+    pub channel: u32,
+}
+
+// What a pass keeps of the frame that is asked for: `octets` are those of a sequence, `below` those below the channel that is asked
+// for, and `settings` that channel's, the defaults where the frame lacks it.
+pub struct View {
+    pub start: i64,
+    pub channels: u32,
+    pub sequences: u32,
+    pub little: bool,
+    pub place: usize,
+    pub octets: u64,
+    pub below: u64,
+    pub settings: Settings,
+}
+
+// The frame that is asked for, if the file has it.
+pub enum Found {
+    Frame(View),
+    Nothing,
+}
+
+// What one pass over a file answers; `size` is how many octets its frames take in the canonical file.
+pub struct Scan {
+    pub checked: Checked,
+    pub found: Found,
+    pub size: u64,
+}
+
+// The attributes of a channel in a frame. The offset has the sample's width; a null of width 0 is none.
+pub struct Attributes {
+    pub start: i64,
+    pub channels: u32,
+    pub sequences: u32,
+    pub block: u32,
+    pub class: u16,
+    pub lead: u16,
+    pub kind: u8,
+    pub interval: Scale,
+    pub resolution: Scale,
+    pub offset: Bits,
+    pub null: Bits,
+}
+
+// The answer to the question for attributes.
+pub enum Described {
+    Attributes(Attributes),
+    Refused(Refusal),
+}
+
+// The answer to the question for a sample: its place and value.
+pub enum Sampled {
+    Sample(usize, Value),
     Refused(Refusal),
 }

@@ -1,24 +1,22 @@
+-- As set, or by a division.
+use Rattle.reader.proofs.Framings.{sequences-set, sequences-by}
 use borrow.Author.Needs.{needs}
 use Rattle.reader.proofs.sequences_of.Statement.{statement}
 use Rattle.reader.proofs.sequences_of.Tie as tie
 use Rattle.reader.proofs.sequences_of.Reads as reads
 use Rattle.reader.proofs.sequences_of.Lts as lts
 
--- src/lib.rt:322:9
+-- src/lib.rt:327:9
 returns : tie.Need-returns
-returns c = ?
+returns c = sequences-set _ _ _ (c .if1 .taken)
 
--- src/lib.rt:325:9
-returns-2 : tie.Need-returns-2
-returns-2 c = ?
-
--- src/lib.rt:327:5
+-- src/lib.rt:329:5
 div-result : tie.Need-div-result
 div-result c = search needs
 
--- src/lib.rt:318:1
-returns-3 : tie.Need-returns-3
-returns-3 c = ?
+-- src/lib.rt:322:1
+returns-2 : tie.Need-returns-2
+returns-2 c = sequences-by _ _ _ (c .if1 .left)
 
 pub sequences-of-spec : {M : Type 1} → statement M
-sequences-of-spec = tie.close (tie.spec returns returns-2 div-result returns-3)
+sequences-of-spec = tie.close (tie.spec returns div-result returns-2)

@@ -1,0 +1,130 @@
+-- The questions (document 01, "Frames and samples" and "What comes back when it is no"): the attributes of a channel in a frame, and the
+-- place and value of a sample.
+use mathlib.Core.List.{List, [], _∷_}
+use mathlib.Core.Bool.{Bool, true, false}
+use Prim.Native.Nat.{ℕ, _+_, _*_}
+use lib.Dec.{eqb, ltb}
+use lib.IntN.{pos}
+use lib.ListN.{length, getD, take, drop}
+use Rattle.octets.specs.Pick.{pick}
+use Rattle.values.specs.declared.Bits.{Bits}
+use Rattle.values.specs.Sample.{valueOf}
+use Rattle.items.specs.declared.Refusal.{Refusal}
+use Rattle.items.specs.Refusals.{noFrame, noChannel, noSample}
+use Rattle.items.specs.Walk.{refusal}
+use Rattle.settings.specs.declared.Settings.{Settings}
+use Rattle.settings.specs.Settings.{defaultSettings, zeroSettings}
+use Rattle.layout.specs.Frame.{Frame, widthIn, sequenceOctets, octetsBelow, channelIn, samplesOf, placeOf}
+use Rattle.layout.specs.Size.{frameSize, groupsSize}
+use Rattle.reader.specs.declared.Asked.{Asked}
+use Rattle.reader.specs.declared.View.{View}
+use Rattle.reader.specs.declared.Found.{Found}
+use Rattle.reader.specs.declared.Found.the-variants.{Nothing}
+use Rattle.reader.specs.declared.Checked.{Checked}
+use Rattle.reader.specs.declared.Scan.{Scan}
+use Rattle.reader.specs.declared.Attributes.{Attributes}
+use Rattle.reader.specs.declared.Described.{Described}
+use Rattle.reader.specs.declared.Sampled.{Sampled}
+use Rattle.reader.specs.declared.Sampled.the-variants.{Sample}
+use Rattle.reader.specs.Verdict.{Verdict, accepted, refused, verdict, checkedAs}
+
+-- What is read past the last frame; no answer depends on it.
+abbrev pub zeroFrame : Frame
+zeroFrame = record { start = pos 0; place = 0; little = false; sequences = 0; channels = []; waveform = [] }
+
+-- ---- attributes
+
+-- An offset not defined is zero bits of the sample's width.
+unfoldable pub offsetBits : Settings → Bits
+offsetBits c = pick (eqb (c .offset .width) 0) (record { width = widthIn c; bits = 0 }) (c .offset)
+
+-- The attributes of a channel in a frame.
+unfoldable pub attributesIn : ℕ → Frame → Attributes
+attributesIn channel f =
+    let c = channelIn channel (f .channels) in
+    record {
+      start = f .start;
+      channels = length (f .channels);
+      sequences = f .sequences;
+      block = c .block;
+      class = c .class;
+      lead = c .lead;
+      kind = c .kind;
+      interval = c .interval;
+      resolution = c .resolution;
+      offset = offsetBits c;
+      null = c .null;
+    }
+
+-- A question on a refused file answers that file's refusal; then 20, 21 in that order.
+unfoldable pub describedIn : ℕ → ℕ → Verdict → Described
+describedIn frame channel (refused r) = Described.Refused r
+describedIn frame channel (accepted fs) =
+    let f = getD fs frame zeroFrame in
+    pick (ltb frame (length fs))
+    (pick (ltb channel (length (f .channels))) (Described.Attributes (attributesIn channel f))
+    (Described.Refused (refusal noChannel 0)))
+    (Described.Refused (refusal noFrame 0))
+
+unfoldable pub attributesOf : List ℕ → ℕ → ℕ → Described
+attributesOf s frame channel = describedIn frame channel (verdict s)
+
+-- ---- samples
+
+-- The place and value of a sample: its octets are the w octets from its place on.
+unfoldable pub sampleIn : List ℕ → ℕ → ℕ → Frame → Sampled
+sampleIn s channel n f =
+    let c = channelIn channel (f .channels) in
+    let place = placeOf channel n f in
+    Sample place (valueOf (c .kind) (c .null) (f .little) (take (widthIn c) (drop place s)))
+
+-- The file's refusal; then 20, 21, 22 in that order.
+unfoldable pub sampledIn : List ℕ → ℕ → ℕ → ℕ → Verdict → Sampled
+sampledIn s frame channel n (refused r) = Sampled.Refused r
+sampledIn s frame channel n (accepted fs) =
+    let f = getD fs frame zeroFrame in
+    pick (ltb frame (length fs))
+    (pick (ltb channel (length (f .channels)))
+    (pick (ltb n (samplesOf channel f)) (sampleIn s channel n f)
+    (Sampled.Refused (refusal noSample 0)))
+    (Sampled.Refused (refusal noChannel 0)))
+    (Sampled.Refused (refusal noFrame 0))
+
+unfoldable pub sampleOf : List ℕ → ℕ → ℕ → ℕ → Sampled
+sampleOf s frame channel n = sampledIn s frame channel n (verdict s)
+
+-- ---- one pass over a file
+
+-- What the pass keeps of the frame that is asked for.
+unfoldable pub viewOf : ℕ → Frame → View
+viewOf channel f =
+    let c = pick (ltb channel (length (f .channels))) (channelIn channel (f .channels)) defaultSettings in
+    record {
+      start = f .start;
+      channels = length (f .channels);
+      sequences = f .sequences;
+      little = f .little;
+      place = f .place;
+      octets = sequenceOctets (f .channels);
+      below = octetsBelow channel (f .channels);
+      settings = c;
+    }
+
+unfoldable pub foundIn : Asked → List Frame → Found
+foundIn q fs = pick (ltb (q .frame) (length fs)) (Found.Frame (viewOf (q .channel) (getD fs (q .frame) zeroFrame))) Nothing
+
+-- How many octets frames take in the canonical file, without its first three.
+unfoldable pub sizeOf : Frame → ℕ
+sizeOf f = frameSize (f .sequences) (groupsSize 0 (f .channels)) (f .sequences * sequenceOctets (f .channels))
+
+unfoldable pub sizes : List Frame → ℕ
+sizes [] = 0
+sizes (f ∷ fs) = sizeOf f + sizes fs
+
+-- What one pass over a file answers: the verdict's number of frames or refusal, the frame that is asked for, and the canonical frames' octets.
+unfoldable pub scannedIn : Asked → Verdict → Scan
+scannedIn q (accepted fs) = record { checked = checkedAs (accepted fs); found = foundIn q fs; size = sizes fs }
+scannedIn q (refused r) = record { checked = checkedAs (refused r); found = Nothing; size = 0 }
+
+unfoldable pub scanOf : Asked → List ℕ → Scan
+scanOf q s = scannedIn q (verdict s)
