@@ -3,6 +3,7 @@
 --     passed-none    before the first channel
 --     passed-more    one channel further
 --     passed-all     after the last one
+--     groups-few     groups take few octets
 -- Assumes nothing.
 use mathlib.Core.Path.{_≡_, refl, sym, ap, _∙_}
 use mathlib.Core.List.{List, [], _∷_}
@@ -13,16 +14,17 @@ use native.Mathlib.Numerals.{add-one}
 use native.Mathlib.Omega.{arith}
 use native.Mathlib.Decide.{decLe}
 use borrow.Author.Tests.{ltb-true, ltb-false}
-use lib.Dec.{ltb}
+use lib.Dec.{ltb, eqb}
 use lib.ListN.{length, getD, take, drop, drop-of-length-le}
 use lib.Seq.{drop-cons, take-nil, take-length, take-all}
 use Rattle.octets.specs.Pick.{pick, both}
 use Rattle.octets.proofs.Pick.{pick-cases}
+use Rattle.values.proofs.Laws.{width-le}
 use Rattle.settings.specs.declared.Settings.{Settings}
 use Rattle.settings.specs.Settings.{zeroSettings}
 use Rattle.layout.specs.declared.Layout.{Layout}
 use Rattle.layout.specs.Frame.{blockOctets, sequenceOctets, octetsBelow, channelAgrees, allAgree}
-use Rattle.layout.specs.Size.{groupSize, groupsSize}
+use Rattle.layout.specs.Size.{channelSize, nullSize, groupSize, groupsSize}
 use Rattle.layout.specs.Measure.{layoutOf, moreOf}
 
 -- Some octets of the channels left: those below `channel`, where i channels are behind.
@@ -110,3 +112,17 @@ taken-min t count = min-by (decLe count (length t))
     min-by : Dec (count ≤ length t) → take (min count (length t)) t ≡ take count t
     min-by (yes h) = let e : min count (length t) ≡ count = omega arith in rw e
     min-by (no h) = let e : min count (length t) ≡ length t = omega arith in rw e (take-length t ∙ sym (take-all count t (omega arith)))
+
+-- A group takes at most 64 octets.
+group-few : (k : ℕ) (c : Settings) → groupSize k c ≤ 64
+unfolding groupSize
+group-few k c =
+    let w = width-le (c .kind) in
+    let n : nullSize c ≤ 8 = pick-cases (λ (m : ℕ). m ≤ 8) (eqb (c .null .width) 0) (λ _. omega arith) (λ _. w) in
+    let h : channelSize k ≤ 2 = pick-cases (λ (m : ℕ). m ≤ 2) (ltb k 128) (λ _. omega arith) (λ _. omega arith) in
+    omega arith
+
+pub groups-few : (k : ℕ) (cs : List Settings) → groupsSize k cs ≤ length cs * 64
+unfolding groupsSize
+groups-few k [] = omega arith
+groups-few k (c ∷ cs) = omega (arith, group-few k c, groups-few (suc k) cs)

@@ -31,6 +31,10 @@ groupsSize k (c ∷ cs) = groupSize k c + groupsSize (suc k) cs
 abbrev pub lengthSize : ℕ → ℕ
 lengthSize n = pick (ltb n 128) 1 (pick (ltb n 256) 2 (pick (ltb n 65_536) 3 (pick (ltb n 16_777_216) 4 5)))
 
--- 05 and 07 take 6 octets each, 06 the same or two for 0 sequences; then the groups, and 1E with its length and the samples.
+-- 06 takes six octets, or two for 0 sequences.
+abbrev pub sequencesSize : ℕ → ℕ
+sequencesSize sequences = pick (eqb sequences 0) 2 6
+
+-- 05 and 07 take six octets each; then the groups, and 1E with its length and the samples.
 unfoldable pub frameSize : ℕ → ℕ → ℕ → ℕ
-frameSize sequences groups waveform = 12 + pick (eqb sequences 0) 2 6 + groups + (1 + lengthSize waveform + waveform)
+frameSize sequences groups waveform = 12 + sequencesSize sequences + groups + (1 + lengthSize waveform + waveform)

@@ -26,7 +26,7 @@ use Rattle.reader.specs.declared.Attributes.{Attributes}
 use Rattle.reader.specs.declared.Described.{Described}
 use Rattle.reader.specs.declared.Sampled.{Sampled}
 use Rattle.reader.specs.declared.Sampled.the-variants.{Sample}
-use Rattle.reader.specs.Verdict.{Verdict, accepted, refused, verdict, checkedAs}
+use Rattle.reader.specs.Verdict.{Verdict, accepted, refused, verdict}
 
 -- What is read past the last frame; no answer depends on it.
 abbrev pub zeroFrame : Frame
@@ -121,10 +121,14 @@ unfoldable pub sizes : List Frame → ℕ
 sizes [] = 0
 sizes (f ∷ fs) = sizeOf f + sizes fs
 
+-- A refused file has no frame.
+abbrev pub refusedScan : Refusal → Scan
+refusedScan r = record { checked = Checked.Refused r; found = Nothing; size = 0 }
+
 -- What one pass over a file answers: the verdict's number of frames or refusal, the frame that is asked for, and the canonical frames' octets.
 unfoldable pub scannedIn : Asked → Verdict → Scan
-scannedIn q (accepted fs) = record { checked = checkedAs (accepted fs); found = foundIn q fs; size = sizes fs }
-scannedIn q (refused r) = record { checked = checkedAs (refused r); found = Nothing; size = 0 }
+scannedIn q (accepted fs) = record { checked = Checked.Frames (length fs); found = foundIn q fs; size = sizes fs }
+scannedIn q (refused r) = refusedScan r
 
 unfoldable pub scanOf : Asked → List ℕ → Scan
 scanOf q s = scannedIn q (verdict s)

@@ -6,14 +6,18 @@
 // Read first: specs/Standing.antt (what an item asks for), specs/Frame.antt (frames and samples), specs/Verdict.antt (the file),
 // specs/Answer.antt (the questions).
 ghost use mathlib.Core.Path.{_≡_};
-ghost use Prim.Native.Nat.{_+_, _*_, _≤_, _<_, _^_};
-ghost use lib.ListN.{length, take, drop};
+ghost use Prim.Native.Nat.{_*_, _≤_, _<_, min};
 ghost use lib.Dec.{ltb};
 ghost use lib.IntN.{pos, _+ℤ_};
 ghost use lib.Signed.{mag};
 ghost use Rattle.settings.specs.Define.{tagged};
 ghost use Rattle.reader.specs.Standing.{firstStanding, withOrder, withCount, withSequences, withStart, withContinued, withRoot, orderEffect, countEffect, sequencesEffect, startEffect, compressedEffect, allEffect, oneEffect, rootEffect, plainEffect, memberEffect, groupEffect, valueAt, effectOf};
 ghost use Rattle.reader.specs.Framing.{channelsOf, sequencesOf, pointerFits, framedAs};
+ghost use Rattle.octets.specs.Pick.{pick};
+ghost use Rattle.settings.specs.Settings.{defaultSettings};
+ghost use Rattle.layout.specs.Size.{lengthSize, sequencesSize, frameSize};
+ghost use Rattle.reader.specs.Verdict.{placeAt, checkOf};
+ghost use Rattle.reader.specs.Answer.{refusedScan, scanOf};
 use items::Cursor;
 use items::Item;
 use items::Next;
@@ -444,4 +448,187 @@ pub enum Described {
 pub enum Sampled {
     Sample(usize, Value),
     Refused(Refusal),
+}
+
+fn refused_scan(x: Refusal) -> Scan
+    ensures { λ r. ⌜ r ≡ refusedScan x ⌝ }
+{
+    Scan {
+        checked: Checked::Refused(x),
+        found: Found::Nothing,
+        size: 0,
+    }
+}
+
+// The place of an item's tag.
+fn place_of(item: Item) -> usize
+    ensures { λ r. ⌜ r ≡ placeAt item ⌝ }
+{
+    match item {
+        Item::Plain {
+            place,
+            tag: _,
+            start: _,
+            len: _,
+        } => place,
+        Item::Group { place, channel: _ } => place,
+        Item::Member {
+            place,
+            channel: _,
+            tag: _,
+            start: _,
+            len: _,
+        } => place,
+        Item::Mark { place } => place,
+    }
+}
+
+// The octets of a length in its shortest form.
+fn length_size(n: u64) -> u64
+    ensures { λ r. ⌜ (r ≡ lengthSize n) × (r ≤ 5) ⌝ }
+{
+    if n < 128 {
+        return 1;
+    }
+    if n < 256 {
+        return 2;
+    }
+    if n < 65_536 {
+        return 3;
+    }
+    if n < 16_777_216 {
+        return 4;
+    }
+    5
+}
+
+// The octets of 06.
+fn sequences_size(sequences: u32) -> u64
+    ensures { λ r. ⌜ (r ≡ sequencesSize sequences) × (r ≤ 6) ⌝ }
+{
+    if sequences == 0 { 2 } else { 6 }
+}
+
+// The octets of a frame in the canonical file.
+fn frame_size(sequences: u32, groups: u64, waveform: u64) -> u64
+    requires { ⌜ (groups ≤ 16384) × (waveform < 2147483648) ⌝ }
+    ensures { λ r. ⌜ (r ≡ frameSize sequences groups waveform) × (r < 4294967296) ⌝ }
+{
+    12 + sequences_size(sequences) + groups + (1 + length_size(waveform) + waveform)
+}
+
+// The settings of a channel that the frame has, else the defaults.
+fn seen(there: bool, s: Settings) -> Settings
+    ensures { λ r. ⌜ r ≡ pick there s defaultSettings ⌝ }
+{
+    if there { s } else { Settings::default() }
+}
+
+// The last record for every channel number above it.
+fn index(channel: u32) -> usize
+    ensures { λ r. ⌜ r ≡ min channel 255 ⌝ }
+{
+    if channel < 255 { channel as usize } else { 255 }
+}
+
+// What is kept of a frame: this one where it is asked for, else what was kept before.
+fn keep(asked: bool, view: View, found: Found) -> Found
+    ensures { λ r. ⌜ r ≡ pick asked (Found.Frame view) found ⌝ }
+{
+    if asked { Found::Frame(view) } else { found }
+}
+
+// One pass over a file: its frames counted or its refusal, the frame and channel that are asked for, and the canonical size.
+pub fn scan_file(s: &[u8], asked: Asked) -> Scan
+    ensures { λ r. ⌜ r ≡ scanOf asked (now (s .entry)) ⌝ }
+{
+    if Standing::OCTETS < s.len() {
+        return refused_scan(Refusal {
+            number: Refusal::FILE_LIMIT,
+            place: 0,
+        });
+    }
+    let mut table = Settings::table();
+    let mut c = Cursor::first();
+    let mut st = Standing::first();
+    let mut frames = 0u32;
+    let mut found = Found::Nothing;
+    let mut size = 0u64;
+    loop {
+        match items::next_item(s, c) {
+            Next::End => {
+                return Scan {
+                    checked: Checked::Frames(frames),
+                    found,
+                    size,
+                };
+            }
+            Next::Refused(x) => {
+                return refused_scan(x);
+            }
+            Next::Found(item, next) => {
+                c = next;
+                match item_effect(s, st, item) {
+                    Effect::Pass => {}
+                    Effect::Stand(x) => {
+                        st = x;
+                    }
+                    Effect::Reset(x) => {
+                        let root = x.root;
+                        table = [root; 256];
+                        st = x;
+                    }
+                    Effect::All(change) => {
+                        let root = st.root;
+                        st = st.with_root(settings::apply(root, change));
+                        let changed = settings::apply_all(table, change);
+                        table = changed;
+                    }
+                    Effect::One(channel, change) => {
+                        let k = channel as usize;
+                        if k < 256 {
+                            table[k] = settings::apply(table[k], change);
+                        }
+                    }
+                    Effect::Frame { start, len } => {
+                        let count = channels_of(st.counted);
+                        let l = layout::measure(table, count, asked.channel);
+                        match frame_of(frames, st, l.agree, l.octets, len) {
+                            Framed::Refused(number) => {
+                                return refused_scan(Refusal {
+                                    number,
+                                    place: place_of(item),
+                                });
+                            }
+                            Framed::Taken(sequences, after) => {
+                                let k = index(asked.channel);
+                                let settings = seen(asked.channel < count, table[k]);
+                                let view = View {
+                                    start: st.start,
+                                    channels: count,
+                                    sequences,
+                                    little: st.little,
+                                    place: start,
+                                    octets: l.octets,
+                                    below: l.below,
+                                    settings,
+                                };
+                                found = keep(frames == asked.frame, view, found);
+                                size = size
+                                    + frame_size(sequences, l.groups, sequences as u64 * l.octets);
+                                st = after;
+                                frames = frames + 1;
+                            }
+                        }
+                    }
+                    Effect::Refused(number) => {
+                        return refused_scan(Refusal {
+                            number,
+                            place: place_of(item),
+                        });
+                    }
+                }
+            }
+        }
+    }
 }

@@ -1,0 +1,19 @@
+-- Each way out is what its tests say.
+use mathlib.Core.Path.{_≡_, ap, sym, _∙_}
+use borrow.Author.Tests.{lt-ltb, le-ltb, eq-eqb, ne-eqb}
+use native.Mathlib.Omega.{arith}
+use Rattle.reader.proofs.sequences_size.Statement.{statement}
+use Rattle.reader.proofs.sequences_size.Tie as tie
+use Rattle.reader.proofs.sequences_size.Reads as reads
+use Rattle.reader.proofs.sequences_size.Lts as lts
+
+-- src/lib.rt:506:1
+returns : tie.Need-returns
+returns c = (simp (eq-eqb _ 0 (c .if1 .taken)), omega arith)
+
+-- src/lib.rt:506:1
+returns-2 : tie.Need-returns-2
+returns-2 c = (simp (ne-eqb _ 0 (c .if1 .left)), omega arith)
+
+pub sequences-size-spec : {M : Type 1} → statement M
+sequences-size-spec = tie.close (tie.spec returns returns-2)
