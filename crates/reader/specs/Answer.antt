@@ -24,6 +24,7 @@ use Rattle.reader.specs.declared.Checked.{Checked}
 use Rattle.reader.specs.declared.Scan.{Scan}
 use Rattle.reader.specs.declared.Attributes.{Attributes}
 use Rattle.reader.specs.declared.Described.{Described}
+use Rattle.reader.specs.declared.LookedUp.{LookedUp}
 use Rattle.reader.specs.declared.Sampled.{Sampled}
 use Rattle.reader.specs.declared.Sampled.the-variants.{Sample}
 use Rattle.reader.specs.Verdict.{Verdict, accepted, refused, verdict}
@@ -132,3 +133,35 @@ scannedIn q (refused r) = refusedScan r
 
 unfoldable pub scanOf : Asked → List ℕ → Scan
 scanOf q s = scannedIn q (verdict s)
+
+-- ---- what the answers are made of
+
+-- The channel that a question names, as the pass keeps it: the file's refusal; then 20, 21.
+unfoldable pub seenIn : ℕ → ℕ → Verdict → LookedUp
+seenIn frame channel (refused r) = LookedUp.Refused r
+seenIn frame channel (accepted fs) =
+    let f = getD fs frame zeroFrame in
+    pick (ltb frame (length fs))
+    (pick (ltb channel (length (f .channels))) (LookedUp.Channel (viewOf channel f)) (LookedUp.Refused (refusal noChannel 0)))
+    (LookedUp.Refused (refusal noFrame 0))
+
+unfoldable pub seenOf : List ℕ → ℕ → ℕ → LookedUp
+seenOf s frame channel = seenIn frame channel (verdict s)
+
+-- The attributes of a channel that is seen.
+unfoldable pub attributesSeen : View → Attributes
+attributesSeen v =
+    let c = v .settings in
+    record {
+      start = v .start;
+      channels = v .channels;
+      sequences = v .sequences;
+      block = c .block;
+      class = c .class;
+      lead = c .lead;
+      kind = c .kind;
+      interval = c .interval;
+      resolution = c .resolution;
+      offset = offsetBits c;
+      null = c .null;
+    }

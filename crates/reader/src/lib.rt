@@ -1,7 +1,7 @@
 // The reader: every file settled, every attribute and sample found.
 //
 // Promises, for any octets at all: `check` counts the frames or answers the refusal of document 01 with its number and place;
-// `attributes` answers what stands for a channel in a frame, and `sample` where a sample lies and what it is, or a refusal. All three are
+// `describe` answers what stands for a channel in a frame, and `sample` where a sample lies and what it is, or a refusal. All three are
 // thin over `scan`, which walks the file once.
 // Read first: specs/Standing.antt (what an item asks for), specs/Frame.antt (frames and samples), specs/Verdict.antt (the file),
 // specs/Answer.antt (the questions).
@@ -17,7 +17,7 @@ ghost use Rattle.octets.specs.Pick.{pick};
 ghost use Rattle.settings.specs.Settings.{defaultSettings};
 ghost use Rattle.layout.specs.Size.{lengthSize, sequencesSize, frameSize};
 ghost use Rattle.reader.specs.Verdict.{placeAt, checkOf};
-ghost use Rattle.reader.specs.Answer.{refusedScan, scanOf};
+ghost use Rattle.reader.specs.Answer.{offsetBits, attributesSeen, attributesOf, seenOf, refusedScan, scanOf};
 use items::Cursor;
 use items::Item;
 use items::Next;
@@ -630,5 +630,111 @@ pub fn scan_file(s: &[u8], asked: Asked) -> Scan
                 }
             }
         }
+    }
+}
+
+// Checks a file: the number of its frames, or its refusal.
+pub fn check(s: &[u8]) -> Checked
+    ensures { λ r. ⌜ r ≡ checkOf (now (s .entry)) ⌝ }
+{
+    let pass = scan_file(
+        s,
+        Asked {
+            frame: 0,
+            channel: 0,
+        },
+    );
+    let checked = pass.checked;
+    checked
+}
+
+// A channel of a frame, or why there is none.
+pub enum LookedUp {
+    Channel(View),
+    Refused(Refusal),
+}
+
+// The frame and channel that a question names: the file's refusal, then 20, then 21.
+pub fn look_up(s: &[u8], frame: u32, channel: u32) -> LookedUp
+    ensures { λ r. ⌜ r ≡ seenOf (now (s .entry)) frame channel ⌝ }
+{
+    let pass = scan_file(s, Asked { frame, channel });
+    let checked = pass.checked;
+    let Checked::Frames(n) = checked else {
+        let Checked::Refused(x) = checked else {
+            return LookedUp::Refused(Refusal {
+                number: Refusal::NO_FRAME,
+                place: 0,
+            });
+        };
+        return LookedUp::Refused(x);
+    };
+    if n <= frame {
+        return LookedUp::Refused(Refusal {
+            number: Refusal::NO_FRAME,
+            place: 0,
+        });
+    }
+    let found = pass.found;
+    let Found::Frame(view) = found else {
+        return LookedUp::Refused(Refusal {
+            number: Refusal::NO_FRAME,
+            place: 0,
+        });
+    };
+    if view.channels <= channel {
+        return LookedUp::Refused(Refusal {
+            number: Refusal::NO_CHANNEL,
+            place: 0,
+        });
+    }
+    LookedUp::Channel(view)
+}
+
+// An offset not defined is zero bits of the sample's width.
+pub fn offset_bits(c: Settings) -> Bits
+    ensures { λ r. ⌜ r ≡ offsetBits c ⌝ }
+{
+    let offset = c.offset;
+    if offset.width == 0 {
+        return Bits {
+            width: values::width(c.kind) as u8,
+            bits: 0,
+        };
+    }
+    offset
+}
+
+// The attributes of the channel that is seen.
+fn attributes_seen(v: View) -> Attributes
+    ensures { λ r. ⌜ r ≡ attributesSeen v ⌝ }
+{
+    let c = v.settings;
+    let interval = c.interval;
+    let resolution = c.resolution;
+    let offset = offset_bits(c);
+    let null = c.null;
+    Attributes {
+        start: v.start,
+        channels: v.channels,
+        sequences: v.sequences,
+        block: c.block,
+        class: c.class,
+        lead: c.lead,
+        kind: c.kind,
+        interval,
+        resolution,
+        offset,
+        null,
+    }
+}
+
+// The attributes of a channel in a frame.
+pub fn describe(s: &[u8], frame: u32, channel: u32) -> Described
+    ensures { λ r. ⌜ r ≡ attributesOf (now (s .entry)) frame channel ⌝ }
+{
+    match look_up(s, frame, channel) {
+        LookedUp::Channel(v) => Described::Attributes(attributes_seen(v)),
+        LookedUp::Refused(x) => Described::Refused(x),
     }
 }
