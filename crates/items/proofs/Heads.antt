@@ -140,28 +140,28 @@ channel-within (suc allowed) passed value (b ∷ u) =
     pick-cases (ChannelWithin passed (suc allowed) (suc (length u))) (ltb b 128) (λ _. omega arith)
     (λ _. channel-later passed allowed (length u) (channelOf allowed (passed + 1) v u) (channel-within allowed (passed + 1) v u))
 
--- A value starts behind its tag and ends by the end.
+-- A value starts behind its tag and ends by the end; a fault has one of the numbers up to 5.
 abbrev pub HeadWithin : ℕ → Head → Type 0
 HeadWithin end (Head.Primitive tag start n) = (0 < start) × (start + n ≤ end)
 HeadWithin end (Head.Definite c start n) = (0 < start) × (start + n ≤ end)
 HeadWithin end (Head.Open c start) = (0 < start) × (start ≤ end)
-HeadWithin end (Head.Refused k) = Unit {0}
+HeadWithin end (Head.Refused k) = k ≤ notInGroup
 
 primitive-within : (tag rest : ℕ) (l : Length) → LengthWithin rest l → HeadWithin (suc rest) (primitiveHead tag rest l)
 unfolding primitiveHead
 primitive-within tag rest (Length.Known n octets) w =
-    pick-cases (HeadWithin (suc rest)) (ltb (rest - octets) n) (λ _. tt) (λ g. omega (arith, ltb-false (rest - octets) n g))
-primitive-within tag rest (Length.Open octets) w = tt
-primitive-within tag rest Length.PastEnd w = tt
-primitive-within tag rest Length.Bad w = tt
+    pick-cases (HeadWithin (suc rest)) (ltb (rest - octets) n) (λ _. omega arith) (λ g. omega (arith, ltb-false (rest - octets) n g))
+primitive-within tag rest (Length.Open octets) w = omega arith
+primitive-within tag rest Length.PastEnd w = omega arith
+primitive-within tag rest Length.Bad w = omega arith
 
 group-length-within : (channel k rest : ℕ) (l : Length) → LengthWithin rest l → HeadWithin (suc (k + rest)) (groupLength channel k rest l)
 unfolding groupLength
 group-length-within channel k rest (Length.Known n octets) w =
-    pick-cases (HeadWithin (suc (k + rest))) (ltb (rest - octets) n) (λ _. tt) (λ g. omega (arith, ltb-false (rest - octets) n g))
+    pick-cases (HeadWithin (suc (k + rest))) (ltb (rest - octets) n) (λ _. omega arith) (λ g. omega (arith, ltb-false (rest - octets) n g))
 group-length-within channel k rest (Length.Open octets) w = omega arith
-group-length-within channel k rest Length.PastEnd w = tt
-group-length-within channel k rest Length.Bad w = tt
+group-length-within channel k rest Length.PastEnd w = omega arith
+group-length-within channel k rest Length.Bad w = omega arith
 
 group-head-within : (u : List ℕ) (c : Channel) → ChannelWithin 0 4 (length u) c → HeadWithin (suc (length u)) (groupHead u c)
 unfolding groupHead
@@ -169,15 +169,15 @@ group-head-within u (Channel.Number v k) w =
     let e : suc (k + length (drop k u)) ≡ suc (length u) = rw length-drop (omega arith) in
     subst (λ (n : ℕ). HeadWithin n (groupLength v k (length (drop k u)) (lengthOf (drop k u)))) e
     (group-length-within v k (length (drop k u)) (lengthOf (drop k u)) (length-within (drop k u)))
-group-head-within u Channel.PastEnd w = tt
-group-head-within u Channel.TooLong w = tt
+group-head-within u Channel.PastEnd w = omega arith
+group-head-within u Channel.TooLong w = omega arith
 
 pub head-within : (inside : Bool) (u : List ℕ) → HeadWithin (length u) (headOf inside u)
 unfolding headOf
-head-within inside [] = tt
+head-within inside [] = omega arith
 head-within inside (tag ∷ u) =
-    pick-cases (HeadWithin (suc (length u))) (unknownContext tag) (λ _. tt)
-    (λ _. pick-cases (HeadWithin (suc (length u))) (both inside (rootOnly tag)) (λ _. tt)
+    pick-cases (HeadWithin (suc (length u))) (unknownContext tag) (λ _. omega arith)
+    (λ _. pick-cases (HeadWithin (suc (length u))) (both inside (rootOnly tag)) (λ _. omega arith)
     (λ _. pick-cases (HeadWithin (suc (length u))) (eqb tag 63)
     (λ _. group-head-within u (channelOf 4 0 0 u) (channel-within 4 0 0 u))
     (λ _. primitive-within tag (length u) (lengthOf u) (length-within u))))

@@ -1,7 +1,9 @@
 -- Laws of the walk.
 --     next-none, next-head    what stands at a cursor, by the octets that are left there
 --     extent-found            those octets lie in the file
+--     next-found              an item that is found lies in the file: its place, its value and the cursor behind it
 --     next-later              the cursor behind an item lies behind the item's tag, which is in the file
+--     next-refused            a fault of form has one of the numbers up to 10
 --     walk-turns              more turns than there are octets change nothing
 --     items-found, items-end, items-refused    the items from a cursor on, by what stands there
 -- Assumes nothing.
@@ -21,6 +23,7 @@ use Rattle.items.specs.declared.Item.{Item}
 use Rattle.items.specs.declared.Refusal.{Refusal}
 use Rattle.items.specs.declared.Next.{Next}
 use Rattle.items.specs.declared.Next.the-variants.{Found, End}
+use Rattle.items.specs.Refusals.{groupOpen}
 use Rattle.items.specs.Head.{headOf}
 use Rattle.items.specs.Walk.{Items, item, finished, fault, standsIn, isInside, extent, ended, endsOpen, itemOf, nextIn, nextOf, follow, walk, itemsFrom}
 use Rattle.items.proofs.Heads.{HeadWithin, head-within}
@@ -69,52 +72,60 @@ extent-found s at w u e n = rw e (extent-fits s at w (λ z. n (ap length e ∙ z
 
 -- ---- one item further
 
--- The cursor behind an item lies behind the place before it.
-abbrev Later : ℕ → Next → Type 0
-Later at (Next.Found i c) = at < c .at
-Later at Next.End = Unit {0}
-Later at (Next.Refused r) = Unit {0}
+-- An item at a place that ends before another: its own place, and where its value lies if it has one.
+abbrev pub ItemLies : ℕ → ℕ → Item → Type 0
+ItemLies at end (Item.Plain place tag start len) = (place ≡ at) × (at < start) × (start + len ≡ end)
+ItemLies at end (Item.Group place channel) = place ≡ at
+ItemLies at end (Item.Member place channel tag start len) = (place ≡ at) × (at < start) × (start + len ≡ end)
+ItemLies at end (Item.Mark place) = place ≡ at
 
-item-later : (at long : ℕ) (w : Within) (h : Head) → HeadWithin long h → Later at (itemOf at w h)
-unfolding itemOf
-item-later at long Within.Root (Head.Primitive tag start len) p = omega arith
-item-later at long (Within.Definite channel stop) (Head.Primitive tag start len) p = omega arith
-item-later at long (Within.Open channel place) (Head.Primitive tag start len) p =
-    pick-cases (Later at) (endsOpen tag len) (λ _. omega arith) (λ _. omega arith)
-item-later at long w (Head.Definite channel start len) p = omega arith
-item-later at long w (Head.Open channel start) p = omega arith
-item-later at long w (Head.Refused number) p = tt
+-- An item found at a place of a file of `long` octets, and the cursor behind it.
+pub record FoundAt (long at : ℕ) (i : Item) (d : Cursor) : Type 0 where
+  pub later : at < d .at
+  pub inside : d .at ≤ long
+  pub lies : ItemLies at (d .at) i
 
--- It does so only where the place is in the file.
 abbrev Inner : ℕ → ℕ → Next → Type 0
-Inner long at (Next.Found i c) = (at < long) × (at < c .at)
+Inner long at (Next.Found i d) = FoundAt long at i d
 Inner long at Next.End = Unit {0}
-Inner long at (Next.Refused r) = Unit {0}
+Inner long at (Next.Refused r) = r .number ≤ groupOpen
 
-inner-by : (long at : ℕ) → at < long → (n : Next) → Later at n → Inner long at n
-inner-by long at h (Next.Found i c) l = (h, l)
-inner-by long at h Next.End l = tt
-inner-by long at h (Next.Refused r) l = tt
+inner-item : (long at left : ℕ) (w : Within) (h : Head) → at + left ≤ long → HeadWithin left h → Inner long at (itemOf at w h)
+unfolding itemOf
+inner-item long at left Within.Root (Head.Primitive tag start len) f p = omega arith
+inner-item long at left (Within.Definite channel stop) (Head.Primitive tag start len) f p = omega arith
+inner-item long at left (Within.Open channel place) (Head.Primitive tag start len) f p =
+    pick-cases (Inner long at) (endsOpen tag len) (λ _. omega arith) (λ _. omega arith)
+inner-item long at left w (Head.Definite channel start len) f p = omega arith
+inner-item long at left w (Head.Open channel start) f p = omega arith
+inner-item long at left w (Head.Refused number) f p = omega arith
 
 inner-ended : (long at : ℕ) (w : Within) → Inner long at (ended w)
 inner-ended long at Within.Root = tt
 inner-ended long at (Within.Definite channel stop) = tt
-inner-ended long at (Within.Open channel place) = tt
+inner-ended long at (Within.Open channel place) = omega arith
 
 inner-in : (s : List ℕ) (at : ℕ) (w : Within) (u : List ℕ) → u ≡ extent s at w → Inner (length s) at (nextIn at w u)
 unfolding nextIn
 inner-in s at w [] e = inner-ended (length s) at w
 inner-in s at w (b ∷ u) e =
     let f = extent-found s at w (b ∷ u) e (λ z. let x : ⊥ = omega arith in x) in
-    inner-by (length s) at (omega arith) (itemOf at w (headOf (isInside w) (b ∷ u)))
-    (item-later at (suc (length u)) w (headOf (isInside w) (b ∷ u)) (head-within (isInside w) (b ∷ u)))
+    inner-item (length s) at (suc (length u)) w (headOf (isInside w) (b ∷ u)) f (head-within (isInside w) (b ∷ u))
 
 inner-next : (s : List ℕ) (c : Cursor) → Inner (length s) (c .at) (nextOf s c)
 unfolding nextOf
 inner-next s c = inner-in s (c .at) (standsIn (c .at) (c .within)) (extent s (c .at) (standsIn (c .at) (c .within))) refl
 
+-- What is found stands in the file, its value behind its tag.
+pub next-found : (s : List ℕ) (c : Cursor) {n : Next} {i : Item} {d : Cursor} → n ≡ nextOf s c → n ≡ Found i d → FoundAt (length s) (c .at) i d
+next-found s c e f = subst (Inner (length s) (c .at)) (sym e ∙ f) (inner-next s c)
+
 pub next-later : (s : List ℕ) (c : Cursor) {n : Next} {i : Item} {d : Cursor} → n ≡ nextOf s c → n ≡ Found i d → (c .at < length s) × (c .at < d .at)
-next-later s c e f = subst (Inner (length s) (c .at)) (sym e ∙ f) (inner-next s c)
+next-later s c e f = let p = next-found s c e f in omega arith
+
+-- A fault of form has one of the numbers up to 10.
+pub next-refused : (s : List ℕ) (c : Cursor) {n : Next} {r : Refusal} → n ≡ nextOf s c → n ≡ Next.Refused r → r .number ≤ groupOpen
+next-refused s c e f = subst (Inner (length s) (c .at)) (sym e ∙ f) (inner-next s c)
 
 -- ---- all items
 

@@ -2,21 +2,28 @@
 --     checked-is        the check is the pass's count or refusal
 --     look-refused, look-no-frame, look-no-channel, look-found    the ways of a look-up
 --     described-refused, described-found    the attributes, over a look-up
+--     sample-refused, sample-none, sample-found, place-small    a sample, over a look-up
 -- Assumes nothing.
 use mathlib.Core.Path.{_≡_, refl, sym, ap, subst, _∙_}
 use mathlib.Core.List.{List}
 use mathlib.Core.Bool.{Bool, true, false}
-use Prim.Native.Nat.{ℕ, _≤_, _<_}
+use Prim.Native.Nat.{ℕ, zero, suc, _+_, _*_, _/_, _%_, _^_, _≤_, _<_}
+use native.Mathlib.Nat.{mul-zero}
 use native.Mathlib.Omega.{arith}
 use borrow.Author.Tests.{lt-ltb, le-ltb, ltb-true}
 use lib.Dec.{ltb}
-use lib.ListN.{length, getD}
+use lib.ListN.{length, getD, take, drop}
 use Rattle.octets.specs.Pick.{pick}
 use Rattle.octets.proofs.Pick.{pick-cases}
 use Rattle.items.specs.declared.Refusal.{Refusal}
-use Rattle.items.specs.Refusals.{noFrame, noChannel}
+use Rattle.items.specs.Refusals.{noFrame, noChannel, noSample}
 use Rattle.items.specs.Walk.{refusal}
-use Rattle.layout.specs.Frame.{Frame}
+use Rattle.values.specs.declared.Value.{Value}
+use Rattle.values.specs.Sample.{widthOf, valueOf}
+use Rattle.layout.specs.Frame.{Frame, widthIn, sequenceOctets, octetsBelow, channelIn, samplesOf, offsetOf, placeOf}
+use Rattle.settings.specs.declared.Settings.{Settings}
+use Rattle.laid.specs.Laid.{Named}
+use Rattle.laid.proofs.Places.{offset-inside}
 use Rattle.reader.specs.declared.Asked.{Asked}
 use Rattle.reader.specs.declared.View.{View}
 use Rattle.reader.specs.declared.Found.{Found}
@@ -25,8 +32,11 @@ use Rattle.reader.specs.declared.Checked.{Checked}
 use Rattle.reader.specs.declared.Scan.{Scan}
 use Rattle.reader.specs.declared.LookedUp.{LookedUp}
 use Rattle.reader.specs.declared.Described.{Described}
+use Rattle.reader.specs.declared.Sampled.{Sampled}
+use Rattle.reader.specs.declared.Sampled.the-variants.{Sample}
 use Rattle.reader.specs.Verdict.{Verdict, accepted, refused, verdict, checkedAs, checkOf}
-use Rattle.reader.specs.Answer.{zeroFrame, viewOf, foundIn, sizes, scannedIn, scanOf, seenIn, seenOf, attributesIn, attributesSeen, describedIn, attributesOf}
+use Rattle.reader.specs.Answer.{zeroFrame, viewOf, foundIn, sizes, scannedIn, scanOf, seenIn, seenOf, attributesIn, attributesSeen, describedIn, attributesOf, sampleIn, sampledIn, sampleOf, placeSeen}
+use Rattle.reader.proofs.Ordered.{Lies, accepted-lies, accepted-small}
 
 checked-in : (q : Asked) (v : Verdict) → scannedIn q v .checked ≡ checkedAs v
 unfolding scannedIn checkedAs
@@ -193,3 +203,92 @@ refused-found frame channel x (accepted fs) e = by (ltb frame (length fs)) (ltb 
 pub described-refused : (s : List ℕ) (frame channel : ℕ) (x : Refusal) {r : LookedUp} → r ≡ seenOf s frame channel → r ≡ LookedUp.Refused x → Described.Refused x ≡ attributesOf s frame channel
 unfolding attributesOf seenOf
 described-refused s frame channel x e f = refused-found frame channel x (verdict s) (sym f ∙ e)
+
+-- ---- samples
+
+view-settings : (channel : ℕ) (f : Frame) → channel < length (f .channels) → viewOf channel f .settings ≡ channelIn channel (f .channels)
+unfolding viewOf
+view-settings channel f h = simp (lt-ltb channel (length (f .channels)) h)
+
+view-place : (channel n : ℕ) (f : Frame) → channel < length (f .channels) → placeSeen (viewOf channel f) n ≡ placeOf channel n f
+unfolding placeSeen viewOf placeOf offsetOf
+view-place channel n f h =
+    ap (λ (c : Settings). f .place + (n / c .block * sequenceOctets (f .channels) + octetsBelow channel (f .channels) + n % c .block * widthIn c)) (view-settings channel f h)
+
+view-samples : (channel : ℕ) (f : Frame) → channel < length (f .channels) → viewOf channel f .sequences * viewOf channel f .settings .block ≡ samplesOf channel f
+unfolding viewOf samplesOf
+view-samples channel f h = ap (λ (c : Settings). f .sequences * c .block) (view-settings channel f h)
+
+view-little : (channel : ℕ) (f : Frame) → viewOf channel f .little ≡ f .little
+unfolding viewOf
+view-little channel f = refl
+
+module _ (s : List ℕ) (frame channel n : ℕ) (w : View) (p : Located s frame channel w) where
+  abbrev seen-frame : Frame
+  seen-frame = getD (p .frames) frame zeroFrame
+
+  samples-seen : w .sequences * w .settings .block ≡ samplesOf channel seen-frame
+  samples-seen = ap (λ (v : View). v .sequences * v .settings .block) (p .view) ∙ view-samples channel seen-frame (p .channelIs)
+
+  sample-by : sampleOf s frame channel n ≡ pick (ltb n (samplesOf channel seen-frame)) (sampleIn s channel n seen-frame) (Sampled.Refused (refusal noSample 0))
+  unfolding sampleOf sampledIn
+  sample-by = ap (sampledIn s frame channel n) (p .verdictIs) ∙ simp (lt-ltb frame (length (p .frames)) (p .frameIn), lt-ltb channel _ (p .channelIs))
+
+  -- No such sample.
+  pub sample-none : w .sequences * w .settings .block ≤ n → Sampled.Refused (refusal noSample 0) ≡ sampleOf s frame channel n
+  sample-none h =
+      let k : samplesOf channel seen-frame ≤ n = omega (arith, samples-seen) in
+      sym (sample-by ∙ simp (le-ltb n (samplesOf channel seen-frame) k))
+
+  module _ (h : n < w .sequences * w .settings .block) where
+    place-is : placeSeen w n ≡ placeOf channel n seen-frame
+    place-is = ap (λ (v : View). placeSeen v n) (p .view) ∙ view-place channel n seen-frame (p .channelIs)
+
+    -- A sample lies in its frame's waveform, so that no sum on the way to its place overflows.
+    pub place-small : placeSeen w n < 2 ^ 63
+    unfolding placeOf samplesOf
+    place-small =
+        let a = accepted-lies s (p .frames) (p .verdictIs) frame (p .frameIn) in
+        let b = accepted-small s (p .frames) (p .verdictIs) in
+        let k : n < seen-frame .sequences * channelIn channel (seen-frame .channels) .block = omega (arith, samples-seen) in
+        let c = offset-inside {cs = seen-frame .channels} {S = seen-frame .sequences} {c = channel} {n = n} (record { channel = p .channelIs; number = k }) in
+        rw place-is (omega (arith, a .fits, a .inside, b, c))
+
+    pub block-some : 0 < w .settings .block
+    block-some = positive (w .sequences) (w .settings .block) h
+      where
+        positive : (a b : ℕ) → n < a * b → 0 < b
+        positive a zero l = let z : ⊥ = omega (arith, rw mul-zero at l) in absurd z
+        positive a (suc b) l = omega arith
+
+    -- The sample that is found.
+    pub sample-found : (place : ℕ) (v : Value) (x : List ℕ) → place ≡ placeSeen w n → x ≡ take (widthOf (w .settings .kind)) (drop place s) → v ≡ valueOf (w .settings .kind) (w .settings .null) (w .little) x → Sample place v ≡ sampleOf s frame channel n
+    unfolding sampleIn
+    sample-found place v x e ex ev =
+        let k : n < samplesOf channel seen-frame = omega (arith, samples-seen) in
+        let q : place ≡ placeOf channel n seen-frame = e ∙ place-is in
+        let c : w .settings ≡ channelIn channel (seen-frame .channels) = ap (λ (y : View). y .settings) (p .view) ∙ view-settings channel seen-frame (p .channelIs) in
+        let l : w .little ≡ seen-frame .little = ap (λ (y : View). y .little) (p .view) ∙ view-little channel seen-frame in
+        ap (Sample place) (ev ∙ ap (valueOf (w .settings .kind) (w .settings .null) (w .little)) ex)
+        ∙ (λ j. Sample (q j) (valueOf (c j .kind) (c j .null) (l j) (take (widthOf (c j .kind)) (drop (q j) s))))
+        ∙ sym (sample-by ∙ simp (lt-ltb n (samplesOf channel seen-frame) k))
+
+sampled-refused-in : (s : List ℕ) (frame channel n : ℕ) (x : Refusal) (v : Verdict) → LookedUp.Refused x ≡ seenIn frame channel v → Sampled.Refused x ≡ sampledIn s frame channel n v
+unfolding seenIn sampledIn
+sampled-refused-in s frame channel n x (refused r) e = let f : x ≡ r = cc in ap Sampled.Refused f
+sampled-refused-in s frame channel n x (accepted fs) e = by (ltb frame (length fs)) (ltb channel (length (getD fs frame zeroFrame .channels))) e
+  where
+    by : (a b : Bool) → LookedUp.Refused x ≡ pick a (pick b (LookedUp.Channel (viewOf channel (getD fs frame zeroFrame))) (LookedUp.Refused (refusal noChannel 0))) (LookedUp.Refused (refusal noFrame 0))
+        → Sampled.Refused x ≡ pick a (pick b (pick (ltb n (samplesOf channel (getD fs frame zeroFrame))) (sampleIn s channel n (getD fs frame zeroFrame)) (Sampled.Refused (refusal noSample 0))) (Sampled.Refused (refusal noChannel 0))) (Sampled.Refused (refusal noFrame 0))
+    by true true g = let z : _≡_ {A = ℕ} 0 1 = cc in let y : ⊥ = omega arith in absurd y
+    by true false g = let f : x ≡ refusal noChannel 0 = cc in ap Sampled.Refused f
+    by false b g = let f : x ≡ refusal noFrame 0 = cc in ap Sampled.Refused f
+
+pub sample-refused : (s : List ℕ) (frame channel n : ℕ) (x : Refusal) {r : LookedUp} → r ≡ seenOf s frame channel → r ≡ LookedUp.Refused x → Sampled.Refused x ≡ sampleOf s frame channel n
+unfolding sampleOf seenOf
+sample-refused s frame channel n x e f = sampled-refused-in s frame channel n x (verdict s) (sym f ∙ e)
+
+-- The place as it is computed, with the width as it was read.
+pub place-sum : (v : View) (n width : ℕ) → width ≡ widthOf (v .settings .kind) → v .place + (n / v .settings .block * v .octets + v .below + n % v .settings .block * width) ≡ placeSeen v n
+unfolding placeSeen
+place-sum v n width e = rw e

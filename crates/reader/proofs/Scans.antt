@@ -54,6 +54,7 @@ use Rattle.reader.specs.declared.Scan.{Scan}
 use Rattle.reader.specs.Standing.{firstStanding, withRoot, withContinued, orderEffect, countEffect, sequencesEffect, startEffect, compressedEffect, allEffect, oneEffect, rootEffect, plainEffect, memberEffect, groupEffect, valueAt, effectOf}
 use Rattle.reader.specs.Framing.{octetsLimit, framesLimit, channelsOf, sequencesOf, pointerFits, pointerAfter, framedAs}
 use Rattle.reader.specs.Verdict.{State, state, firstState, Outcome, goes, refuses, oneChanged, frameChannels, frameAt, withFrame, carried, placeAt, Verdict, accepted, refused, afterItem, interpret, verdict}
+use Rattle.reader.proofs.Keeps.{interpret-goes, interpret-refuses}
 use Rattle.reader.specs.Answer.{zeroFrame, viewOf, foundIn, sizeOf, sizes, refusedScan, scannedIn, scanOf}
 
 -- ---- the channel count
@@ -210,14 +211,6 @@ scanning-first s q table c st h et ec es =
       same = simp (le-ltb octetsLimit (length s) h);
     }
 
-goes-on : (s : List ℕ) (x y : State) (i : Item) (more : Items) → carried s x (effectOf s (x .standing) i) ≡ goes y → interpret s x (item i more) ≡ interpret s y more
-unfolding interpret afterItem
-goes-on s x y i more e = simp e
-
-stops : (s : List ℕ) (x : State) (i : Item) (more : Items) (k : ℕ) → carried s x (effectOf s (x .standing) i) ≡ refuses k → interpret s x (item i more) ≡ refused (refusal k (placeAt i))
-unfolding interpret afterItem
-stops s x i more k e = simp e
-
 module _ {s : List ℕ} {q : Asked} {table : List Settings} {c : Cursor} {st : Standing} {frames : ℕ} {found : Found} {size : ℕ} (p : Scanning s q table c st frames found size) where
   abbrev here : State
   here = state st table (p .met)
@@ -235,7 +228,7 @@ module _ {s : List ℕ} {q : Asked} {table : List Settings} {c : Cursor} {st : S
         kept = p .kept;
         sized = p .sized;
         room = p .room;
-        same = sym (goes-on s here (state st' table' (p .met)) i (itemsFrom s d) g) ∙ ap (interpret s here) (sym (items-found s c i d (sym e ∙ f))) ∙ p .same;
+        same = sym (interpret-goes s here i (itemsFrom s d) (state st' table' (p .met)) g) ∙ ap (interpret s here) (sym (items-found s c i d (sym e ∙ f))) ∙ p .same;
       }
 
   -- The end.
@@ -256,7 +249,7 @@ module _ {s : List ℕ} {q : Asked} {table : List Settings} {c : Cursor} {st : S
   unfolding scanOf scannedIn
   scanned-refuses {i = i} {d = d} k place e f ep g =
       ap (λ (x : ℕ). scannedIn q (refused (refusal k x))) ep
-      ∙ ap (scannedIn q) (sym (stops s here i (itemsFrom s d) k g) ∙ ap (interpret s here) (sym (items-found s c i d (sym e ∙ f))) ∙ p .same)
+      ∙ ap (scannedIn q) (sym (interpret-refuses s here i (itemsFrom s d) k g) ∙ ap (interpret s here) (sym (items-found s c i d (sym e ∙ f))) ∙ p .same)
 
 -- ---- a frame
 
@@ -347,7 +340,7 @@ module _ {s : List ℕ} {q : Asked} {table : List Settings} {c : Cursor} {st : S
         kept = ef ∙ (λ k. pick (eqb (p .count k) (q .frame)) (Found.Frame (vw k)) (p .kept k)) ∙ found-more q (p .met) g;
         sized = (λ k. p .sized k + sz k) ∙ sym (sizes-more (p .met) g);
         room = omega (arith, p .room, ea .1);
-        same = sym (goes-on s here (state x table (p .met ++ (g ∷ []))) i (itemsFrom s d) (frame-carried i start len ee fe er fr)) ∙ ap (interpret s here) (sym (items-found s c i d (sym en ∙ fn))) ∙ p .same;
+        same = sym (interpret-goes s here i (itemsFrom s d) (state x table (p .met ++ (g ∷ []))) (frame-carried i start len ee fe er fr)) ∙ ap (interpret s here) (sym (items-found s c i d (sym en ∙ fn))) ∙ p .same;
       }
 
 -- 15 comes first.

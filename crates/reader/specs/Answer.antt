@@ -2,7 +2,7 @@
 -- place and value of a sample.
 use mathlib.Core.List.{List, [], _∷_}
 use mathlib.Core.Bool.{Bool, true, false}
-use Prim.Native.Nat.{ℕ, _+_, _*_}
+use Prim.Native.Nat.{ℕ, _+_, _*_, _/_, _%_}
 use lib.Dec.{eqb, ltb}
 use lib.IntN.{pos}
 use lib.ListN.{length, getD, take, drop}
@@ -165,3 +165,9 @@ attributesSeen v =
       offset = offsetBits c;
       null = c .null;
     }
+
+-- The place of a sample of a channel that is seen.
+unfoldable pub placeSeen : View → ℕ → ℕ
+placeSeen v n =
+    let c = v .settings in
+    v .place + (n / c .block * v .octets + v .below + n % c .block * widthIn c)

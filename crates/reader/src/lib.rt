@@ -6,7 +6,7 @@
 // Read first: specs/Standing.antt (what an item asks for), specs/Frame.antt (frames and samples), specs/Verdict.antt (the file),
 // specs/Answer.antt (the questions).
 ghost use mathlib.Core.Path.{_≡_};
-ghost use Prim.Native.Nat.{_*_, _≤_, _<_, min};
+ghost use Prim.Native.Nat.{_*_, _^_, _≤_, _<_, min};
 ghost use lib.Dec.{ltb};
 ghost use lib.IntN.{pos, _+ℤ_};
 ghost use lib.Signed.{mag};
@@ -17,7 +17,7 @@ ghost use Rattle.octets.specs.Pick.{pick};
 ghost use Rattle.settings.specs.Settings.{defaultSettings};
 ghost use Rattle.layout.specs.Size.{lengthSize, sequencesSize, frameSize};
 ghost use Rattle.reader.specs.Verdict.{placeAt, checkOf};
-ghost use Rattle.reader.specs.Answer.{offsetBits, attributesSeen, attributesOf, seenOf, refusedScan, scanOf};
+ghost use Rattle.reader.specs.Answer.{offsetBits, attributesSeen, attributesOf, placeSeen, sampleOf, seenOf, refusedScan, scanOf};
 use items::Cursor;
 use items::Item;
 use items::Next;
@@ -736,5 +736,44 @@ pub fn describe(s: &[u8], frame: u32, channel: u32) -> Described
     match look_up(s, frame, channel) {
         LookedUp::Channel(v) => Described::Attributes(attributes_seen(v)),
         LookedUp::Refused(x) => Described::Refused(x),
+    }
+}
+
+// The place of a sample of the channel that is seen.
+fn place_seen(v: View, number: u64) -> usize
+    requires { ⌜ (0 < v .settings .block) × (placeSeen v number < 2 ^ 63) ⌝ }
+    ensures { λ r. ⌜ r ≡ placeSeen v number ⌝ }
+{
+    let c = v.settings;
+    let w = values::width(c.kind) as u64;
+    let b = c.block as u64;
+    let offset = number / b * v.octets + v.below + number % b * w;
+    (v.place as u64 + offset) as usize
+}
+
+// The place and value of a sample.
+pub fn sample(s: &[u8], frame: u32, channel: u32, number: u64) -> Sampled
+    ensures { λ r. ⌜ r ≡ sampleOf (now (s .entry)) frame channel number ⌝ }
+{
+    match look_up(s, frame, channel) {
+        LookedUp::Refused(x) => Sampled::Refused(x),
+        LookedUp::Channel(v) => {
+            let c = v.settings;
+            let count = v.sequences as u64 * c.block as u64;
+            if count <= number {
+                return Sampled::Refused(Refusal {
+                    number: Refusal::NO_SAMPLE,
+                    place: 0,
+                });
+            }
+            let place = place_seen(v, number);
+            let w = values::width(c.kind);
+            let null = c.null;
+            let octets = octets::part(s, place, w);
+            Sampled::Sample(
+                place,
+                values::sample_value(octets, v.little, c.kind, null),
+            )
+        }
     }
 }

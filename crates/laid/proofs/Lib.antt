@@ -1,0 +1,4 @@
+pub mod Places
+pub mod Each
+pub mod Laid
+pub mod Turned

@@ -1,0 +1,54 @@
+-- Where the samples of a waveform lie, and a waveform laid out from its samples (document 01, "Frames and samples").
+use mathlib.Core.List.{List, [], _∷_, _++_}
+use mathlib.Core.Path.{_≡_}
+use Prim.Native.Nat.{ℕ, zero, suc, _+_, _*_, _<_}
+use lib.ListN.{length, take, drop}
+use Rattle.settings.specs.declared.Settings.{Settings}
+use Rattle.layout.specs.Frame.{widthIn, channelIn, offsetOf}
+
+-- A channel whose blocks have samples, and whose samples have octets.
+pub record GoodChannel (c : Settings) : Type 0 where
+  pub block : 0 < c .block
+  pub width : 0 < widthIn c
+
+-- All channels are such.
+abbrev pub AllGood : List Settings → Type 0
+AllGood [] = Unit {0}
+AllGood (c ∷ cs) = GoodChannel c × AllGood cs
+
+-- Channel c and number n name a sample: the channel is one of the frame's, and the number is below its count of samples.
+pub record Named (cs : List Settings) (sequences c n : ℕ) : Type 0 where
+  pub channel : c < length cs
+  pub number : n < sequences * channelIn c cs .block
+
+-- Octet o of the waveform is octet i of the sample that channel and n name.
+pub record Covered (cs : List Settings) (sequences o : ℕ) : Type 0 where
+  pub channel : ℕ
+  pub n : ℕ
+  pub i : ℕ
+  pub named : Named cs sequences channel n
+  pub inside : i < widthIn (channelIn channel cs)
+  pub place : offsetOf cs channel n + i ≡ o
+
+-- The octets of the k samples of a channel from number n on.
+unfoldable pub block : (ℕ → ℕ → List ℕ) → ℕ → ℕ → ℕ → List ℕ
+block g channel n zero = []
+block g channel n (suc k) = g channel n ++ block g channel (suc n) k
+
+-- The octets of sequence q: a block of each channel, in order.
+unfoldable pub sequence : (ℕ → ℕ → List ℕ) → ℕ → List Settings → ℕ → List ℕ
+sequence g channel [] q = []
+sequence g channel (c ∷ cs) q = block g channel (q * c .block) (c .block) ++ sequence g (suc channel) cs q
+
+-- The octets of the sequences from q on.
+unfoldable pub laidFrom : (ℕ → ℕ → List ℕ) → List Settings → ℕ → ℕ → List ℕ
+laidFrom g cs q zero = []
+laidFrom g cs q (suc m) = sequence g 0 cs q ++ laidFrom g cs (suc q) m
+
+-- The samples of a waveform in file order, where g gives the octets of each by channel and number.
+unfoldable pub laid : (ℕ → ℕ → List ℕ) → List Settings → ℕ → List ℕ
+laid g cs sequences = laidFrom g cs 0 sequences
+
+-- A sample's octets in a waveform.
+abbrev pub sampleIn : List Settings → List ℕ → ℕ → ℕ → List ℕ
+sampleIn cs w channel n = take (widthIn (channelIn channel cs)) (drop (offsetOf cs channel n) w)

@@ -1,0 +1,177 @@
+-- Where the frames of an accepted file lie.
+--     frame-channels     at every state that is reached a frame has 1 to 256 channels
+--     accepted-small     the file is no longer than the limit
+--     accepted-few       its frames are no more than the limit
+--     accepted-lies      each waveform lies in the file, and holds the frame's sequences
+--     accepted-ordered   no frame starts before the end of one before it
+-- Assumes nothing.
+use mathlib.Core.Path.{_≡_, refl, sym, ap, _∙_, subst}
+use mathlib.Core.List.{List, [], _∷_, _++_}
+use mathlib.Core.Bool.{true}
+use Prim.Native.Nat.{ℕ, zero, suc, _+_, _-_, _*_, _≤_, _<_, min}
+use native.Mathlib.Decide.{decLt}
+use native.Mathlib.Omega.{arith}
+use borrow.Author.Tests.{eqb-false}
+use lib.Dec.{eqb}
+use lib.ListN.{length, getD, take, drop, length-take, length-drop, length-append, length-replicate, length-set, length-map, List·getD-append}
+use lib.Seq.{getD-at}
+use Rattle.octets.specs.Pick.{pick}
+use Rattle.octets.proofs.Pick.{pick-cases}
+use Rattle.items.specs.declared.Item.{Item}
+use Rattle.items.specs.declared.Cursor.{Cursor}
+use Rattle.items.proofs.Walks.{FoundAt, ItemLies, next-found}
+use Rattle.settings.specs.declared.Settings.{Settings}
+use Rattle.settings.specs.Settings.{channelLimit, defaultSettings, allApplied}
+use Rattle.layout.specs.Frame.{Frame, sequenceOctets, allAgree}
+use Rattle.reader.specs.declared.Standing.{Standing}
+use Rattle.reader.specs.Standing.{valueAt}
+use Rattle.reader.specs.Framing.{octetsLimit, framesLimit, channelsOf, pointerFits}
+use Rattle.reader.specs.Verdict.{State, state, firstState, oneChanged, frameChannels, frameAt, accepted, verdict}
+use Rattle.reader.specs.Answer.{zeroFrame}
+use Rattle.reader.proofs.Keeps.{Kept, Keeps, firstCursor, accepted-by, accepted-kept}
+use Rattle.reader.proofs.Steps.{Waveform, TakenBy, Step, passes, stands, resets, changes, sets, frames, meaning-steps}
+use Rattle.reader.proofs.Every.{Every, every-at, every-snoc, every-imp}
+
+-- A frame whose waveform lies in the file and holds its sequences, with 1 to 256 channels.
+pub record Lies (s : List ℕ) (f : Frame) : Type 0 where
+  pub fits : f .sequences * sequenceOctets (f .channels) ≤ length (f .waveform)
+  pub inside : f .place + length (f .waveform) ≤ length s
+  pub octets : f .waveform ≡ take (length (f .waveform)) (drop (f .place) s)
+  pub some : 0 < length (f .channels)
+  pub few : length (f .channels) ≤ channelLimit
+  pub pointer : pointerFits (f .start) ≡ true
+
+-- The place behind a frame's waveform.
+abbrev pub endOf : Frame → ℕ
+endOf f = f .place + length (f .waveform)
+
+-- No frame starts before the end of one before it.
+abbrev pub InOrder : List Frame → Type 0
+InOrder fs = (i j : ℕ) → i < j → j < length fs → endOf (getD fs i zeroFrame) ≤ getD fs j zeroFrame .place
+
+-- What every item keeps.
+pub record Lying (s : List ℕ) (x : State) (c : Cursor) : Type 0 where
+  pub counted : x .standing .counted ≤ channelLimit
+  pub table : length (x .channels) ≡ channelLimit
+  pub few : length (x .frames) ≤ framesLimit
+  pub lies : Every (Lies s) (x .frames)
+  pub behind : Every (λ f. endOf f ≤ c .at) (x .frames)
+  pub order : InOrder (x .frames)
+
+-- ---- one frame more
+
+order-snoc : (fs : List Frame) (f : Frame) → InOrder fs → Every (λ g. endOf g ≤ f .place) fs → InOrder (fs ++ (f ∷ []))
+order-snoc fs f o e i j h l =
+    let n : length (fs ++ (f ∷ [])) ≡ length fs + 1 = length-append fs (f ∷ []) in
+    let first : getD (fs ++ (f ∷ [])) i zeroFrame ≡ getD fs i zeroFrame = List·getD-append fs (f ∷ []) zeroFrame i (omega arith) in
+    by first (decLt j (length fs))
+  where
+    by : getD (fs ++ (f ∷ [])) i zeroFrame ≡ getD fs i zeroFrame → Dec (j < length fs) → endOf (getD (fs ++ (f ∷ [])) i zeroFrame) ≤ getD (fs ++ (f ∷ [])) j zeroFrame .place
+    by first (yes k) = rw (first, List·getD-append fs (f ∷ []) zeroFrame j k) (o i j h k)
+    by first (no k) =
+        let n : length (fs ++ (f ∷ [])) ≡ length fs + 1 = length-append fs (f ∷ []) in
+        rw (first, getD-at fs f [] zeroFrame j (omega arith)) (every-at (λ g. endOf g ≤ f .place) fs e zeroFrame i (omega arith))
+
+-- A frame has 1 to 256 channels.
+channels-between : (counted : ℕ) → counted ≤ channelLimit → (0 < channelsOf counted) × (channelsOf counted ≤ channelLimit)
+unfolding channelsOf
+channels-between counted h =
+    pick-cases (λ n. (0 < n) × (n ≤ channelLimit)) (eqb counted 0) (λ _. omega arith)
+    (λ e. let z = eqb-false counted 0 e in omega arith)
+
+pub frame-channels : (s : List ℕ) (x : State) (c : Cursor) → Lying s x c → (0 < length (frameChannels x)) × (length (frameChannels x) ≤ channelLimit)
+frame-channels s x c p =
+    let k = channels-between (x .standing .counted) (p .counted) in
+    let e : length (frameChannels x) ≡ channelsOf (x .standing .counted) = length-take (channelsOf (x .standing .counted)) (x .channels) ∙ omega (arith, p .table) in
+    (omega arith, omega arith)
+
+module _ (s : List ℕ) (x : State) (c d : Cursor) (p : Lying s x c) where
+  -- An item that gives no frame.
+  moved : (st : Standing) (table : List Settings) → st .counted ≤ channelLimit → length table ≡ channelLimit → c .at < d .at → Lying s (state st table (x .frames)) d
+  moved st table h e l =
+      record {
+        counted = h;
+        table = e;
+        few = p .few;
+        lies = p .lies;
+        behind = every-imp (λ f. endOf f ≤ c .at) (λ f. endOf f ≤ d .at) (λ f q. omega arith) (x .frames) (p .behind);
+        order = p .order;
+      }
+
+  -- A frame.
+  module _ (start long n : ℕ) (y : Standing) (later : c .at < start) (ends : start + long ≡ d .at) (inside : d .at ≤ length s)
+      (t : TakenBy (length (x .frames)) (x .standing) (allAgree (frameChannels x)) (sequenceOctets (frameChannels x)) long n y) where
+    abbrev new : Frame
+    new = frameAt s x start long n
+
+    long-is : length (valueAt s start long) ≡ long
+    long-is = simp (length-take, length-drop) (omega arith)
+
+    new-lies : Lies s new
+    new-lies =
+        let k = frame-channels s x c p in
+        record {
+          fits = rw long-is (t .fits);
+          inside = rw long-is (omega arith);
+          octets = rw long-is;
+          some = k .0;
+          few = k .1;
+          pointer = t .pointer;
+        }
+
+    framed : Lying s (state y (x .channels) (x .frames ++ (new ∷ []))) d
+    framed =
+        record {
+          counted = rw (t .after) (p .counted);
+          table = p .table;
+          few = rw length-append (omega (arith, t .few));
+          lies = every-snoc (Lies s) (x .frames) new (p .lies) new-lies;
+          behind = every-snoc (λ f. endOf f ≤ d .at) (x .frames) new (every-imp (λ f. endOf f ≤ c .at) (λ f. endOf f ≤ d .at) (λ f q. omega arith) (x .frames) (p .behind)) (rw long-is (omega arith));
+          order = order-snoc (x .frames) new (p .order) (every-imp (λ f. endOf f ≤ c .at) (λ f. endOf f ≤ start) (λ f q. omega arith) (x .frames) (p .behind));
+        }
+
+-- ---- all items
+
+-- The value of a waveform is as long as its item says.
+value-long : (s : List ℕ) (start len long : ℕ) → start + len ≤ length s → long ≡ length (valueAt s start len) → long ≡ len
+value-long s start len long h e = e ∙ simp (length-take, length-drop) (omega arith)
+
+module _ (s : List ℕ) where
+  waveform-lies : (c : Cursor) (i : Item) (d : Cursor) (start long : ℕ) → Waveform s i start long → FoundAt (length s) (c .at) i d → (c .at < start) × (start + long ≡ d .at)
+  waveform-lies c i d start long w f =
+      let l = subst (ItemLies (c .at) (d .at)) (w .item) (f .lies) in
+      let e = value-long s start (w .len) long (omega (arith, l .2, f .inside)) (w .counts) in
+      (l .1, omega (arith, l .2))
+
+  lying-step : (x : State) (c : Cursor) (i : Item) (d : Cursor) (y : State) → Lying s x c → FoundAt (length s) (c .at) i d → Step s x i y → Lying s y d
+  unfolding allApplied oneChanged
+  lying-step x c i d _ p f passes = moved s x c d p (x .standing) (x .channels) (p .counted) (p .table) (f .later)
+  lying-step x c i d _ p f (stands y h r) = moved s x c d p y (x .channels) (rw h (p .counted)) (p .table) (f .later)
+  lying-step x c i d _ p f (resets y h r) = moved s x c d p y _ h (length-replicate channelLimit (y .root)) (f .later)
+  lying-step x c i d _ p f (changes ch e) = moved s x c d p _ _ (p .counted) (length-map (x .channels) _ ∙ p .table) (f .later)
+  lying-step x c i d _ p f (sets channel ch e) = moved s x c d p (x .standing) _ (p .counted) (length-set (x .channels) channel _ ∙ p .table) (f .later)
+  lying-step x c i d _ p f (frames start long n y w t) =
+      let l = waveform-lies c i d start long w f in
+      framed s x c d p start long n y (l .0) (l .1) (f .inside) t
+
+  pub lying-keeps : Keeps s (Lying s)
+  lying-keeps x c i d y p e f = lying-step x c i d y p (next-found s c refl e) (meaning-steps s x i y f)
+
+  pub lying-first : Lying s firstState firstCursor
+  lying-first = record { counted = omega arith; table = length-replicate channelLimit defaultSettings; few = omega arith; lies = tt; behind = tt; order = λ i j h l. let z : ⊥ = omega arith in absurd z }
+
+module _ (s : List ℕ) (fs : List Frame) (e : verdict s ≡ accepted fs) where
+  kept : Kept (Lying s) fs
+  kept = accepted-kept s (Lying s) (lying-keeps s) (lying-first s) fs e
+
+  pub accepted-small : length s ≤ octetsLimit
+  accepted-small = accepted-by s fs e .0
+
+  pub accepted-few : length fs ≤ framesLimit
+  accepted-few = rw (kept .frames) at (kept .holds .few)
+
+  pub accepted-lies : (i : ℕ) → i < length fs → Lies s (getD fs i zeroFrame)
+  accepted-lies i h = every-at (Lies s) fs (rw (kept .frames) at (kept .holds .lies)) zeroFrame i h
+
+  pub accepted-ordered : (i j : ℕ) → i < j → j < length fs → getD fs i zeroFrame .place + length (getD fs i zeroFrame .waveform) ≤ getD fs j zeroFrame .place
+  accepted-ordered = rw (kept .frames) at (kept .holds .order)

@@ -1,0 +1,252 @@
+-- What an item may do to what stands between two items, as one list of cases.
+--     defined-gives    a definition goes back to what stands, or has a value in its range
+--     effect-asks      what an item may ask for
+--     framed-gives     what a waveform that is taken tells
+--     meaning-steps, meaning-refused    what an item that is not refused does, and the number of one that is
+-- Assumes nothing.
+use mathlib.Core.Path.{_≡_, refl, sym, subst}
+use mathlib.Core.List.{List, [], _∷_, _++_}
+use mathlib.Core.Bool.{Bool, true, false, not}
+use Prim.Native.Nat.{ℕ, _+_, _*_, _≤_, _<_}
+use native.Mathlib.Omega.{arith}
+use borrow.Author.Tests.{ltb-true, ltb-false, leb-false, eqb-true, eqb-false, not-false}
+use lib.Dec.{ltb, leb, eqb}
+use lib.ListN.{length, getD, take, drop, replicate, length-take, length-drop}
+use Rattle.octets.specs.Pick.{pick}
+use Rattle.octets.specs.Number.{numberOf}
+use Rattle.octets.proofs.Pick.{pick-cases}
+use Rattle.items.specs.declared.Item.{Item}
+use Rattle.items.specs.declared.Item.the-variants.{Plain}
+use Rattle.items.specs.Refusals.{fileLimit}
+use Rattle.settings.specs.declared.Settings.{Settings}
+use Rattle.settings.specs.declared.Attribute.{Attribute}
+use Rattle.settings.specs.declared.Change.{Change}
+use Rattle.settings.specs.declared.Tagged.{Tagged}
+use Rattle.settings.specs.declared.Defined.{Defined}
+use Rattle.settings.specs.Settings.{channelLimit, defaultSettings, applied, allApplied}
+use Rattle.settings.specs.Define.{tagged, lengthFits, changeOf, standingIn, inRange, defined}
+use Rattle.layout.specs.Frame.{sequenceOctets, allAgree}
+use Rattle.reader.specs.declared.Standing.{Standing}
+use Rattle.reader.specs.declared.Effect.{Effect}
+use Rattle.reader.specs.declared.Framed.{Framed}
+use Rattle.reader.specs.Standing.{withRoot, withContinued, orderEffect, countEffect, sequencesEffect, startEffect, compressedEffect, allEffect, oneEffect, rootEffect, plainEffect, memberEffect, groupEffect, valueAt, effectOf}
+use Rattle.reader.specs.Framing.{octetsLimit, framesLimit, sequencesOf, pointerFits, pointerAfter, framedAs}
+use Rattle.reader.specs.Verdict.{State, state, Outcome, goes, refuses, oneChanged, frameChannels, frameAt, withFrame, carried}
+use Rattle.reader.proofs.Keeps.{meaning}
+
+-- ---- definitions
+
+-- The changes that a definition in the file s can ask for, where it goes back to `base` at length 0.
+pub data Definition (s : List ℕ) (base : Settings) : Change → Type 0 where
+  back : (a : Attribute) → Definition s base (standingIn a base)
+  new : (a : Attribute) (little : Bool) (start len : ℕ)
+      → lengthFits a (length (valueAt s start len)) ≡ true
+      → (length (valueAt s start len) ≡ 0 → ⊥)
+      → inRange (changeOf a little (valueAt s start len)) ≡ true
+      → Definition s base (changeOf a little (valueAt s start len))
+
+abbrev Gives : List ℕ → Settings → Defined → Type 0
+Gives s base (Defined.Changed c) = Definition s base c
+Gives s base (Defined.Refused n) = n < fileLimit
+
+defined-gives : (s : List ℕ) (base : Settings) (a : Attribute) (little : Bool) (start len : ℕ) → Gives s base (defined a little base (valueAt s start len))
+unfolding defined
+defined-gives s base a little start len =
+    let v = valueAt s start len in
+    pick-cases (Gives s base) (not (lengthFits a (length v))) (λ _. omega arith)
+    (λ f. pick-cases (Gives s base) (eqb (length v) 0) (λ _. back a)
+    (λ z. pick-cases (Gives s base) (inRange (changeOf a little v))
+    (λ r. new a little start len (not-false (lengthFits a (length v)) f) (eqb-false (length v) 0 z) r) (λ _. omega arith)))
+
+-- ---- effects
+
+-- The item that asks for a frame.
+pub record Waveform (s : List ℕ) (i : Item) (start long : ℕ) : Type 0 where
+  pub place : ℕ
+  pub tag : ℕ
+  pub len : ℕ
+  pub item : i ≡ Plain place tag start len
+  pub counts : long ≡ length (valueAt s start len)
+
+-- What an item may ask for.
+abbrev Asks : List ℕ → Standing → Item → Effect → Type 0
+Asks s st i Effect.Pass = Unit {0}
+Asks s st i (Effect.Stand y) = (y .counted ≡ st .counted) × (y .root ≡ st .root)
+Asks s st i (Effect.Reset y) = (y .counted ≤ channelLimit) × (y .root ≡ st .root)
+Asks s st i (Effect.All c) = Definition s defaultSettings c
+Asks s st i (Effect.One channel c) = Definition s (st .root) c
+Asks s st i (Effect.Frame start long) = Waveform s i start long
+Asks s st i (Effect.Refused n) = n < fileLimit
+
+module _ (s : List ℕ) (st : Standing) where
+  all-asks : (i : Item) (d : Defined) → Gives s defaultSettings d → Asks s st i (allEffect d)
+  unfolding allEffect
+  all-asks i (Defined.Changed c) g = g
+  all-asks i (Defined.Refused n) g = g
+
+  one-asks : (i : Item) (channel : ℕ) (d : Defined) → Gives s (st .root) d → Asks s st i (oneEffect channel d)
+  unfolding oneEffect
+  one-asks i channel (Defined.Changed c) g = g
+  one-asks i channel (Defined.Refused n) g = g
+
+  order-asks : (i : Item) (v : List ℕ) → Asks s st i (orderEffect st v)
+  unfolding orderEffect
+  order-asks i v =
+      pick-cases (Asks s st i) (ltb 1 (length v)) (λ _. omega arith)
+      (λ _. pick-cases (Asks s st i) (eqb (length v) 0) (λ _. (refl, refl))
+      (λ _. pick-cases (Asks s st i) (ltb 1 (getD v 0 0)) (λ _. omega arith) (λ _. (refl, refl))))
+
+  count-asks : (i : Item) (v : List ℕ) → Asks s st i (countEffect st v)
+  unfolding countEffect
+  count-asks i v =
+      let n = numberOf (st .little) (take 4 v) in
+      pick-cases (Asks s st i) (ltb 4 (length v)) (λ _. omega arith)
+      (λ _. pick-cases (Asks s st i) (eqb (length v) 0) (λ _. (omega arith, refl))
+      (λ _. pick-cases (Asks s st i) (eqb n 0) (λ _. omega arith)
+      (λ _. pick-cases (Asks s st i) (ltb channelLimit n) (λ _. omega arith) (λ h. (ltb-false channelLimit n h, refl)))))
+
+  sequences-asks : (i : Item) (v : List ℕ) → Asks s st i (sequencesEffect st v)
+  unfolding sequencesEffect
+  sequences-asks i v =
+      pick-cases (Asks s st i) (ltb 4 (length v)) (λ _. omega arith)
+      (λ _. pick-cases (Asks s st i) (eqb (length v) 0) (λ _. (refl, refl))
+      (λ _. pick-cases (Asks s st i) (eqb (numberOf (st .little) (take 4 v)) 0) (λ _. omega arith) (λ _. (refl, refl))))
+
+  start-asks : (i : Item) (v : List ℕ) → Asks s st i (startEffect st v)
+  unfolding startEffect
+  start-asks i v =
+      pick-cases (Asks s st i) (ltb 4 (length v)) (λ _. omega arith)
+      (λ _. pick-cases (Asks s st i) (eqb (length v) 0) (λ _. (refl, refl)) (λ _. (refl, refl)))
+
+  compressed-asks : (i : Item) (v : List ℕ) → Asks s st i (compressedEffect v)
+  unfolding compressedEffect
+  compressed-asks i v = pick-cases (Asks s st i) (eqb (length v) 0) (λ _. tt) (λ _. omega arith)
+
+  group-asks : (i : Item) (channel : ℕ) → Asks s st i (groupEffect st channel)
+  unfolding groupEffect
+  group-asks i channel =
+      pick-cases (Asks s st i) (eqb (st .counted) 0) (λ _. tt)
+      (λ _. pick-cases (Asks s st i) (ltb channel (st .counted)) (λ _. tt) (λ _. omega arith))
+
+  root-asks : (place tag start len : ℕ) → Asks s st (Plain place tag start len) (rootEffect st tag start (valueAt s start len))
+  unfolding rootEffect
+  root-asks place tag start len =
+      let i = Plain place tag start len in
+      let v = valueAt s start len in
+      pick-cases (Asks s st i) (eqb tag 0x01) (λ _. order-asks i v)
+      (λ _. pick-cases (Asks s st i) (eqb tag 0x05) (λ _. count-asks i v)
+      (λ _. pick-cases (Asks s st i) (eqb tag 0x06) (λ _. sequences-asks i v)
+      (λ _. pick-cases (Asks s st i) (eqb tag 0x07) (λ _. start-asks i v)
+      (λ _. pick-cases (Asks s st i) (eqb tag 0x0E) (λ _. compressed-asks i v)
+      (λ _. pick-cases (Asks s st i) (eqb tag 0x1E)
+      (λ _. record { place = place; tag = tag; len = len; item = refl; counts = refl }) (λ _. tt))))))
+
+  plain-asks : (place tag start len : ℕ) (t : Tagged) → Asks s st (Plain place tag start len) (plainEffect st tag start (valueAt s start len) t)
+  unfolding plainEffect
+  plain-asks place tag start len (Tagged.Defines a) =
+      all-asks (Plain place tag start len) _ (defined-gives s defaultSettings a (st .little) start len)
+  plain-asks place tag start len Tagged.Other = root-asks place tag start len
+
+  member-asks : (i : Item) (channel start len : ℕ) (t : Tagged) → Asks s st i (memberEffect st channel (valueAt s start len) t)
+  unfolding memberEffect
+  member-asks i channel start len (Tagged.Defines a) = one-asks i channel _ (defined-gives s (st .root) a (st .little) start len)
+  member-asks i channel start len Tagged.Other = tt
+
+  effect-asks : (i : Item) → Asks s st i (effectOf s st i)
+  unfolding effectOf
+  effect-asks (Item.Plain place tag start len) = plain-asks place tag start len (tagged tag)
+  effect-asks (Item.Group place channel) = group-asks (Item.Group place channel) channel
+  effect-asks (Item.Member place channel tag start len) =
+      let i = Item.Member place channel tag start len in
+      pick-cases (Asks s st i) (eqb (st .counted) 0) (λ _. tt) (λ _. member-asks i channel start len (tagged tag))
+  effect-asks (Item.Mark place) = tt
+
+-- ---- frames
+
+-- What a waveform that is taken tells.
+pub record TakenBy (frames : ℕ) (st : Standing) (agree : Bool) (octets long n : ℕ) (y : Standing) : Type 0 where
+  pub some : octets ≡ 0 → ⊥
+  pub small : long ≤ octetsLimit
+  pub few : frames < framesLimit
+  pub agrees : agree ≡ true
+  pub pointer : pointerFits (st .start) ≡ true
+  pub fits : n * octets ≤ long
+  pub after : y ≡ withContinued (pointerAfter st n) st
+
+abbrev Framing : ℕ → Standing → Bool → ℕ → ℕ → Framed → Type 0
+Framing frames st agree octets long (Framed.Taken n y) = TakenBy frames st agree octets long n y
+Framing frames st agree octets long (Framed.Refused k) = (octets ≡ 0 → ⊥) → long ≤ octetsLimit → k < fileLimit
+
+framed-gives : (frames : ℕ) (st : Standing) (agree : Bool) (octets long : ℕ) → Framing frames st agree octets long (framedAs frames st agree octets long)
+unfolding framedAs
+framed-gives frames st agree octets long =
+    let n = sequencesOf (st .sequences) long octets in
+    let P : Framed → Type 0 = Framing frames st agree octets long in
+    pick-cases P (eqb octets 0) (λ z f g. absurd (f (eqb-true octets 0 z)))
+    (λ z. pick-cases P (ltb octetsLimit long) (λ h f g. let c = ltb-true octetsLimit long h in let w : ⊥ = omega arith in absurd w)
+    (λ h. pick-cases P (leb framesLimit frames) (λ _ f g. omega arith)
+    (λ k. pick-cases P (not agree) (λ _ f g. omega arith)
+    (λ a. pick-cases P (not (pointerFits (st .start))) (λ _ f g. omega arith)
+    (λ p. pick-cases P (ltb long (n * octets)) (λ _ f g. omega arith)
+    (λ t. record {
+      some = eqb-false octets 0 z;
+      small = ltb-false octetsLimit long h;
+      few = leb-false framesLimit frames k;
+      agrees = not-false agree a;
+      pointer = not-false (pointerFits (st .start)) p;
+      fits = ltb-false long (n * octets) t;
+      after = refl;
+    }))))))
+
+-- ---- items
+
+-- What an item may do.
+pub data Step (s : List ℕ) (x : State) (i : Item) : State → Type 0 where
+  passes : Step s x i x
+  stands : (y : Standing) → y .counted ≡ x .standing .counted → y .root ≡ x .standing .root → Step s x i (state y (x .channels) (x .frames))
+  resets : (y : Standing) → y .counted ≤ channelLimit → y .root ≡ x .standing .root
+      → Step s x i (state y (replicate channelLimit (y .root)) (x .frames))
+  changes : (c : Change) → Definition s defaultSettings c
+      → Step s x i (state (withRoot (applied c (x .standing .root)) (x .standing)) (allApplied c (x .channels)) (x .frames))
+  sets : (channel : ℕ) (c : Change) → Definition s (x .standing .root) c
+      → Step s x i (state (x .standing) (oneChanged channel (applied c) (x .channels)) (x .frames))
+  frames : (start long n : ℕ) (y : Standing) → Waveform s i start long
+      → TakenBy (length (x .frames)) (x .standing) (allAgree (frameChannels x)) (sequenceOctets (frameChannels x)) long n y
+      → Step s x i (state y (x .channels) (x .frames ++ (frameAt s x start long n ∷ [])))
+
+-- 15 would come only of a sequence without octets or of a file above the limit.
+abbrev Steps : List ℕ → State → Item → Outcome → Type 0
+Steps s x i (goes y) = Step s x i y
+Steps s x i (refuses n) = (sequenceOctets (frameChannels x) ≡ 0 → ⊥) → length s ≤ octetsLimit → n < fileLimit
+
+-- No value is longer than the file.
+value-short : (s : List ℕ) (start len : ℕ) → length (valueAt s start len) ≤ length s
+value-short s start len = simp (length-take, length-drop) (omega arith)
+
+frame-steps : (s : List ℕ) (x : State) (i : Item) (start long : ℕ) (r : Framed) → Waveform s i start long
+    → Framing (length (x .frames)) (x .standing) (allAgree (frameChannels x)) (sequenceOctets (frameChannels x)) long r
+    → Steps s x i (withFrame s x start long r)
+unfolding withFrame
+frame-steps s x i start long (Framed.Taken n y) w f = frames start long n y w f
+frame-steps s x i start long (Framed.Refused k) w f = λ z l. f z (let e = w .counts in omega (arith, value-short s start (w .len)))
+
+carried-steps : (s : List ℕ) (x : State) (i : Item) (e : Effect) → Asks s (x .standing) i e → Steps s x i (carried s x e)
+unfolding carried
+carried-steps s x i Effect.Pass a = passes
+carried-steps s x i (Effect.Stand y) a = stands y (a .0) (a .1)
+carried-steps s x i (Effect.Reset y) a = resets y (a .0) (a .1)
+carried-steps s x i (Effect.All c) a = changes c a
+carried-steps s x i (Effect.One channel c) a = sets channel c a
+carried-steps s x i (Effect.Frame start long) a =
+    frame-steps s x i start long _ a (framed-gives (length (x .frames)) (x .standing) (allAgree (frameChannels x)) (sequenceOctets (frameChannels x)) long)
+carried-steps s x i (Effect.Refused n) a = λ z l. a
+
+module _ (s : List ℕ) (x : State) (i : Item) where
+  steps : Steps s x i (meaning s x i)
+  steps = carried-steps s x i (effectOf s (x .standing) i) (effect-asks s (x .standing) i)
+
+  pub meaning-steps : (y : State) → meaning s x i ≡ goes y → Step s x i y
+  meaning-steps y e = subst (Steps s x i) e steps
+
+  pub meaning-refused : (n : ℕ) → meaning s x i ≡ refuses n → (sequenceOctets (frameChannels x) ≡ 0 → ⊥) → length s ≤ octetsLimit → n < fileLimit
+  meaning-refused n e = subst (Steps s x i) e steps
