@@ -14,7 +14,8 @@ use lib.Seq.{drop-drop}
 use Rattle.settings.specs.declared.Settings.{Settings}
 use Rattle.layout.specs.Frame.{widthIn, blockOctets, sequenceOctets}
 use Rattle.laid.specs.Laid.{laid, sampleIn}
-use Rattle.laid.specs.Turned.{turned, turnedSequence, turnedAll, sequenceSamples, Even}
+use Rattle.runs.specs.Turned.{turned}
+use Rattle.laid.specs.Turned.{turnedSequence, turnedAll, sequenceSamples, Even}
 use Rattle.laid.proofs.Laid.{steps, stepsIn, laid-steps}
 
 -- ---- a waveform turned about goes by steps

@@ -6,16 +6,6 @@ use lib.ListN.{length, take, drop}
 use Rattle.settings.specs.declared.Settings.{Settings}
 use Rattle.layout.specs.Frame.{widthIn, channelIn, offsetOf}
 
--- A channel whose blocks have samples, and whose samples have octets.
-pub record GoodChannel (c : Settings) : Type 0 where
-  pub block : 0 < c .block
-  pub width : 0 < widthIn c
-
--- All channels are such.
-abbrev pub AllGood : List Settings → Type 0
-AllGood [] = Unit {0}
-AllGood (c ∷ cs) = GoodChannel c × AllGood cs
-
 -- Channel c and number n name a sample: the channel is one of the frame's, and the number is below its count of samples.
 pub record Named (cs : List Settings) (sequences c n : ℕ) : Type 0 where
   pub channel : c < length cs

@@ -3,13 +3,9 @@ use mathlib.Core.List.{List, [], _∷_, _++_, reverse}
 use mathlib.Core.Path.{_≡_}
 use Prim.Native.Nat.{ℕ, zero, suc, _+_, _<_}
 use lib.ListN.{length, take, drop}
+use Rattle.runs.specs.Turned.{turned}
 use Rattle.settings.specs.declared.Settings.{Settings}
 use Rattle.layout.specs.Frame.{widthIn, blockOctets, sequenceOctets, channelIn}
-
--- The first n samples of w octets, each turned about.
-unfoldable pub turned : ℕ → ℕ → List ℕ → List ℕ
-turned w zero xs = []
-turned w (suc n) xs = reverse (take w xs) ++ turned w n (drop w xs)
 
 -- The samples of one sequence, each turned about.
 unfoldable pub turnedSequence : List Settings → List ℕ → List ℕ

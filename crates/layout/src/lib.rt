@@ -82,7 +82,11 @@ fn added_below(i: usize, channel: u32, below: u64, octets: u64) -> u64
     requires { ⌜ below + octets < 2 ^ 64 ⌝ }
     ensures { λ r. ⌜ r ≡ pick (ltb i channel) (below + octets) below ⌝ }
 {
-    if i < channel as usize { below + octets } else { below }
+    if i < channel as usize {
+        below + octets
+    } else {
+        below
+    }
 }
 
 fn agree_both(a: bool, b: bool) -> bool

@@ -1,11 +1,10 @@
 -- What holds of every element of a list.
---     every-at, every-by, every-imp    of the element at an index, and back; of what follows from it
+--     every-at, every-imp    of the element at an index; of what follows from it
 --     every-snoc, every-take, every-replicate, every-changed, every-map    of lists made from such lists
 -- Assumes nothing.
 use mathlib.Core.List.{List, [], _∷_, _++_, map}
 use Prim.Native.Nat.{ℕ, zero, suc, _<_}
 use native.Mathlib.Nat.{not-suc-le-zero, le-of-suc-le-suc}
-use native.Mathlib.Omega.{arith}
 use lib.ListN.{length, getD, take, set, replicate}
 
 abbrev pub Every : {A : Type 0} → (A → Type 0) → List A → Type 0
@@ -17,10 +16,6 @@ module _ {A : Type 0} (P : A → Type 0) where
   every-at [] e d i h = absurd (not-suc-le-zero h)
   every-at (a ∷ l) e d zero h = e .0
   every-at (a ∷ l) e d (suc i) h = every-at l (e .1) d i (le-of-suc-le-suc h)
-
-  pub every-by : (l : List A) (d : A) → ((i : ℕ) → i < length l → P (getD l i d)) → Every P l
-  every-by [] d f = tt
-  every-by (a ∷ l) d f = (f 0 (omega arith), every-by l d (λ i h. f (suc i) (omega arith)))
 
   pub every-snoc : (l : List A) (a : A) → Every P l → P a → Every P (l ++ (a ∷ []))
   every-snoc [] a e p = (p, tt)

@@ -4,7 +4,7 @@
 --     frames-kept     the frames of an accepted interpretation are those of a state that is reached
 --     accepted-by, accepted-kept    the same of an accepted file, which is no longer than the limit
 -- Assumes nothing.
-use mathlib.Core.Path.{_≡_, refl, sym, ap, _∙_}
+use mathlib.Core.Path.{_≡_, refl, ap, _∙_}
 use mathlib.Core.List.{List}
 use mathlib.Core.Bool.{Bool, true, false}
 use Prim.Native.Nat.{ℕ, zero, suc, _-_, _≤_, _<_}

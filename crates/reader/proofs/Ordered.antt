@@ -2,20 +2,19 @@
 --     frame-channels     at every state that is reached a frame has 1 to 256 channels
 --     accepted-small     the file is no longer than the limit
 --     accepted-few       its frames are no more than the limit
---     accepted-lies      each waveform lies in the file, and holds the frame's sequences
+--     every-lies, accepted-lies    each waveform lies in the file, and holds the frame's sequences
 --     accepted-ordered   no frame starts before the end of one before it
 -- Assumes nothing.
-use mathlib.Core.Path.{_≡_, refl, sym, ap, _∙_, subst}
+use mathlib.Core.Path.{_≡_, refl, _∙_, subst}
 use mathlib.Core.List.{List, [], _∷_, _++_}
 use mathlib.Core.Bool.{true}
-use Prim.Native.Nat.{ℕ, zero, suc, _+_, _-_, _*_, _≤_, _<_, min}
+use Prim.Native.Nat.{ℕ, _+_, _*_, _≤_, _<_}
 use native.Mathlib.Decide.{decLt}
 use native.Mathlib.Omega.{arith}
 use borrow.Author.Tests.{eqb-false}
 use lib.Dec.{eqb}
 use lib.ListN.{length, getD, take, drop, length-take, length-drop, length-append, length-replicate, length-set, length-map, List·getD-append}
 use lib.Seq.{getD-at}
-use Rattle.octets.specs.Pick.{pick}
 use Rattle.octets.proofs.Pick.{pick-cases}
 use Rattle.items.specs.declared.Item.{Item}
 use Rattle.items.specs.declared.Cursor.{Cursor}
@@ -170,8 +169,11 @@ module _ (s : List ℕ) (fs : List Frame) (e : verdict s ≡ accepted fs) where
   pub accepted-few : length fs ≤ framesLimit
   accepted-few = rw (kept .frames) at (kept .holds .few)
 
+  pub every-lies : Every (Lies s) fs
+  every-lies = rw (kept .frames) at (kept .holds .lies)
+
   pub accepted-lies : (i : ℕ) → i < length fs → Lies s (getD fs i zeroFrame)
-  accepted-lies i h = every-at (Lies s) fs (rw (kept .frames) at (kept .holds .lies)) zeroFrame i h
+  accepted-lies i h = every-at (Lies s) fs every-lies zeroFrame i h
 
   pub accepted-ordered : (i j : ℕ) → i < j → j < length fs → getD fs i zeroFrame .place + length (getD fs i zeroFrame .waveform) ≤ getD fs j zeroFrame .place
   accepted-ordered = rw (kept .frames) at (kept .holds .order)

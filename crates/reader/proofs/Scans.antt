@@ -264,7 +264,7 @@ unfolding foundIn
 found-more q fs g =
     pick-cases (λ (r : Found). r ≡ foundIn q (fs ++ (g ∷ []))) (eqb (length fs) (q .frame))
     (λ e. let h = eqb-true (length fs) (q .frame) e in
-      rw (← h) (simp (length-append, lt-ltb (length fs) (length fs + 1) (omega arith), getD-append-seam fs g [] zeroFrame)))
+    rw (← h) (simp (length-append, lt-ltb (length fs) (length fs + 1) (omega arith), getD-append-seam fs g [] zeroFrame)))
     (λ e. let h = eqb-false (length fs) (q .frame) e in other h (decLt (q .frame) (length fs)))
   where
     other : (length fs ≡ q .frame → ⊥) → Dec (q .frame < length fs) → foundIn q fs ≡ foundIn q (fs ++ (g ∷ []))
@@ -283,8 +283,8 @@ channel-seen channel count table h l =
     rw e
     (pick-cases (λ (r : Settings). r ≡ pick (ltb channel count) (channelIn channel (take count table)) defaultSettings) (ltb channel count)
     (λ t. let k = ltb-true channel count t in
-      let m : min channel 255 ≡ channel = omega arith in
-      simp (t, m, getD-take count table channel zeroSettings k))
+    let m : min channel 255 ≡ channel = omega arith in
+    simp (t, m, getD-take count table channel zeroSettings k))
     (λ t. simp t))
 
 module _ {s : List ℕ} {q : Asked} {table : List Settings} {c : Cursor} {st : Standing} {frames : ℕ} {found : Found} {size : ℕ} (p : Scanning s q table c st frames found size)
@@ -323,13 +323,13 @@ module _ {s : List ℕ} {q : Asked} {table : List Settings} {c : Cursor} {st : S
       let e : length (take count table) ≡ count = length-take-le count table (omega (arith, count-few, p .full)) in
       let there : ℕ → Frame = λ m. record { start = st .start; place = start; little = st .little; sequences = sequences; channels = take m table; waveform = valueAt s start len } in
       let vw : view ≡ viewOf (q .channel) g =
-          ev
-          ∙ (λ k. record { start = st .start; channels = sym e k; sequences = sequences; little = st .little; place = start; octets = el k .octets; below = el k .below; settings = (es ∙ channel-seen (q .channel) count table count-few (p .full)) k })
-          ∙ ap (λ (m : ℕ). viewOf (q .channel) (there m)) ec in
+      ev
+      ∙ (λ k. record { start = st .start; channels = sym e k; sequences = sequences; little = st .little; place = start; octets = el k .octets; below = el k .below; settings = (es ∙ channel-seen (q .channel) count table count-few (p .full)) k })
+      ∙ ap (λ (m : ℕ). viewOf (q .channel) (there m)) ec in
       let sz : add ≡ sizeOf g =
-          ea .0
-          ∙ (λ k. frameSize sequences (el k .groups) (sequences * el k .octets))
-          ∙ ap (λ (m : ℕ). sizeOf (there m)) ec in
+      ea .0
+      ∙ (λ k. frameSize sequences (el k .groups) (sequences * el k .octets))
+      ∙ ap (λ (m : ℕ). sizeOf (there m)) ec in
       record {
         long = p .long;
         counted = rw (w .3) (p .counted);

@@ -770,10 +770,7 @@ pub fn sample(s: &[u8], frame: u32, channel: u32, number: u64) -> Sampled
             let w = values::width(c.kind);
             let null = c.null;
             let octets = octets::part(s, place, w);
-            Sampled::Sample(
-                place,
-                values::sample_value(octets, v.little, c.kind, null),
-            )
+            Sampled::Sample(place, values::sample_value(octets, v.little, c.kind, null))
         }
     }
 }

@@ -27,7 +27,6 @@ abbrev μ-loop : tie.MeasureT-loop
 long : (t : List Settings) (n count : ℕ) → length t ≡ 256 → n ≡ min count 256 → length (take n t) ≡ n
 long t n count h e = length-take-le n t (omega arith)
 
-
 -- src/lib.rt:125:9
 at-most-requires : tie.Need-at-most-requires Inv-loop μ-loop
 at-most-requires c κs = search needs
@@ -61,7 +60,6 @@ element t n i h = sym (getD-take n t i zeroSettings h)
 
 cut : (t : List Settings) (n count : ℕ) → length t ≡ 256 → n ≡ min count 256 → take n t ≡ take count t
 cut t n count h e = ap (λ (k : ℕ). take k t) (e ∙ ap (min count) (sym h)) ∙ taken-min t count
-
 
 -- src/lib.rt:127:5
 loop-again : tie.Need-loop-again Inv-loop μ-loop

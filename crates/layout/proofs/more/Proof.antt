@@ -49,10 +49,10 @@ small s = rw (s .value) at (s .below)
 -- src/lib.rt:95:1
 returns : tie.Need-returns
 returns c = record {
-      value = λ k. record { agree = (c .before .before .before .before .agree-both .ensures ∙ ap (both (c .before .before .before .before .before .before .before .args .l .agree)) (c .before .before .before .before .before .channel-agrees .ensures)) k; octets = c .before .before .before .before .before .before .before .args .l .octets + c .before .before .before .before .before .before .block-octets .ensures .value k; below = (c .before .before .added-below .ensures ∙ ap (λ (n : ℕ). pick (ltb (c .before .before .before .before .before .before .before .args .i) (c .before .before .before .before .before .before .before .args .channel)) (c .before .before .before .before .before .before .before .args .l .below + n) (c .before .before .before .before .before .before .before .args .l .below)) (c .before .before .before .before .before .before .block-octets .ensures .value)) k; groups = c .before .before .before .before .before .before .before .args .l .groups + c .before .group-size .ensures .value k };
-      octets = small (c .before .before .before .before .before .before .block-octets .ensures);
-      groups = small (c .before .group-size .ensures);
-    }
+  value = λ k. record { agree = (c .before .before .before .before .agree-both .ensures ∙ ap (both (c .before .before .before .before .before .before .before .args .l .agree)) (c .before .before .before .before .before .channel-agrees .ensures)) k; octets = c .before .before .before .before .before .before .before .args .l .octets + c .before .before .before .before .before .before .block-octets .ensures .value k; below = (c .before .before .added-below .ensures ∙ ap (λ (n : ℕ). pick (ltb (c .before .before .before .before .before .before .before .args .i) (c .before .before .before .before .before .before .before .args .channel)) (c .before .before .before .before .before .before .before .args .l .below + n) (c .before .before .before .before .before .before .before .args .l .below)) (c .before .before .before .before .before .before .block-octets .ensures .value)) k; groups = c .before .before .before .before .before .before .before .args .l .groups + c .before .group-size .ensures .value k };
+  octets = small (c .before .before .before .before .before .before .block-octets .ensures);
+  groups = small (c .before .group-size .ensures);
+}
 
 pub more-spec : {M : Type 1} → statement M
 more-spec =

@@ -18,7 +18,6 @@ offset-bits-requires c κs = search needs
 in64 : (c : tie.After-struct-told) → SFits w64 (c .before .before .before .before .before .before .args .v .start)
 in64 c = search needs
 
-
 -- src/lib.rt:709:1
 returns : tie.Need-returns
 unfolding attributesSeen

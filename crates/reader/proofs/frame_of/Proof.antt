@@ -50,7 +50,6 @@ in64 c = search needs
 looked : (c : tie.After-pointer-fits) → pointerFits (c .before .before .before .before .before .before .args .st .start) ≡ c .pointer-fits .result
 looked c = ap pointerFits (sym (toZ-ofZ (in64 c))) ∙ sym (c .pointer-fits .ensures)
 
-
 -- src/lib.rt:373:9
 returns-5 : tie.Need-returns-5
 returns-5 c = framed-pointer _ _ _ _ _ (c .before .before .before .before .before .before .if1 .left) (c .before .before .before .before .before .if2 .left) (c .before .before .before .before .if3 .left) (c .before .before .before .if4 .left) (looked (c .before) ∙ not-true _ (c .if5 .taken))
@@ -83,10 +82,8 @@ after : (c : tie.After-with-continued) → c .before .pointer-after .result ≡ 
 unfolding pointerAfter
 after c = c .before .pointer-after .ensures ∙ ap (λ (z : ℤ). z +ℤ pos (c .before .before .before .before .before .before .before .before .before .before .before .before .before .args .st .root .block * c .before .before .before .before .before .sequences-of .result)) (toZ-ofZ (in64 (c .before .before .before .before .before .before .before)))
 
-
 in64-after : (c : tie.After-with-continued) → SFits w64 (c .before .pointer-after .result)
 in64-after c = search needs
-
 
 -- src/lib.rt:356:1
 returns-7 : tie.Need-returns-7

@@ -21,7 +21,6 @@ width-requires c κs = search needs
 narrow : (k w : ℕ) → w ≡ widthOf k → w ≤ 8
 narrow k w e = rw e (width-le k)
 
-
 -- src/lib.rt:701:20
 cast-t5 : tie.Need-cast-t5
 cast-t5 c = omega (arith, narrow (c .before .before .before .before .args .c .kind) _ (c .width .ensures))

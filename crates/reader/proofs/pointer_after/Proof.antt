@@ -31,7 +31,6 @@ sum c = ap₂ _+ℤ_ (toZ-ofZ (c .fits .start)) (toZ-pos w64 (omega (arith, room
 sum-fits : (c : tie.Start) → SFits w64 (c .args .start +ℤ pos (c .args .block * c .args .sequences))
 sum-fits c = record { sfits = sum-small (c .args .start) (c .args .block * c .args .sequences) (2 ^ 31) (2 ^ 63) (c .pre .0) (room c) }
 
-
 -- src/lib.rt:344:14
 mul-result : tie.Need-mul-result
 mul-result c = omega (arith, room c)

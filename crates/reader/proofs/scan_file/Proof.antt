@@ -293,7 +293,6 @@ loop-less-7 c = omega (arith, next-later _ _ (c .before .before .before .before 
 in64 : (c : tie.After-frame-size Inv-loop μ-loop) → SFits w64 (c .before .before .before .before .before .before .before .before .before .before .before .before .before .before .before .before .before .before .before .before .before .before .before .loop .st .start)
 in64 c = search needs
 
-
 -- src/lib.rt:557:5
 loop-again-7 : tie.Need-loop-again-7 Inv-loop μ-loop
 loop-again-7 c = scanning-frame (c .before .before .before .before .before .before .before .before .before .before .before .before .before .before .before .before .before .before .before .before .before .before .before .loop .inv) (c .before .before .before .before .before .before .before .before .before .before .before .before .before .before .channels-of .result) (c .before .before .before .before .before .before .before .before .before .before .before .before .before .measure .result) (c .before .before .before .before .before .before .before .before .before .before .before .before .before .before .channels-of .ensures) (c .before .before .before .before .before .before .before .before .before .before .before .before .before .measure .ensures) (c .before .before .before .before .before .before .before .before .before .before .before .before .before .before .before .before .before .before .before .before .before .before .next-item .ensures) (c .before .before .before .before .before .before .before .before .before .before .before .before .before .before .before .before .before .before .before .before .item .given .1) (c .before .before .before .before .before .before .before .before .before .before .before .before .before .before .before .before .before .before .item-effect .ensures) (c .before .before .before .before .before .before .before .before .before .before .before .before .before .before .before .before .start .given .1) (c .before .before .before .before .before .before .before .before .before .before .before .before .frame-of .ensures) (c .before .before .before .before .before .before .before .before .before .before .sequences .given .1) (c .before .before .before .before .before .seen .ensures ∙ ap (λ (k : ℕ). pick (ltb (c .before .before .before .before .before .before .before .before .before .before .before .before .before .before .before .before .before .before .before .before .before .before .before .before .before .before .before .before .before .args .asked .channel) (c .before .before .before .before .before .before .before .before .before .before .before .before .before .before .channels-of .result)) (getD (c .before .before .before .before .before .before .before .before .before .before .before .before .before .before .before .before .before .before .before .before .before .before .before .loop .table) k zeroSettings) defaultSettings) (c .before .before .before .before .before .before .before .before .index .ensures)) (view-read (record { start = c .before .before .before .before .before .before .before .before .before .before .before .before .before .before .before .before .before .before .before .before .before .before .before .loop .st .start; channels = c .before .before .before .before .before .before .before .before .before .before .before .before .before .before .channels-of .result; sequences = c .before .before .before .before .before .before .before .before .before .before .sequences .given .0 .0; little = c .before .before .before .before .before .before .before .before .before .before .before .before .before .before .before .before .before .before .before .before .before .before .before .loop .st .little; place = c .before .before .before .before .before .before .before .before .before .before .before .before .before .before .before .before .start .given .0 .0; octets = c .before .before .before .before .before .before .before .before .before .before .before .before .before .measure .result .octets; below = c .before .before .before .before .before .before .before .before .before .before .before .before .before .measure .result .below; settings = c .before .before .before .before .before .seen .result }) (toZ-ofZ (in64 c))) (c .before .before .keep .ensures) (c .frame-size .ensures)

@@ -1,0 +1,46 @@
+-- What holds of every recording that an accepted file gives: each number is in its range, and each list as long as the counts say.
+use mathlib.Core.Path.{_≡_}
+use mathlib.Core.List.{List, [], _∷_}
+use mathlib.Core.Bool.{true}
+use Prim.Native.Nat.{ℕ, _*_, _^_, _≤_, _<_}
+use mathlib.Core.Logic.{_⊎_}
+use lib.ListN.{length, getD}
+use Rattle.settings.specs.declared.Settings.{Settings}
+use Rattle.settings.specs.Settings.{channelLimit, blockLimit, lastKind, lastIntervalUnit, lastResolutionUnit}
+use Rattle.layout.specs.Frame.{widthIn, channelIn}
+use Rattle.laid.specs.Laid.{Named}
+use Rattle.reader.specs.Framing.{pointerFits}
+pub use Rattle.reader.proofs.Good.{GoodScale}
+use Rattle.canonical.specs.Recording.{Recorded}
+
+-- A channel's attributes, the offset as a recording has it.
+pub record GoodSettled (c : Settings) : Type 0 where
+  pub blockLow : 0 < c .block
+  pub blockHigh : c .block ≤ blockLimit
+  pub class : c .class < 65536
+  pub lead : c .lead < 65536
+  pub kind : c .kind ≤ lastKind
+  pub interval : GoodScale lastIntervalUnit (c .interval)
+  pub resolution : GoodScale lastResolutionUnit (c .resolution)
+  pub offsetWidth : c .offset .width ≡ widthIn c
+  pub offset : c .offset .bits < 256 ^ widthIn c
+  pub nullWidth : (c .null .width ≡ 0) ⊎ (c .null .width ≡ widthIn c)
+  pub null : c .null .bits < 256 ^ (c .null .width)
+
+abbrev pub AllSettled : List Settings → Type 0
+AllSettled [] = Unit {0}
+AllSettled (c ∷ cs) = GoodSettled c × AllSettled cs
+
+pub record GoodRecorded (r : Recorded) : Type 0 where
+  pub start : pointerFits (r .start) ≡ true
+  pub sequences : r .sequences < 4294967296
+  pub some : 0 < length (r .channels)
+  pub few : length (r .channels) ≤ channelLimit
+  pub channels : AllSettled (r .channels)
+  pub counted : length (r .samples) ≡ length (r .channels)
+  pub sized : (c : ℕ) → c < length (r .channels) → length (getD (r .samples) c []) ≡ r .sequences * channelIn c (r .channels) .block
+  pub bits : (c n : ℕ) → Named (r .channels) (r .sequences) c n → getD (getD (r .samples) c []) n 0 < 256 ^ widthIn (channelIn c (r .channels))
+
+abbrev pub AllRecorded : List Recorded → Type 0
+AllRecorded [] = Unit {0}
+AllRecorded (r ∷ rs) = GoodRecorded r × AllRecorded rs

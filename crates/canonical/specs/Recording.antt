@@ -1,0 +1,56 @@
+-- The recording that an accepted file holds (document 01, "Frames and samples").
+use mathlib.Core.List.{List, [], _∷_, map}
+use mathlib.Core.Bool.{Bool}
+use Prim.Native.Nat.{ℕ, zero, suc}
+use lib.IntN.{ℤ}
+use lib.ListN.{length}
+use Rattle.octets.specs.Number.{numberOf}
+use Rattle.settings.specs.declared.Settings.{Settings}
+use Rattle.layout.specs.Frame.{Frame, samplesOf}
+use Rattle.laid.specs.Laid.{sampleIn}
+use Rattle.reader.specs.Answer.{offsetBits}
+
+-- A frame of a recording: start pointer and sequences; the channels' attributes, as many as the channel count; and for each channel the bits
+-- of its samples by number.
+pub record Recorded : Type 0 where
+  pub start : ℤ
+  pub sequences : ℕ
+  pub channels : List Settings
+  pub samples : List (List ℕ)
+
+-- The attributes of a channel: an offset not defined is zero bits of the sample's width.
+unfoldable pub settled : Settings → Settings
+settled c =
+    record {
+      block = c .block;
+      class = c .class;
+      lead = c .lead;
+      kind = c .kind;
+      interval = c .interval;
+      resolution = c .resolution;
+      offset = offsetBits c;
+      null = c .null;
+    }
+
+-- The bits of a sample, taken highest octet first, by the byte order that stands at the waveform.
+unfoldable pub sampleBits : Frame → ℕ → ℕ → ℕ
+sampleBits f channel n = numberOf (f .little) (sampleIn (f .channels) (f .waveform) channel n)
+
+-- The values of g at 0 to k - 1.
+unfoldable pub tabulate : {A : Type 0} → ℕ → (ℕ → A) → List A
+tabulate zero g = []
+tabulate (suc k) g = g 0 ∷ tabulate k (λ i. g (suc i))
+
+-- A frame as the recording has it.
+unfoldable pub recordedFrame : Frame → Recorded
+recordedFrame f =
+    record {
+      start = f .start;
+      sequences = f .sequences;
+      channels = map settled (f .channels);
+      samples = tabulate (length (f .channels)) (λ channel. tabulate (samplesOf channel f) (sampleBits f channel));
+    }
+
+-- A recording is the list of frames.
+unfoldable pub recording : List Frame → List Recorded
+recording fs = map recordedFrame fs

@@ -1,0 +1,6 @@
+pub mod Stores
+pub mod Places
+pub mod Turned
+pub mod Samples
+pub mod Number
+pub mod Length

@@ -1,0 +1,63 @@
+-- Laws of samples turned round.
+use mathlib.Core.Path.{_≡_, refl, ap, _∙_}
+use mathlib.Core.List.{List, [], _∷_, _++_, reverse, append-assoc}
+use Prim.Native.Nat.{ℕ, zero, suc, _+_, _*_, _-_, _≤_, _<_}
+use native.Mathlib.Nat.{zero-add, suc-add, add-comm, zero-mul, suc-mul, add-mul}
+use native.Mathlib.Omega.{arith}
+use lib.ListN.{length, take, drop, length-append, length-reverse, length-drop}
+use lib.Seq.{drop-drop, drop-at, take-at, take-nil, length-take-le}
+use borrow.Author.Tests.{le-leb, lt-leb}
+use Rattle.runs.specs.Turned.{turned, turnedRun}
+
+-- k samples, then n more.
+pub turned-add : (w k n : ℕ) (xs : List ℕ) → turned w (k + n) xs ≡ turned w k xs ++ turned w n (drop (k * w) xs)
+unfolding turned
+turned-add w zero n xs = rw (zero-add, zero-mul)
+turned-add w (suc k) n xs =
+    rw (suc-add, suc-mul, add-comm (k * w) w, ← drop-drop (k * w) w xs, append-assoc, turned-add w k n (drop w xs))
+
+-- One octet turned round is itself.
+pub turned-one : (n : ℕ) (xs : List ℕ) → turned 1 n xs ≡ take n xs
+unfolding turned
+turned-one zero xs = refl
+turned-one (suc n) [] = turned-one n [] ∙ take-nil n
+turned-one (suc n) (x ∷ xs) = ap (λ (l : List ℕ). x ∷ l) (turned-one n xs)
+
+-- The length of n samples that are there.
+pub length-turned : (w n : ℕ) (xs : List ℕ) → n * w ≤ length xs → length (turned w n xs) ≡ n * w
+unfolding turned
+length-turned w zero xs h = rw zero-mul
+length-turned w (suc n) xs h =
+    let m : suc n * w ≡ n * w + w = suc-mul n w in
+    let l : length (drop w xs) ≡ length xs - w = length-drop w xs in
+    rw (length-append, length-reverse, length-take-le w xs (omega arith), length-turned w n (drop w xs) (omega arith))
+    (omega arith)
+
+nth : (w i m : ℕ) (xs : List ℕ) → (i + suc m) * w ≤ length xs
+    → take w (drop (i * w) (turned w (i + suc m) xs)) ≡ reverse (take w (drop (i * w) xs))
+unfolding turned
+nth w i m xs h =
+    let ys = drop (i * w) xs in
+    let t = add-mul i (suc m) w in
+    let u = suc-mul m w in
+    let l = length-drop (i * w) xs in
+    let few = length-turned w i xs (omega arith) in
+    let one = length-reverse (take w ys) ∙ length-take-le w ys (omega arith) in
+    rw (turned-add w i (suc m) xs, drop-at (turned w i xs) (turned w (suc m) ys) (i * w) few)
+    (take-at (reverse (take w ys)) (turned w m (drop w ys)) w one)
+
+-- The sample i of those turned round is the sample i turned round.
+pub turned-nth : (w n i : ℕ) (xs : List ℕ) → i < n → n * w ≤ length xs
+    → take w (drop (i * w) (turned w n xs)) ≡ reverse (take w (drop (i * w) xs))
+turned-nth w n i xs h l =
+    let e : i + suc (n - i - 1) ≡ n = omega arith in
+    rw e at (nth w i (n - i - 1) xs (rw e l))
+
+-- Where the samples are there, the run is them, and else it is empty.
+pub run-there : (w n : ℕ) (xs : List ℕ) → n * w ≤ length xs → turnedRun w n xs ≡ turned w n xs
+unfolding turnedRun
+run-there w n xs h = simp le-leb
+
+pub run-missing : (w n : ℕ) (xs : List ℕ) → length xs < n * w → turnedRun w n xs ≡ []
+unfolding turnedRun
+run-missing w n xs h = simp lt-leb

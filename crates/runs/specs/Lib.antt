@@ -1,0 +1,4 @@
+pub mod Number
+pub mod Storing
+pub mod Length
+pub mod Turned
