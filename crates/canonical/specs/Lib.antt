@@ -1,2 +1,4 @@
 pub mod Recording
 pub mod Canonical
+pub mod Write
+pub mod Parts

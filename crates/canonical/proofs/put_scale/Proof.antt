@@ -1,0 +1,86 @@
+-- Tag, length, unit, exponent and mantissa, one after the other.
+use Rattle.canonical.proofs.Puts.{put-as, widened, put-two, put-more, scale-is, unsigned-is}
+use Rattle.canonical.specs.Parts.{unsignedBy}
+use mathlib.Core.List.{List, [], _∷_, _++_}
+use Prim.Native.Nat.{ℕ}
+use mathlib.Core.Path.{_≡_, ap, sym, subst, _∙_}
+use native.Mathlib.Omega.{arith}
+use borrow.Author.Needs.{needs}
+use lib.IntN.{ℤ}
+use lib.ListN.{length, length-append}
+use lib.Signed.{mag}
+use mir.Syntax.{w8, w32, w64}
+use mir.Val.{SFits, toZ, ofZ}
+use mir.Facts.{toZ-ofZ, sfits-widen}
+use Rattle.runs.specs.Number.{be, length-be}
+use Rattle.runs.specs.Storing.{Put}
+use Rattle.canonical.proofs.put_scale.Statement.{statement}
+use Rattle.canonical.proofs.put_scale.Tie as tie
+use Rattle.canonical.proofs.put_scale.Reads as reads
+use Rattle.canonical.proofs.put_scale.Lts as lts
+use Rattle.canonical.proofs.unsigned.Reads as unsigned-reads
+use Rattle.runs.proofs.put_number.Reads as put-number-reads
+use Rattle.runs.proofs.put_octet.Reads as put-octet-reads
+use Rattle.runs.proofs.put_two.Reads as put-two-reads
+
+in8 : (c : tie.After-struct-told) → SFits w8 (c .before .before .before .args .x .exponent)
+in8 c = search needs
+
+in32 : (c : tie.After-struct-told2) → SFits w32 (c .before .before .before .before .before .before .args .x .mantissa)
+in32 c = search needs
+
+
+-- src/lib.rt:45:29
+cast-unsigned : tie.Need-cast-unsigned
+cast-unsigned c = rw (toZ-ofZ (in8 c)) (sfits-widen tt (in8 c))
+
+-- src/lib.rt:45:9
+unsigned-requires : tie.Need-unsigned-requires
+unsigned-requires c κs = rw (widened tt (in8 c)) (omega (arith, in8 c .sfits))
+
+-- src/lib.rt:46:29
+cast-unsigned-2 : tie.Need-cast-unsigned-2
+cast-unsigned-2 c = rw (toZ-ofZ (in32 c)) (sfits-widen tt (in32 c))
+
+-- src/lib.rt:46:9
+unsigned-requires-2 : tie.Need-unsigned-requires-2
+unsigned-requires-2 c κs = rw (widened tt (in32 c)) (omega (arith, in32 c .sfits))
+
+-- src/lib.rt:47:9
+put-two-requires : tie.Need-put-two-requires
+put-two-requires c κs = search needs
+
+-- src/lib.rt:48:9
+put-octet-requires : tie.Need-put-octet-requires
+put-octet-requires c κs = search needs
+
+-- src/lib.rt:49:9
+put-number-requires : tie.Need-put-number-requires
+put-number-requires c κs = search needs
+
+-- src/lib.rt:50:5
+put-number-requires-2 : tie.Need-put-number-requires-2
+put-number-requires-2 c κs = search needs
+
+-- src/lib.rt:41:1
+same-length : tie.Need-same-length
+same-length c = search needs
+
+-- src/lib.rt:41:1
+returns : tie.Need-returns
+returns c = put-as ((λ k. (((c .before .before .before .before .before .before .before .before .before .before .before .before .before .before .before .before .before .before .before .before .before .before .before .args .tag ∷ 6 ∷ []) ++ (c .before .before .before .before .before .before .before .before .before .before .before .before .before .before .before .before .before .before .before .before .before .before .before .args .x .unit ∷ [])) ++ be 1 ((c .before .before .before .before .before .before .before .before .before .before .before .before .before .before .before .before .before .before .before .unsigned .ensures ∙ ap (unsignedBy 256) (widened tt (in8 (c .before .before .before .before .before .before .before .before .before .before .before .before .before .before .before .before .before .before .before .before))) ∙ unsigned-is 1 _) k)) ++ be 4 ((c .before .before .before .before .before .before .before .before .before .before .before .before .before .before .before .before .unsigned2 .ensures ∙ ap (unsignedBy 4294967296) (widened tt (in32 (c .before .before .before .before .before .before .before .before .before .before .before .before .before .before .before .before .before))) ∙ unsigned-is 4 _) k)) ∙ sym (scale-is _ _)) (put-more (simp (length-append, length-be) (omega (arith, c .before .before .before .before .before .before .before .before .before .before .before .before .before .before .before .before .before .before .before .before .before .before .before .pre))) (put-more (simp (length-append, length-be) (omega (arith, c .before .before .before .before .before .before .before .before .before .before .before .before .before .before .before .before .before .before .before .before .before .before .before .pre))) (put-two (omega (arith, c .before .before .before .before .before .before .before .before .before .before .before .before .before .before .before .before .before .before .before .before .before .before .before .pre)) (c .before .before .before .before .before .before .before .before .before .before .before .before .before .before .put-two .ensures) (c .before .before .before .before .before .before .before .before .before .before .put-octet .ensures)) (c .before .before .before .before .before .before .put-number .ensures)) (c .before .before .put-number2 .ensures))
+
+pub put-scale-spec : {M : Type 1} → statement M
+put-scale-spec =
+    tie.close
+    (tie.spec
+    cast-unsigned
+    unsigned-requires
+    cast-unsigned-2
+    unsigned-requires-2
+    put-two-requires
+    put-octet-requires
+    put-number-requires
+    put-number-requires-2
+    same-length
+    returns)

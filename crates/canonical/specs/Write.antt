@@ -1,0 +1,40 @@
+-- What the canonical writer answers and what it leaves in the buffer (document 01, "What comes back when it is no" and "The canonical file").
+use mathlib.Core.List.{List, _++_}
+use mathlib.Core.Bool.{Bool}
+use Prim.Native.Nat.{ℕ}
+use lib.Dec.{leb}
+use lib.ListN.{length, drop}
+use Rattle.octets.specs.Pick.{pick, both}
+use Rattle.items.specs.Refusals.{bufferShort}
+use Rattle.items.specs.Walk.{refusal}
+use Rattle.reader.specs.Framing.{octetsLimit}
+use Rattle.reader.specs.Verdict.{Verdict, accepted, refused, verdict}
+use Rattle.canonical.specs.declared.Written.{Written}
+use Rattle.canonical.specs.Recording.{recording}
+use Rattle.canonical.specs.Canonical.{canonical}
+
+-- The canonical file is no longer than the output buffer, nor than 15's limit.
+unfoldable pub fits : List ℕ → List ℕ → Bool
+fits octets buffer = both (leb (length octets) (length buffer)) (leb (length octets) octetsLimit)
+
+-- The file's own refusal; else 23 where the canonical file does not fit; else its length.
+unfoldable pub writtenIn : List ℕ → Verdict → Written
+writtenIn buffer (refused r) = Written.Refused r
+writtenIn buffer (accepted fs) =
+    let octets = canonical (recording fs) in
+    pick (fits octets buffer) (Written.Octets (length octets)) (Written.Refused (refusal bufferShort 0))
+
+-- A refusal changes no octet of the buffer; on success the canonical file stands at its start, and octets past it keep what they held.
+unfoldable pub leftIn : List ℕ → Verdict → List ℕ
+leftIn buffer (refused r) = buffer
+leftIn buffer (accepted fs) =
+    let octets = canonical (recording fs) in
+    pick (fits octets buffer) (octets ++ drop (length octets) buffer) buffer
+
+-- The answer for a file and a buffer.
+unfoldable pub writtenOf : List ℕ → List ℕ → Written
+writtenOf s buffer = writtenIn buffer (verdict s)
+
+-- The buffer afterwards.
+unfoldable pub leftOf : List ℕ → List ℕ → List ℕ
+leftOf s buffer = leftIn buffer (verdict s)

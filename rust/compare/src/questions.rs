@@ -1,0 +1,257 @@
+//! The questions on one file, and what the proved library has to answer by the second program.
+
+use mfer::ffi::{self, Checked, Described, Filled, Sampled};
+use second::reader::{self, Attributes, Refusal, Value};
+use second::writer;
+use std::fmt::Debug;
+
+/// What buffers hold before a question.
+const OCTET: u8 = 0xA5;
+const PATTERN: u64 = 0xA5A5_A5A5_A5A5_A5A5;
+
+/// The most samples that are read in one go.
+const BULK: u64 = 5_000;
+
+/// The first difference between the two programs on this file, if there is one.
+pub fn difference(file: &[u8]) -> Option<String> {
+    ask(file).err()
+}
+
+/// Goes on while the two agree; the error says on what they do not.
+type Agreed = Result<(), String>;
+
+fn same<T: PartialEq + Debug>(question: impl FnOnce() -> String, proved: T, second: T) -> Agreed {
+    match proved == second {
+        true => Ok(()),
+        false => Err(format!(
+            "{}\n  proved {proved:?}\n  second {second:?}",
+            question()
+        )),
+    }
+}
+
+fn ask(file: &[u8]) -> Agreed {
+    let checked = reader::check(file);
+    same(
+        || "check".into(),
+        ffi::check(file),
+        expected_check(&checked),
+    )?;
+    ask_canonical(file, checked.unwrap_or(0))?;
+    let Ok(frames) = checked else {
+        ask_channel(file, 0, 0)?;
+        return ask_channel(file, u32::MAX, u32::MAX);
+    };
+    for frame in numbers(frames.into()) {
+        let frame = frame as u32;
+        let channels = reader::attributes(file, frame, 0).map_or(0, |read| read.channels);
+        for channel in numbers(channels.into()) {
+            ask_channel(file, frame, channel as u32)?;
+        }
+    }
+    Ok(())
+}
+
+/// Some numbers below `count`, the ends among them, then some that are not below it.
+fn numbers(count: u64) -> Vec<u64> {
+    let mut numbers = vec![0, 1, count / 2, count.saturating_sub(1)];
+    numbers.extend([count, count + 1, u32::MAX.into()]);
+    numbers.sort();
+    numbers.dedup();
+    numbers
+}
+
+/// Attributes and samples of one channel.
+fn ask_channel(file: &[u8], frame: u32, channel: u32) -> Agreed {
+    let read = reader::attributes(file, frame, channel);
+    same(
+        || format!("attributes of frame {frame}, channel {channel}"),
+        ffi::attributes(file, frame, channel),
+        expected_attributes(&read),
+    )?;
+    let Ok(read) = read else {
+        ask_sample(file, frame, channel, 0)?;
+        ask_sample(file, frame, channel, u64::MAX)?;
+        ask_samples(file, frame, channel, 0, 0)?;
+        return ask_samples(file, frame, channel, u64::MAX, 2);
+    };
+    let block = u64::from(read.block);
+    let count = block * u64::from(read.sequences);
+    let mut asked = numbers(count);
+    asked.extend([block - 1, block, 1 << 32, u64::MAX]);
+    for number in asked {
+        ask_sample(file, frame, channel, number)?;
+    }
+    let bulks = [
+        (0, count.min(BULK)),
+        (0, 0),
+        (1, 3),
+        (block, count.min(BULK) + 3),
+        (count / 2, block.min(BULK)),
+        (count.saturating_sub(1), 2),
+        (count, 2),
+        (u64::MAX, 1),
+    ];
+    for (first, room) in bulks {
+        ask_samples(file, frame, channel, first, room as usize)?;
+    }
+    Ok(())
+}
+
+fn ask_sample(file: &[u8], frame: u32, channel: u32, number: u64) -> Agreed {
+    let sampled = reader::sample(file, frame, channel, number);
+    let mut bits = [0];
+    if sampled.is_ok() {
+        let count = reader::samples(file, frame, channel, number, &mut bits);
+        same(|| "the second program's bits".into(), count, Ok(1))?;
+    }
+    same(
+        || format!("sample {number} of frame {frame}, channel {channel}"),
+        ffi::sample(file, frame, channel, number),
+        expected_sample(&sampled, bits[0]),
+    )
+}
+
+fn ask_samples(file: &[u8], frame: u32, channel: u32, first: u64, room: usize) -> Agreed {
+    let (mut proved, mut second) = (vec![PATTERN; room], vec![PATTERN; room]);
+    let answer = ffi::samples(file, frame, channel, first, &mut proved);
+    let expected = reader::samples(file, frame, channel, first, &mut second);
+    let question =
+        || format!("samples from {first}, room for {room}, of frame {frame}, channel {channel}");
+    same(question, answer, expected_count(&expected))?;
+    same(question, proved, second)
+}
+
+/// The canonical file in buffers that are too short, exact and longer.
+fn ask_canonical(file: &[u8], frames: u32) -> Agreed {
+    let length = match second_canonical(file) {
+        Ok(canonical) => {
+            let written = ffi::check(&canonical);
+            let expected = expected_check(&Ok(frames));
+            same(|| "check of the canonical file".into(), written, expected)?;
+            canonical.len()
+        }
+        Err(_) => 70,
+    };
+    for room in [0, length.saturating_sub(1), length, length + 9] {
+        let (mut proved, mut second) = (vec![OCTET; room], vec![OCTET; room]);
+        let answer = ffi::canonical(file, &mut proved);
+        let expected = writer::canonical(file, &mut second);
+        let question = || format!("canonical, room for {room}");
+        same(question, answer, expected_count(&expected))?;
+        same(question, proved, second)?;
+    }
+    Ok(())
+}
+
+/// The second program's canonical file, in a buffer that is found long enough.
+fn second_canonical(file: &[u8]) -> Result<Vec<u8>, Refusal> {
+    let mut room = 2 * file.len() + 300;
+    loop {
+        let mut out = vec![0; room];
+        match writer::canonical(file, &mut out) {
+            Ok(length) => {
+                out.truncate(length);
+                return Ok(out);
+            }
+            Err(refusal) if refusal.number == Refusal::NO_ROOM => room *= 4,
+            Err(refusal) => return Err(refusal),
+        }
+    }
+}
+
+fn expected_check(answer: &Result<u32, Refusal>) -> Checked {
+    match *answer {
+        Ok(frames) => Checked {
+            number: 0,
+            frames: frames.into(),
+            place: 0,
+        },
+        Err(Refusal { number, place }) => Checked {
+            number: number.into(),
+            frames: 0,
+            place,
+        },
+    }
+}
+
+fn expected_count(answer: &Result<usize, Refusal>) -> Filled {
+    match *answer {
+        Ok(count) => Filled {
+            number: 0,
+            count: count as u64,
+            place: 0,
+        },
+        Err(Refusal { number, place }) => Filled {
+            number: number.into(),
+            count: 0,
+            place,
+        },
+    }
+}
+
+fn expected_attributes(answer: &Result<Attributes, Refusal>) -> Described {
+    match answer {
+        Ok(read) => {
+            let width = [2, 2, 4, 1, 2, 1, 4, 4, 8][usize::from(read.kind)];
+            let null_width = if read.null.is_some() { width } else { 0 };
+            Described {
+                number: 0,
+                numbers: [
+                    read.start.into(),
+                    read.channels.into(),
+                    read.sequences.into(),
+                    read.block.into(),
+                    read.class.into(),
+                    read.lead.into(),
+                    read.kind.into(),
+                    read.interval.unit.into(),
+                    read.interval.exponent.into(),
+                    read.interval.mantissa.into(),
+                    read.resolution.unit.into(),
+                    read.resolution.exponent.into(),
+                    read.resolution.mantissa.into(),
+                    width,
+                    null_width,
+                ],
+                bits: [read.offset, read.null.unwrap_or(0)],
+                place: 0,
+            }
+        }
+        Err(Refusal { number, place }) => Described {
+            number: (*number).into(),
+            numbers: [0; ffi::NUMBERS],
+            bits: [0; 2],
+            place: *place,
+        },
+    }
+}
+
+fn expected_sample(answer: &Result<(u64, Value), Refusal>, bits: u64) -> Sampled {
+    match *answer {
+        Ok((place, value)) => {
+            let (kind, whole) = match value {
+                Value::Whole(whole) => (0, whole),
+                Value::Status(_) => (1, 0),
+                Value::Single(_) => (2, 0),
+                Value::Double(_) => (3, 0),
+                Value::NotNumber(_) => (4, 0),
+                Value::Null => (5, 0),
+            };
+            Sampled {
+                number: 0,
+                place,
+                kind,
+                whole,
+                bits,
+            }
+        }
+        Err(Refusal { number, place }) => Sampled {
+            number: number.into(),
+            place,
+            kind: 0,
+            whole: 0,
+            bits: 0,
+        },
+    }
+}

@@ -1,0 +1,168 @@
+//! The limits of document 01: the last that is allowed and the first that is not.
+
+use compare::papers::{octets, P3};
+use compare::{all_same, difference};
+use mfer::{ffi, File, Refusal};
+use std::env;
+
+fn check(octets: &[u8]) -> Result<u32, (u32, u64)> {
+    let answer = File::new(octets).check();
+    answer.map_err(|refusal| (refusal.number, refusal.place))
+}
+
+/// Both programs on the files that the hexadecimal lines stand for.
+fn same_on(lines: &[&str]) {
+    let make = |number| octets(lines[number as usize]);
+    if let Err(failure) = all_same(0, lines.len() as u64, make) {
+        panic!("{failure}");
+    }
+}
+
+#[test]
+fn channels_256_and_257() {
+    assert_eq!(check(&octets("05 02 01 00 1E 00")), Ok(1));
+    assert_eq!(check(&octets("05 02 01 01 1E 00")), Err((7, 0)));
+    same_on(&["05 02 01 00 1E 00", "05 02 01 01 1E 00", "05 01 00"]);
+    // 256 channels of one octet each, twice over.
+    let mut file = octets("05 02 01 00 0A 01 03 3F 81 7F 03 0A 01 05 1E 82 02 00");
+    file.extend((0..=255).chain(0..=255).collect::<Vec<u8>>());
+    assert_eq!(check(&file), Ok(1));
+    let last = File::new(&file).sample(0, 255, 1).unwrap();
+    assert_eq!((last.place, last.bits), (18 + 511, 255));
+    assert_eq!(difference(&file), None);
+}
+
+#[test]
+fn frames_4096_and_4097() {
+    let frames = octets(P3).repeat(4096);
+    assert_eq!(check(&frames), Ok(4096));
+    assert_eq!(difference(&frames), None);
+    let written = File::new(&frames).canonical_vec().unwrap();
+    assert_eq!(written.len(), 3 + 4096 * 58);
+    let more = octets(P3).repeat(4097);
+    assert_eq!(check(&more), Err((11, 8192)));
+    assert_eq!(difference(&more), None);
+    // 11 comes before what else the frame would be refused for.
+    let mut more = octets(P3).repeat(4096);
+    more.extend(octets("06 01 09 0D 01 01 1E 00"));
+    assert_eq!(check(&more), Err((11, 8192 + 6)));
+}
+
+#[test]
+fn blocks_of_1048576() {
+    let mut file = octets("04 03 10 00 00 0A 01 03 1E 83 10 00 02");
+    file.resize(file.len() + 1_048_578, 7);
+    assert_eq!(check(&file), Ok(1));
+    let attributes = File::new(&file).attributes(0, 0).unwrap();
+    assert_eq!((attributes.block, attributes.sequences), (1_048_576, 1));
+    assert_eq!(difference(&file), None);
+    assert_eq!(check(&octets("04 03 10 00 01")), Err((7, 0)));
+    same_on(&["04 03 10 00 01", "04 04 00 10 00 00 1E 00", "04 01 00"]);
+}
+
+#[test]
+fn sequences_4294967295() {
+    // One octet a sequence, and at the other end 2^31 octets a sequence: the sum is below 2^63.
+    let small = "06 04 FF FF FF FF 0A 01 03 1E 01 00";
+    let large = "05 02 01 00 04 03 10 00 00 0A 01 08 06 04 FF FF FF FF 1E 01 00";
+    assert_eq!(check(&octets(small)), Err((14, 9)));
+    assert_eq!(check(&octets(large)), Err((14, 18)));
+    same_on(&[small, large, "06 04 00 00 00 00 1E 00", "06 04 FF FF FF FF"]);
+    assert_eq!(check(&octets("06 04 FF FF FF FF")), Ok(0));
+}
+
+#[test]
+fn start_pointers_at_both_ends() {
+    same_on(&[
+        "07 04 7F FF FF FF 1E 00 1E 00",
+        "07 04 7F FF FF FF 1E 02 00 00 1E 00",
+        "07 04 80 00 00 00 1E 02 00 00 1E 00",
+        "04 03 10 00 00 05 01 01 3F 00 03 04 01 01 07 04 7F F0 00 00 1E 02 00 00 1E 00",
+        "04 03 10 00 00 05 01 01 3F 00 03 04 01 01 07 04 7F EF FF FF 1E 02 00 00 1E 00",
+    ]);
+}
+
+/// Files of up to 4 GiB, in zeroed memory of which few pages are touched but for one file that is
+/// written out. MFER_SKIP_LARGE skips it.
+#[test]
+fn files_of_2147483647_octets_and_one_more() {
+    if env::var_os("MFER_SKIP_LARGE").is_some() {
+        println!("skipped: MFER_SKIP_LARGE is set");
+        return;
+    }
+    const LIMIT: usize = 2_147_483_647;
+    one_frame_of_the_whole_file(LIMIT);
+    longer_files_are_refused(LIMIT);
+    the_longest_canonical_file(LIMIT);
+}
+
+fn one_frame_of_the_whole_file(limit: usize) {
+    let mut file = vec![0; limit];
+    file[..6].copy_from_slice(&octets("1E 84 7F FF FF F9"));
+    file[limit - 2] = 0x12;
+    assert_eq!(check(&file), Ok(1));
+    let samples = (limit as u64 - 6) / 2;
+    let attributes = File::new(&file).attributes(0, 0).unwrap();
+    assert_eq!(attributes.samples(), samples);
+    let last = File::new(&file).sample(0, 0, samples - 1).unwrap();
+    assert_eq!((last.place, last.bits), (limit as u64 - 3, 0x0012));
+    let mut bits = [9; 3];
+    let count = File::new(&file).samples(0, 0, samples - 2, &mut bits);
+    assert_eq!((count, bits), (Ok(2), [0, 0x0012, 9]));
+    // The canonical file would have 62 octets more.
+    let mut out = vec![0; limit + 100];
+    let answer = ffi::canonical(&file, &mut out);
+    assert_eq!((answer.number, answer.count), (Refusal::NO_ROOM, 0));
+    // A length that goes one past the file.
+    file[5] = 0xFA;
+    assert_eq!(check(&file), Err((3, 0)));
+    // Nothing but items of two zero octets, and a last tag without a length.
+    file[..6].fill(0);
+    file[limit - 2] = 0;
+    assert_eq!(check(&file), Err((3, limit as u64 - 1)));
+}
+
+fn longer_files_are_refused(limit: usize) {
+    for length in [limit + 1, limit + 2, (1 << 32) + 2] {
+        let mut file = vec![0; length];
+        file[..2].copy_from_slice(&octets(P3));
+        let file = File::new(&file);
+        let refusal = Refusal {
+            number: 15,
+            place: 0,
+        };
+        assert_eq!(file.check(), Err(refusal));
+        assert_eq!(file.attributes(0, 0), Err(refusal));
+        assert_eq!(file.sample(0, 0, 0), Err(refusal));
+        assert_eq!(file.samples(0, 0, 0, &mut [0]), Err(refusal));
+        let mut out = [0xA5; 100];
+        assert_eq!(file.canonical(&mut out), Err(refusal));
+        assert_eq!(out, [0xA5; 100]);
+    }
+}
+
+fn the_longest_canonical_file(limit: usize) {
+    // One channel of one octet: 68 octets come before the samples.
+    let samples = limit - 68;
+    let mut file = octets("0A 01 03 1E 84");
+    file.extend((samples as u32).to_be_bytes());
+    let header = file.len();
+    let mut whole = vec![0; header + samples + 1];
+    whole[..header].copy_from_slice(&file);
+    *whole.last_mut().unwrap() = 0x77;
+    let file = &mut whole[..header + samples];
+    *file.last_mut().unwrap() = 0x55;
+    let mut out = vec![0; limit + 100];
+    let answer = ffi::canonical(file, &mut out[..limit - 1]);
+    assert_eq!((answer.number, answer.count), (Refusal::NO_ROOM, 0));
+    let answer = ffi::canonical(file, &mut out);
+    assert_eq!((answer.number, answer.count), (0, limit as u64));
+    assert_eq!(out[62..64], octets("1E 84"));
+    assert_eq!(out[limit - 2..limit + 2], [0, 0x55, 0, 0]);
+    // One sample more is too many, whatever the buffer.
+    whole[5..9].copy_from_slice(&(samples as u32 + 1).to_be_bytes());
+    out.fill_with(Default::default);
+    let answer = ffi::canonical(&whole, &mut out);
+    assert_eq!((answer.number, answer.count), (Refusal::NO_ROOM, 0));
+    assert!(out.iter().all(|octet| *octet == 0));
+}

@@ -1,0 +1,220 @@
+//! The C functions, each behind a safe one that hands back the refusal's number and every output.
+//!
+//! This is the only module with unsafe code. What makes each call sound: a slice is passed as its
+//! pointer and its own length, every output is a place that this module owns, and the library keeps
+//! no pointer and has no state.
+#![allow(unsafe_code)]
+
+/// How many numbers the attributes of a channel are.
+pub const NUMBERS: usize = 15;
+
+extern "C" {
+    fn mfer_check(file: *const u8, file_len: usize, frames: *mut u64, place: *mut u64) -> u32;
+
+    fn mfer_attributes(
+        file: *const u8,
+        file_len: usize,
+        frame: u32,
+        channel: u32,
+        numbers: *mut [i64; NUMBERS],
+        bits: *mut [u64; 2],
+        place: *mut u64,
+    ) -> u32;
+
+    fn mfer_sample(
+        file: *const u8,
+        file_len: usize,
+        frame: u32,
+        channel: u32,
+        number: u64,
+        place: *mut u64,
+        kind: *mut u32,
+        whole: *mut i64,
+        bits: *mut u64,
+    ) -> u32;
+
+    fn mfer_samples(
+        file: *const u8,
+        file_len: usize,
+        frame: u32,
+        channel: u32,
+        first: u64,
+        out: *mut u64,
+        out_len: usize,
+        count: *mut u64,
+        place: *mut u64,
+    ) -> u32;
+
+    fn mfer_canonical(
+        file: *const u8,
+        file_len: usize,
+        out: *mut u8,
+        out_len: usize,
+        written: *mut u64,
+        place: *mut u64,
+    ) -> u32;
+}
+
+/// What outputs hold before a call, so that one the library left alone would show.
+const UNSET: u64 = 0xA5A5_A5A5_A5A5_A5A5;
+
+/// What `mfer_check` answers.
+#[derive(Clone, Copy, PartialEq, Eq, Debug)]
+pub struct Checked {
+    /// The refusal's number, 0 for none.
+    pub number: u32,
+    /// How many frames the file has.
+    pub frames: u64,
+    /// The refusal's place.
+    pub place: u64,
+}
+
+/// Asks `mfer_check`.
+pub fn check(file: &[u8]) -> Checked {
+    let (mut frames, mut place) = (UNSET, UNSET);
+    // SAFETY: see the module's first lines.
+    let number = unsafe { mfer_check(file.as_ptr(), file.len(), &mut frames, &mut place) };
+    Checked {
+        number,
+        frames,
+        place,
+    }
+}
+
+/// What `mfer_attributes` answers.
+#[derive(Clone, Copy, PartialEq, Eq, Debug)]
+pub struct Described {
+    /// The refusal's number, 0 for none.
+    pub number: u32,
+    /// Start, channels, sequences, block, class, lead, type; unit, exponent and mantissa of the
+    /// interval, then of the resolution; sample width, null width.
+    pub numbers: [i64; NUMBERS],
+    /// Offset bits, null bits.
+    pub bits: [u64; 2],
+    /// The refusal's place.
+    pub place: u64,
+}
+
+/// Asks `mfer_attributes`.
+pub fn attributes(file: &[u8], frame: u32, channel: u32) -> Described {
+    let mut numbers = [UNSET as i64; NUMBERS];
+    let mut bits = [UNSET; 2];
+    let mut place = UNSET;
+    // SAFETY: see the module's first lines.
+    let number = unsafe {
+        mfer_attributes(
+            file.as_ptr(),
+            file.len(),
+            frame,
+            channel,
+            &mut numbers,
+            &mut bits,
+            &mut place,
+        )
+    };
+    Described {
+        number,
+        numbers,
+        bits,
+        place,
+    }
+}
+
+/// What `mfer_sample` answers.
+#[derive(Clone, Copy, PartialEq, Eq, Debug)]
+pub struct Sampled {
+    /// The refusal's number, 0 for none.
+    pub number: u32,
+    /// The sample's place, or the refusal's.
+    pub place: u64,
+    /// 0 whole, 1 status, 2 single, 3 double, 4 not-a-number, 5 null.
+    pub kind: u32,
+    /// The value of kind 0.
+    pub whole: i64,
+    /// The sample's bits.
+    pub bits: u64,
+}
+
+/// Asks `mfer_sample`.
+pub fn sample(file: &[u8], frame: u32, channel: u32, number: u64) -> Sampled {
+    let (mut place, mut bits) = (UNSET, UNSET);
+    let mut kind = UNSET as u32;
+    let mut whole = UNSET as i64;
+    // SAFETY: see the module's first lines.
+    let number = unsafe {
+        mfer_sample(
+            file.as_ptr(),
+            file.len(),
+            frame,
+            channel,
+            number,
+            &mut place,
+            &mut kind,
+            &mut whole,
+            &mut bits,
+        )
+    };
+    Sampled {
+        number,
+        place,
+        kind,
+        whole,
+        bits,
+    }
+}
+
+/// What `mfer_samples` and `mfer_canonical` answer, but for the buffer.
+#[derive(Clone, Copy, PartialEq, Eq, Debug)]
+pub struct Filled {
+    /// The refusal's number, 0 for none.
+    pub number: u32,
+    /// How many samples or octets were written to the buffer.
+    pub count: u64,
+    /// The refusal's place.
+    pub place: u64,
+}
+
+/// Asks `mfer_samples`.
+pub fn samples(file: &[u8], frame: u32, channel: u32, first: u64, out: &mut [u64]) -> Filled {
+    let (mut count, mut place) = (UNSET, UNSET);
+    // SAFETY: see the module's first lines.
+    let number = unsafe {
+        mfer_samples(
+            file.as_ptr(),
+            file.len(),
+            frame,
+            channel,
+            first,
+            out.as_mut_ptr(),
+            out.len(),
+            &mut count,
+            &mut place,
+        )
+    };
+    Filled {
+        number,
+        count,
+        place,
+    }
+}
+
+/// Asks `mfer_canonical`.
+pub fn canonical(file: &[u8], out: &mut [u8]) -> Filled {
+    let (mut count, mut place) = (UNSET, UNSET);
+    // SAFETY: see the module's first lines.
+    let number = unsafe {
+        mfer_canonical(
+            file.as_ptr(),
+            file.len(),
+            out.as_mut_ptr(),
+            out.len(),
+            &mut count,
+            &mut place,
+        )
+    };
+    Filled {
+        number,
+        count,
+        place,
+    }
+}

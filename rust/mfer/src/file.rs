@@ -1,0 +1,130 @@
+//! A file and the questions it can be asked.
+#![forbid(unsafe_code)]
+
+use crate::attributes::Attributes;
+use crate::ffi;
+use crate::iterators::{Channel, Frame, Frames};
+use crate::refusal::Refusal;
+use crate::value::Sample;
+
+/// The octets of a file. Any octets will do: what is no MFER file is refused when it is asked.
+#[derive(Clone, Copy, Debug)]
+pub struct File<'a>(&'a [u8]);
+
+impl<'a> File<'a> {
+    /// The most octets a file may have.
+    pub const LIMIT: u64 = 2_147_483_647;
+
+    /// The file of these octets.
+    pub const fn new(octets: &'a [u8]) -> File<'a> {
+        File(octets)
+    }
+
+    /// The file's octets.
+    pub const fn octets(&self) -> &'a [u8] {
+        self.0
+    }
+
+    /// Checks the file and counts its frames.
+    ///
+    /// ```
+    /// use mfer::{File, Refusal};
+    ///
+    /// assert_eq!(File::new(&[]).check(), Ok(0));
+    /// assert_eq!(File::new(&[0x1E, 0x00]).check(), Ok(1));
+    /// let refusal = Refusal { number: Refusal::LENGTH_OCTET, place: 0 };
+    /// assert_eq!(File::new(&[0x0A, 0x80]).check(), Err(refusal));
+    /// ```
+    pub fn check(&self) -> Result<u32, Refusal> {
+        let checked = ffi::check(self.0);
+        Refusal::or(checked.number, checked.place, checked.frames as u32)
+    }
+
+    /// The attributes of a channel in a frame.
+    pub fn attributes(&self, frame: u32, channel: u32) -> Result<Attributes, Refusal> {
+        let described = ffi::attributes(self.0, frame, channel);
+        Refusal::or(described.number, described.place, ())?;
+        Ok(Attributes::of(&described))
+    }
+
+    /// The place, bits and value of a sample.
+    ///
+    /// ```
+    /// use mfer::{File, Value};
+    ///
+    /// let sample = File::new(&[0x1E, 0x02, 0x00, 0x05]).sample(0, 0, 0)?;
+    /// assert_eq!((sample.place, sample.value), (2, Value::Whole(5)));
+    /// # Ok::<(), mfer::Refusal>(())
+    /// ```
+    pub fn sample(&self, frame: u32, channel: u32, number: u64) -> Result<Sample, Refusal> {
+        let sampled = ffi::sample(self.0, frame, channel, number);
+        Refusal::or(sampled.number, sampled.place, ())?;
+        Ok(Sample::of(&sampled))
+    }
+
+    /// Fills `out` with the bits of consecutive samples from `first` on, as many as fit or there
+    /// are, and answers how many; the rest of `out` keeps what it held. Bits are not sign extended.
+    pub fn samples(
+        &self,
+        frame: u32,
+        channel: u32,
+        first: u64,
+        out: &mut [u64],
+    ) -> Result<usize, Refusal> {
+        let filled = ffi::samples(self.0, frame, channel, first, out);
+        Refusal::or(filled.number, filled.place, filled.count as usize)
+    }
+
+    /// Writes the canonical file to the start of `out` and answers its length. The octets past it
+    /// keep what they held; at a refusal all do.
+    ///
+    /// ```
+    /// use mfer::File;
+    ///
+    /// let mut out = [0xA5; 70];
+    /// let length = File::new(&[0x1E, 0x03, 0x00, 0x01, 0x02]).canonical(&mut out)?;
+    /// assert_eq!(length, 67);
+    /// assert_eq!(out[63..], [0x1E, 0x02, 0x00, 0x01, 0xA5, 0xA5, 0xA5]);
+    /// # Ok::<(), mfer::Refusal>(())
+    /// ```
+    pub fn canonical(&self, out: &mut [u8]) -> Result<usize, Refusal> {
+        let filled = ffi::canonical(self.0, out);
+        Refusal::or(filled.number, filled.place, filled.count as usize)
+    }
+
+    /// The canonical file. [`Refusal::NO_ROOM`] here says that it is longer than a file may be.
+    pub fn canonical_vec(&self) -> Result<Vec<u8>, Refusal> {
+        const LIMIT: usize = File::LIMIT as usize;
+        let mut room = (2 * self.0.len() + 1024).min(LIMIT);
+        loop {
+            let mut out = vec![0; room];
+            match self.canonical(&mut out) {
+                Ok(length) => {
+                    out.truncate(length);
+                    out.shrink_to_fit();
+                    return Ok(out);
+                }
+                Err(refusal) if refusal.number == Refusal::NO_ROOM && room < LIMIT => {
+                    room = (4 * room).min(LIMIT);
+                }
+                Err(refusal) => return Err(refusal),
+            }
+        }
+    }
+
+    /// The frames in order, if the file is accepted.
+    pub fn frames(&self) -> Result<Frames<'a>, Refusal> {
+        Ok(Frames::new(*self, self.check()?))
+    }
+
+    /// A frame.
+    pub fn frame(&self, frame: u32) -> Result<Frame<'a>, Refusal> {
+        Ok(Frame::new(*self, frame, self.attributes(frame, 0)?))
+    }
+
+    /// A channel in a frame.
+    pub fn channel(&self, frame: u32, channel: u32) -> Result<Channel<'a>, Refusal> {
+        let attributes = self.attributes(frame, channel)?;
+        Ok(Channel::new(*self, frame, channel, attributes))
+    }
+}

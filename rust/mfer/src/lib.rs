@@ -1,0 +1,50 @@
+//! Reads medical waveform files in the MFER format and writes them in canonical form.
+//!
+//! Everything is answered by a proved library with a C interface; this crate makes its answers
+//! Rust's. A [`File`] is octets in memory. A question on it answers a `Result`, whose error is a
+//! [`Refusal`]: a number, and the offset of the item that earned it.
+//!
+//! ```
+//! use mfer::{File, Value};
+//!
+//! // Two channels, little-endian: two samples in each block of channel 0, one of channel 1.
+//! let octets = [
+//!     0x01, 0x01, 0x01, 0x04, 0x01, 0x02, 0x05, 0x01, 0x02, 0x3F, 0x01, 0x03, 0x04, 0x01, 0x01,
+//!     0x1E, 0x06, 0x01, 0x00, 0x02, 0x00, 0xFF, 0xFF,
+//! ];
+//! let file = File::new(&octets);
+//! assert_eq!(file.check()?, 1);
+//! for frame in file.frames()? {
+//!     for channel in frame?.channels() {
+//!         let values: Result<Vec<Value>, _> = channel?.values().collect();
+//!         println!("{:?}", values?);
+//!     }
+//! }
+//! # let channel = file.channel(0, 0)?;
+//! # let values: Vec<Value> = channel.values().map(Result::unwrap).collect();
+//! # assert_eq!(values, [Value::Whole(1), Value::Whole(2)]);
+//! # Ok::<(), mfer::Refusal>(())
+//! ```
+//!
+//! # What a question costs
+//!
+//! Each question goes through the file's items once, whatever it asks for, and steps over the
+//! waveforms. Where many frames are asked for many things, [`Recording`] asks each frame alone.
+#![deny(unsafe_code)]
+#![warn(missing_docs)]
+
+pub mod ffi;
+
+mod attributes;
+mod file;
+mod iterators;
+mod recording;
+mod refusal;
+mod value;
+
+pub use attributes::{Attributes, DataType, Scale};
+pub use file::File;
+pub use iterators::{Bits, Channel, Channels, Frame, Frames, Values};
+pub use recording::Recording;
+pub use refusal::Refusal;
+pub use value::{Sample, Value};
