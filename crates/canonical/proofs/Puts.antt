@@ -27,10 +27,11 @@ use Rattle.values.proofs.Laws.{width-le}
 use Rattle.settings.specs.declared.Scale.{Scale}
 use Rattle.settings.specs.declared.Settings.{Settings}
 use Rattle.layout.specs.Frame.{widthIn}
-use Rattle.layout.specs.Size.{channelSize, nullSize, contentSize, groupSize}
+use Rattle.layout.specs.Size.{channelSize, nullSize, contentSize}
 use Rattle.reader.specs.Answer.{offsetBits}
 use Rattle.canonical.specs.Recording.{settled}
-use Rattle.canonical.specs.Canonical.{item, numberItem, unsignedOf, channelOctets, scaleItem, nullItem, groupItems, groupOctets}
+use Rattle.canonical.specs.Canonical.{item, numberItem, unsignedOf, channelOctets, scaleItem, nullItem, groupItems, groupOctets, sequencesItem}
+use Rattle.canonical.proofs.Octets.{content-long}
 use Rattle.canonical.specs.Parts.{unsignedBy, firstItems, scaleItems, lastItems}
 
 -- ---- one store after another
@@ -103,9 +104,6 @@ items-is c =
     let h : 1 < 128 = omega arith in
     simp (field-is, null-is c, append-assoc)
 
-pub length-items : (c : Settings) → length (groupItems (settled c)) ≡ contentSize c
-length-items c = ap length (items-is c) ∙ simp (length-append, length-field, length-scale) (omega arith)
-
 pub length-channel : (k : ℕ) → length (channelOctets k) ≡ channelSize k
 unfolding channelOctets
 length-channel k =
@@ -116,12 +114,8 @@ pub group-is : (k : ℕ) (c : Settings) → groupOctets k (settled c) ≡ (((0x3
 unfolding groupOctets
 group-is k c =
     let h : contentSize c < 128 = omega (arith, width-le (c .kind), null-narrow c) in
-    let e : shortest (length (groupItems (settled c))) ≡ contentSize c ∷ [] = ap shortest (length-items c) ∙ shortest-short (contentSize c) h in
+    let e : shortest (length (groupItems (settled c))) ≡ contentSize c ∷ [] = ap shortest (content-long c) ∙ shortest-short (contentSize c) h in
     ap (λ (l : List ℕ). 0x3F ∷ (channelOctets k ++ (l ++ groupItems (settled c)))) e ∙ simp append-assoc
-
-pub length-group : (k : ℕ) (c : Settings) → length (groupOctets k (settled c)) ≡ groupSize k c
-unfolding groupSize
-length-group k c = ap length (group-is k c) ∙ simp (length-append, length-channel, length-items) (omega arith)
 
 -- ---- signed numbers
 
@@ -158,3 +152,13 @@ put-as {d} {e} {at = at} {r = r} p q = subst (λ (l : List ℕ). Put d at l r e)
 
 pub channel-some : (k : ℕ) → (1 ≤ channelSize k) × (channelSize k ≤ 2)
 channel-some k = pick-cases (λ (n : ℕ). (1 ≤ n) × (n ≤ 2)) (ltb k 128) (λ _. omega arith) (λ _. omega arith)
+
+none-few : length (item 0x06 []) ≤ 6
+unfolding item shortest
+none-few = omega arith
+
+pub sequences-few : (n : ℕ) → length (sequencesItem n) ≤ 6
+unfolding sequencesItem
+sequences-few n =
+    pick-cases (λ (l : List ℕ). length l ≤ 6) (eqb n 0) (λ _. none-few)
+    (λ _. omega (arith, ap length (field-is 6 4 n (omega arith)), length-field 6 4 n))

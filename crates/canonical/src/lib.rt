@@ -7,16 +7,19 @@
 // Refusal comes first: the size is known from one pass over the file before the first octet is stored. Each function that stores says so by
 // `Put`: which octets, from where on, and the place behind them.
 ghost use mathlib.Core.Path.{_≡_};
+ghost use mathlib.Core.List.{map};
 ghost use Prim.Native.Nat.{_+_, _*_, _-_, suc, _≤_, _<_};
 ghost use lib.ListN.{length, take, drop};
 ghost use lib.Signed.{mag};
 ghost use Rattle.runs.specs.Storing.{Put};
-ghost use Rattle.layout.specs.Frame.{widthIn};
-ghost use Rattle.layout.specs.Size.{nullSize, contentSize, groupSize};
+ghost use Rattle.layout.specs.Frame.{widthIn, sequenceOctets};
+ghost use Rattle.laid.specs.Turned.{Even, turnedAll};
+ghost use Rattle.layout.specs.Size.{nullSize, contentSize, groupSize, groupsSize, frameSize};
 ghost use Rattle.canonical.specs.Recording.{settled};
-ghost use Rattle.canonical.specs.Canonical.{channelOctets, scaleItem, groupItems, groupOctets};
-ghost use Rattle.canonical.specs.Parts.{unsignedBy, firstItems, scaleItems, lastItems};
+ghost use Rattle.canonical.specs.Canonical.{channelOctets, scaleItem, groupItems, groupOctets, groupsOctets, sequencesItem};
+ghost use Rattle.canonical.specs.Parts.{unsignedBy, firstItems, scaleItems, lastItems, headItems, samplesTurned, frameParts};
 use items::Refusal;
+use reader::Standing;
 use settings::Scale;
 use settings::Settings;
 
@@ -135,4 +138,116 @@ fn put_group(out: &mut [u8], at: usize, k: usize, c: Settings) -> usize
     let b = put_channel(out, a, k);
     let d = runs::put_octet(out, b, n);
     put_items(out, d, c)
+}
+
+// The groups of the first `count` channels.
+fn put_groups(out: &mut [u8], at: usize, table: [Settings; 256], count: usize) -> usize
+    requires { ⌜ (count ≤ 256) × (at + groupsSize 0 (take count table) ≤ length (now out)) ⌝ }
+    ensures { λ r. ⌜ Put (now (out .entry)) at (groupsOctets 0 (map settled (take count table))) r (now (out .exit)) ⌝ }
+{
+    let mut i = 0usize;
+    let mut next = at;
+    while i < count {
+        let c = table[i];
+        next = put_group(out, next, i, c);
+        i += 1;
+    }
+    next
+}
+
+// 06 with four octets, or none for 0 sequences.
+fn put_sequences(out: &mut [u8], at: usize, sequences: u32) -> usize
+    requires { ⌜ at + 6 ≤ length (now out) ⌝ }
+    ensures { λ r. ⌜ Put (now (out .entry)) at (sequencesItem sequences) r (now (out .exit)) ⌝ }
+{
+    if sequences == 0 {
+        return runs::put_two(out, at, 0x06, 0);
+    }
+    runs::put_field(out, at, 0x06, 4, sequences as u64)
+}
+
+// 05, 06 and 07.
+fn put_head(out: &mut [u8], at: usize, count: u32, sequences: u32, start: i64) -> usize
+    requires { ⌜ (mag start < 2147483648) × (at + 18 ≤ length (now out)) ⌝ }
+    ensures { λ r. ⌜ Put (now (out .entry)) at (headItems count sequences start) r (now (out .exit)) ⌝ }
+{
+    let z = unsigned(start, 4_294_967_296);
+    let a = runs::put_field(out, at, 0x05, 4, count as u64);
+    let b = put_sequences(out, a, sequences);
+    runs::put_field(out, b, 0x07, 4, z)
+}
+
+// The width of all channels where it is one, else 0.
+fn even_width(table: [Settings; 256], count: usize) -> usize
+    requires { ⌜ count ≤ 256 ⌝ }
+    ensures { λ r. ⌜ (0 < r → Even r (take count table)) ⌝ }
+{
+    let first = table[0];
+    let v = values::width(first.kind);
+    let mut i = 0usize;
+    while i < count {
+        let c = table[i];
+        if values::width(c.kind) != v {
+            return 0;
+        }
+        i += 1;
+    }
+    v
+}
+
+// The samples of all sequences of a waveform, each turned round, block by block.
+fn put_blocks(w: &[u8], sequences: u32, table: [Settings; 256], count: usize, out: &mut [u8], at: usize) -> usize
+    requires { ⌜ (count ≤ 256) × (sequences * sequenceOctets (take count table) ≤ length (now w)) ⌝ }
+    requires { ⌜ at + sequences * sequenceOctets (take count table) ≤ length (now out) ⌝ }
+    ensures { λ r. ⌜ Put (now (out .entry)) at (turnedAll (take count table) sequences (now (w .entry))) r (now (out .exit)) ⌝ }
+{
+    let mut q = 0u32;
+    let mut place = 0usize;
+    let mut next = at;
+    while q < sequences {
+        let mut i = 0usize;
+        while i < count {
+            let c = table[i];
+            let v = values::width(c.kind);
+            next = runs::turn(w, place, c.block as usize, v, out, next);
+            place = place + c.block as usize * v;
+            i += 1;
+        }
+        q += 1;
+    }
+    next
+}
+
+// The samples of a waveform, big-endian: as they stand where their order is big or no sample has two octets, turned round in one run
+// where all have one width, else block by block.
+fn put_samples(w: &[u8], little: bool, sequences: u32, octets: usize, table: [Settings; 256], count: usize, out: &mut [u8], at: usize) -> usize
+    requires { ⌜ (0 < count) × (count ≤ 256) × (octets ≡ sequences * sequenceOctets (take count table)) ⌝ }
+    requires { ⌜ (octets ≤ length (now w)) × (at + octets ≤ length (now out)) ⌝ }
+    ensures { λ r. ⌜ Put (now (out .entry)) at (samplesTurned «little» (take count table) sequences (now (w .entry))) r (now (out .exit)) ⌝ }
+{
+    let v = even_width(table, count);
+    if !little {
+        return runs::copy(w, 0, octets, out, at);
+    }
+    if v == 1 {
+        return runs::copy(w, 0, octets, out, at);
+    }
+    if v == 0 {
+        return put_blocks(w, sequences, table, count, out, at);
+    }
+    runs::turn(w, 0, octets / v, v, out, at)
+}
+
+// A frame: 05, 06, 07, the groups, 1E and the samples.
+fn put_frame(w: &[u8], st: Standing, sequences: u32, octets: usize, table: [Settings; 256], count: u32, out: &mut [u8], at: usize) -> usize
+    requires { ⌜ (0 < count) × (count ≤ 256) × (octets ≡ sequences * sequenceOctets (take count table)) × (mag (st .start) < 2147483648) ⌝ }
+    requires { ⌜ (octets ≤ length (now w)) × (octets < 4294967296) × (at + frameSize sequences (groupsSize 0 (take count table)) octets ≤ length (now out)) ⌝ }
+    ensures { λ r. ⌜ Put (now (out .entry)) at (frameParts (st .start) sequences (take count table) count (samplesTurned (st .little) (take count table) sequences (now (w .entry)))) r (now (out .exit)) ⌝ }
+{
+    let k = count as usize;
+    let a = put_head(out, at, count, sequences, st.start);
+    let b = put_groups(out, a, table, k);
+    let c = runs::put_octet(out, b, 0x1E);
+    let d = runs::put_length(out, c, octets as u32);
+    put_samples(w, st.little, sequences, octets, table, k, out, d)
 }

@@ -100,7 +100,8 @@ pub fn all_same(
         loop {
             let start = next.fetch_add(BATCH, Ordering::Relaxed);
             for number in start..(start + BATCH).min(end) {
-                let file = make(number);
+                // Nothing lies past the file's end, so that reading there shows under valgrind.
+                let file = make(number).into_boxed_slice();
                 if difference(&file).is_some() {
                     // The others find nothing left to do.
                     next.store(end, Ordering::Relaxed);

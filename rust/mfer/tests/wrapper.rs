@@ -141,3 +141,19 @@ fn refusals_say_what_and_where() {
     };
     assert_eq!(unknown.meaning(), "unknown refusal");
 }
+
+/// The header promises it.
+#[test]
+fn a_call_needs_less_than_256_kib_of_stack() {
+    let questions = || {
+        let octets = two_channels(1000);
+        let file = File::new(&octets);
+        assert_eq!(file.check(), Ok(1));
+        assert!(file.attributes(0, 1).is_ok());
+        assert!(file.sample(0, 1, 1999).is_ok());
+        assert_eq!(file.samples(0, 1, 0, &mut [0; 10]), Ok(10));
+        assert!(file.canonical_vec().is_ok());
+    };
+    let thread = std::thread::Builder::new().stack_size(256 * 1024);
+    thread.spawn(questions).unwrap().join().unwrap();
+}

@@ -1,5 +1,5 @@
 -- Tag, channel number, length and items, one after the other.
-use Rattle.canonical.proofs.Puts.{channel-some, put-as, put-more, group-is, length-channel, length-items}
+use Rattle.canonical.proofs.Puts.{channel-some, put-as, put-more, group-is, length-channel}
 use mathlib.Core.Path.{_≡_, ap, sym, _∙_}
 use mathlib.Core.List.{List, [], _∷_, _++_}
 use native.Mathlib.Omega.{arith}

@@ -1,0 +1,238 @@
+/*
+ * mfer.h: reads medical waveform files (MFER) and writes them in canonical form.
+ *
+ * The library, libmfer.a, is for x86-64. Link it with nothing but the C library:
+ *
+ *     cc -I include viewer.c target/staticlib/libmfer.a
+ *
+ * WHAT A FILE IS
+ *
+ * A file is octets in memory, from `file` on, `file_len` of them. Any octets will do: what is no
+ * MFER file is refused. A file has frames, a frame has channels, a channel in a frame has samples;
+ * all three count from 0. A sample's place is the offset of its first octet in the file.
+ *
+ * ANSWERS AND REFUSALS
+ *
+ * Every function returns 0 where it has an answer, else the number of a refusal (MFER_..., below).
+ * Every output is set in every case:
+ *
+ *   - with an answer: as each function says; `*place` is 0 but in mfer_sample;
+ *   - at a refusal: `*place` is the refusal's place, every other output is 0, and a buffer keeps
+ *     all it held.
+ *
+ * The refusal's place is the offset of the tag of the item that earned it (for
+ * MFER_UNENDED_GROUP: of the group's tag). It is 0 for MFER_LONG_FILE and for every number from 20
+ * up, which are about no item.
+ *
+ * The whole file is checked at every question. Where it is refused, every function answers that one
+ * refusal, whatever was asked for. Only then come MFER_NO_FRAME, MFER_NO_CHANNEL and MFER_NO_SAMPLE,
+ * in that order, and MFER_NO_ROOM.
+ *
+ * POINTERS, OWNERSHIP, THREADS
+ *
+ * The caller owns all memory. The library allocates none, keeps no pointer after a call and never
+ * writes to `file`. A pointer that goes with a length may be null where the length is 0, and is not
+ * followed then. Every other pointer must not be null: it points to one object of its type, or to
+ * as many as the array in the prototype has. Outputs and buffers overlap neither each other nor the
+ * file.
+ *
+ * There is no global state. Any number of threads may call any function at the same time, also on
+ * the same file, as long as nobody changes the file and each thread has outputs of its own. Nothing
+ * is called back, no error goes through errno or a signal. A call needs less than 256 KiB of stack.
+ *
+ * WHAT A QUESTION COSTS
+ *
+ * Every function goes through the items of the file, whatever it asks for: the time grows with the
+ * number of items and not with the length of the waveforms, which are stepped over. mfer_canonical
+ * goes through them twice and copies the samples. To read many samples, ask mfer_samples once, not
+ * mfer_sample many times.
+ *
+ * EXAMPLE
+ *
+ * Prints the first channel of the first frame:
+ *
+ *     #include <inttypes.h>
+ *     #include <stdio.h>
+ *     #include "mfer.h"
+ *
+ *     int print_first(const uint8_t *file, size_t file_len)
+ *     {
+ *         uint64_t place, number = 0;
+ *         for (;;) {
+ *             uint32_t kind;
+ *             int64_t whole;
+ *             uint64_t bits;
+ *             uint32_t refusal = mfer_sample(file, file_len, 0, 0, number, &place, &kind, &whole, &bits);
+ *             if (refusal == MFER_NO_SAMPLE)
+ *                 return 0;
+ *             if (refusal != MFER_OK) {
+ *                 fprintf(stderr, "refused %" PRIu32 " at %" PRIu64 "\n", refusal, place);
+ *                 return 1;
+ *             }
+ *             if (kind == MFER_WHOLE)
+ *                 printf("%" PRId64 "\n", whole);
+ *             else if (kind == MFER_NULL)
+ *                 printf("null\n");
+ *             else
+ *                 printf("bits %" PRIX64 "\n", bits);
+ *             number++;
+ *         }
+ *     }
+ *
+ * and the same in bulk, 1,000 samples at a time:
+ *
+ *     uint64_t bits[1000], first = 0, count, place;
+ *     while (mfer_samples(file, file_len, 0, 0, first, bits, 1000, &count, &place) == MFER_OK) {
+ *         use(bits, count);
+ *         first += count;
+ *     }
+ */
+#ifndef MFER_H
+#define MFER_H
+
+#include <stddef.h>
+#include <stdint.h>
+
+#ifdef __cplusplus
+extern "C" {
+#endif
+
+/*
+ * Refusals. Where several apply to a file, 15 comes first; then the first refused item in file order
+ * decides, and within an item the order 1, 5, channel number (4 or 3 as met), 2, 3, 9, 8, 6, 7; at
+ * a waveform 11, 12, 13, 14.
+ */
+#define MFER_OK 0u              /* no refusal */
+#define MFER_CONTEXT_TAG 1u     /* context tag other than 3F */
+#define MFER_LENGTH_OCTET 2u    /* length octet 85 to FF, or 80 on another tag than 3F */
+#define MFER_PAST_END 3u        /* channel number, length or value runs past the file or the
+                                   definite group around it */
+#define MFER_LONG_CHANNEL 4u    /* the fourth octet of a channel number has its top bit set */
+#define MFER_BARRED_TAG 5u      /* 01, 05, 06, 07, 0E, 1E or 3F inside a group */
+#define MFER_LENGTH 6u          /* length that the tag does not allow */
+#define MFER_VALUE 7u           /* value that the tag does not allow */
+#define MFER_CHANNEL_NUMBER 8u  /* group of a channel that is not below the channel count */
+#define MFER_COMPRESSED 9u      /* 0E of length above 0: compressed data */
+#define MFER_UNENDED_GROUP 10u  /* the file ends between two items of an open group */
+#define MFER_FRAMES 11u         /* a frame after MFER_MAX_FRAMES frames */
+#define MFER_SAMPLE_WIDTH 12u   /* a channel whose offset or null has not the width of its samples */
+#define MFER_START 13u          /* start pointer outside signed 32 bits */
+#define MFER_SHORT_WAVEFORM 14u /* waveform shorter than its sequences */
+#define MFER_LONG_FILE 15u      /* file of more than MFER_MAX_OCTETS octets */
+#define MFER_NO_FRAME 20u       /* no such frame */
+#define MFER_NO_CHANNEL 21u     /* no such channel in the frame */
+#define MFER_NO_SAMPLE 22u      /* no such sample of the channel */
+#define MFER_NO_ROOM 23u        /* canonical file longer than the buffer or than MFER_MAX_OCTETS */
+
+/* Limits. */
+#define MFER_MAX_OCTETS 2147483647u    /* octets of a file */
+#define MFER_MAX_FRAMES 4096u          /* frames of a file */
+#define MFER_MAX_CHANNELS 256u         /* channels of a frame */
+#define MFER_MAX_BLOCK 1048576u        /* samples of a channel in one sequence */
+#define MFER_MAX_SEQUENCES 4294967295u /* sequences of a frame */
+
+/*
+ * Checks a file and counts its frames.
+ *
+ * *frames  how many frames the file has, at most MFER_MAX_FRAMES
+ *
+ * Refusals: 1 to 15.
+ */
+uint32_t mfer_check(const uint8_t *file, size_t file_len, uint64_t *frames, uint64_t *place);
+
+/* Where each attribute is in `numbers`. */
+#define MFER_NUMBER_START 0               /* the frame's start pointer, signed 32 bits */
+#define MFER_NUMBER_CHANNELS 1            /* channels of the frame, 1 to 256 */
+#define MFER_NUMBER_SEQUENCES 2           /* sequences of the frame, 0 to 4,294,967,295 */
+#define MFER_NUMBER_BLOCK 3               /* samples of the channel in one sequence, 1 to 1,048,576 */
+#define MFER_NUMBER_CLASS 4               /* waveform class, 0 to 65,535 */
+#define MFER_NUMBER_LEAD 5                /* lead code, 0 to 65,535 */
+#define MFER_NUMBER_TYPE 6                /* data type, 0 to 8 (MFER_TYPE_...) */
+#define MFER_NUMBER_INTERVAL_UNIT 7       /* 0 Hz, 1 s, 2 m */
+#define MFER_NUMBER_INTERVAL_EXPONENT 8   /* the power of ten, -128 to 127 */
+#define MFER_NUMBER_INTERVAL_MANTISSA 9   /* 1 to 2,147,483,647 */
+#define MFER_NUMBER_RESOLUTION_UNIT 10    /* 0 to 22: the sampling units of ISO/TS 11073-92001 */
+#define MFER_NUMBER_RESOLUTION_EXPONENT 11 /* the power of ten, -128 to 127 */
+#define MFER_NUMBER_RESOLUTION_MANTISSA 12 /* 1 to 2,147,483,647 */
+#define MFER_NUMBER_WIDTH 13              /* octets of a sample: 1, 2, 4 or 8 */
+#define MFER_NUMBER_NULL_WIDTH 14         /* the same where there are null bits, else 0 */
+#define MFER_NUMBERS 15                   /* how many there are */
+
+/* Data types. */
+#define MFER_TYPE_SIGNED_16 0
+#define MFER_TYPE_UNSIGNED_16 1
+#define MFER_TYPE_SIGNED_32 2
+#define MFER_TYPE_UNSIGNED_8 3
+#define MFER_TYPE_STATUS 4
+#define MFER_TYPE_SIGNED_8 5
+#define MFER_TYPE_UNSIGNED_32 6
+#define MFER_TYPE_SINGLE 7
+#define MFER_TYPE_DOUBLE 8
+
+/*
+ * The attributes of a channel in a frame.
+ *
+ * numbers  as the list above has them; the channel has sequences times block samples
+ * bits     the offset's bits (0 where none is defined), then the null bits (0 where there are none)
+ *
+ * Refusals: 1 to 15, MFER_NO_FRAME, MFER_NO_CHANNEL.
+ */
+uint32_t mfer_attributes(const uint8_t *file, size_t file_len, uint32_t frame, uint32_t channel,
+                         int64_t numbers[MFER_NUMBERS], uint64_t bits[2], uint64_t *place);
+
+/* Kinds of values. */
+#define MFER_WHOLE 0u      /* a whole number, of the types 0 to 3, 5 and 6 */
+#define MFER_STATUS 1u     /* sixteen status bits, of type 4 */
+#define MFER_SINGLE 2u     /* IEEE 754, 32 bits, of type 7; infinities are among them */
+#define MFER_DOUBLE 3u     /* IEEE 754, 64 bits, of type 8; infinities are among them */
+#define MFER_NOT_NUMBER 4u /* a single or double that is no number */
+#define MFER_NULL 5u       /* the sample's bits are the null bits, whatever its type */
+
+/*
+ * The place and value of a sample. Values are raw: neither offset nor resolution is applied.
+ *
+ * *place   the sample's place (at a refusal, the refusal's)
+ * *kind    MFER_WHOLE to MFER_NULL
+ * *whole   the number, where *kind is MFER_WHOLE; else 0
+ * *bits    the sample's bits, highest octet first: those of a file with the octets 01 02 are 0102
+ *          in big-endian order and 0201 in little-endian order; zeros are above them
+ *
+ * Refusals: 1 to 15, MFER_NO_FRAME, MFER_NO_CHANNEL, MFER_NO_SAMPLE.
+ */
+uint32_t mfer_sample(const uint8_t *file, size_t file_len, uint32_t frame, uint32_t channel,
+                     uint64_t number, uint64_t *place, uint32_t *kind, int64_t *whole,
+                     uint64_t *bits);
+
+/*
+ * The bits of consecutive samples of a channel, from sample `first` on: as many as there are or as
+ * fit in the buffer of `out_len` numbers at `out`. The bits are those of mfer_sample; they carry no
+ * sign up and nulls are not marked. What is past *count in the buffer keeps what it held.
+ *
+ * *count   how many were written; 0 only where out_len is 0
+ *
+ * Refusals: 1 to 15, MFER_NO_FRAME, MFER_NO_CHANNEL, and MFER_NO_SAMPLE where there is no sample
+ * `first`.
+ */
+uint32_t mfer_samples(const uint8_t *file, size_t file_len, uint32_t frame, uint32_t channel,
+                      uint64_t first, uint64_t *out, size_t out_len, uint64_t *count,
+                      uint64_t *place);
+
+/*
+ * Writes the canonical file, which has the same recording in one fixed form: big-endian, every
+ * setting in its channel's group, every length in its shortest form. It stands at the start of the
+ * buffer of `out_len` octets at `out`; what is past it keeps what it held.
+ *
+ * *written  the canonical file's length; 0 for a file without frames
+ *
+ * Refusals: 1 to 15, and MFER_NO_ROOM, which does not say how long the canonical file is: a longer
+ * buffer may do, and one of MFER_MAX_OCTETS octets does wherever any does. A canonical frame has at
+ * most 24 octets, 57 more for each channel, and its samples; the file has 3 octets more.
+ */
+uint32_t mfer_canonical(const uint8_t *file, size_t file_len, uint8_t *out, size_t out_len,
+                        uint64_t *written, uint64_t *place);
+
+#ifdef __cplusplus
+}
+#endif
+
+#endif

@@ -1,0 +1,159 @@
+//! Two programs that take turns.
+
+use std::fmt;
+use std::time::{Duration, Instant};
+
+/// A timing is of so many calls that it is at least so long.
+const LEAST: Duration = Duration::from_millis(2);
+
+/// How all pairs are timed.
+pub struct Course {
+    pub rounds: usize,
+    /// A new zeroed buffer for every timing, instead of one that was written before.
+    pub fresh: bool,
+}
+
+impl Course {
+    pub fn without_buffers(&self, mut proved: impl FnMut(), mut other: impl FnMut()) -> Times {
+        let calls = calls(&mut proved);
+        self.race(
+            calls,
+            || time(calls, &mut proved),
+            || time(calls, &mut other),
+        )
+    }
+
+    /// The two get buffers from `make`, which is not timed.
+    pub fn with_buffers<B>(
+        &self,
+        make: impl Fn() -> B,
+        proved: impl Fn(&mut B),
+        other: impl Fn(&mut B),
+    ) -> Times {
+        if self.fresh {
+            let timed = |run: &dyn Fn(&mut B)| {
+                let mut buffer = make();
+                time(1, &mut || run(&mut buffer))
+            };
+            return self.race(1, || timed(&proved), || timed(&other));
+        }
+        // One buffer for both, so that neither has the better place in memory.
+        let buffer = std::cell::RefCell::new(make());
+        let mut proved = || proved(&mut buffer.borrow_mut());
+        let mut other = || other(&mut buffer.borrow_mut());
+        other();
+        let calls = calls(&mut proved);
+        self.race(
+            calls,
+            || time(calls, &mut proved),
+            || time(calls, &mut other),
+        )
+    }
+
+    fn race(
+        &self,
+        calls: u32,
+        mut proved: impl FnMut() -> Duration,
+        mut other: impl FnMut() -> Duration,
+    ) -> Times {
+        let (mut first, mut second, mut ratios) = (Vec::new(), Vec::new(), Vec::new());
+        for round in 0..self.rounds {
+            // Each goes first every other time.
+            let (a, b) = match round % 2 {
+                0 => {
+                    let a = proved();
+                    (a, other())
+                }
+                _ => {
+                    let b = other();
+                    (proved(), b)
+                }
+            };
+            first.push(a.as_secs_f64());
+            second.push(b.as_secs_f64());
+            ratios.push(a.as_secs_f64() / b.as_secs_f64());
+        }
+        Times {
+            proved: median(first) / f64::from(calls),
+            other: median(second) / f64::from(calls),
+            ratio: median(ratios),
+        }
+    }
+}
+
+/// So many calls as make a timing long enough.
+fn calls(run: &mut impl FnMut()) -> u32 {
+    let mut calls = 1;
+    while time(calls, run) < LEAST {
+        calls *= 2;
+    }
+    calls
+}
+
+fn time(calls: u32, run: &mut impl FnMut()) -> Duration {
+    let started = Instant::now();
+    for _ in 0..calls {
+        run();
+    }
+    started.elapsed()
+}
+
+fn median(mut numbers: Vec<f64>) -> f64 {
+    numbers.sort_by(f64::total_cmp);
+    numbers[numbers.len() / 2]
+}
+
+/// Medians, in seconds a call.
+pub struct Times {
+    proved: f64,
+    other: f64,
+    ratio: f64,
+}
+
+impl Times {
+    pub fn named(self, what: &'static str, against: &'static str, bar: f64) -> Row {
+        Row {
+            what,
+            against,
+            times: self,
+            bar,
+        }
+    }
+}
+
+/// A line of the table.
+pub struct Row {
+    what: &'static str,
+    against: &'static str,
+    times: Times,
+    bar: f64,
+}
+
+impl Row {
+    pub fn missed(&self) -> bool {
+        self.times.ratio > self.bar
+    }
+}
+
+pub const HEAD: &str =
+    "what                                         proved us     other us  against  ratio   bar";
+
+impl fmt::Display for Row {
+    fn fmt(&self, f: &mut fmt::Formatter<'_>) -> fmt::Result {
+        let Times {
+            proved,
+            other,
+            ratio,
+        } = self.times;
+        let missed = if self.missed() { "  missed" } else { "" };
+        write!(
+            f,
+            "{:<42} {:>11.2}  {:>11.2}  {:<7} {ratio:>6.2}  {:>4.2}{missed}",
+            self.what,
+            proved * 1e6,
+            other * 1e6,
+            self.against,
+            self.bar
+        )
+    }
+}

@@ -1,0 +1,383 @@
+//! The command as a user meets it: its output, its words on standard error, its exit status.
+
+use std::fs;
+use std::io::{Read, Write};
+use std::path::{Path, PathBuf};
+use std::process::{self, Command, Output, Stdio};
+use std::sync::atomic::{AtomicU32, Ordering};
+
+/// A folder of one test's own, removed when the test is over.
+struct Folder(PathBuf);
+
+impl Folder {
+    fn new() -> Folder {
+        static NEXT: AtomicU32 = AtomicU32::new(0);
+        let number = NEXT.fetch_add(1, Ordering::Relaxed);
+        let name = format!("mfer-command-{}-{number}", process::id());
+        let folder = std::env::temp_dir().join(name);
+        fs::create_dir_all(&folder).unwrap();
+        Folder(folder)
+    }
+
+    fn path(&self, name: &str) -> PathBuf {
+        self.0.join(name)
+    }
+
+    fn file(&self, name: &str, octets: &[u8]) -> PathBuf {
+        let path = self.path(name);
+        fs::write(&path, octets).unwrap();
+        path
+    }
+
+    fn names(&self) -> Vec<String> {
+        let entries = fs::read_dir(&self.0).unwrap();
+        let mut names: Vec<String> = entries
+            .map(|entry| entry.unwrap().file_name().into_string().unwrap())
+            .collect();
+        names.sort();
+        names
+    }
+}
+
+impl Drop for Folder {
+    fn drop(&mut self) {
+        let _ = fs::remove_dir_all(&self.0);
+    }
+}
+
+/// Document 01's P2: two channels, little-endian.
+const P2: [u8; 23] = [
+    0x01, 0x01, 0x01, 0x04, 0x01, 0x02, 0x05, 0x01, 0x02, 0x3F, 0x01, 0x03, 0x04, 0x01, 0x01, 0x1E,
+    0x06, 0x01, 0x00, 0x02, 0x00, 0xFF, 0xFF,
+];
+
+/// Document 01's P6: a channel number that is not below the channel count.
+const P6: [u8; 6] = [0x05, 0x01, 0x02, 0x3F, 0x02, 0x00];
+
+fn mfer() -> Command {
+    Command::new(env!("CARGO_BIN_EXE_mfer"))
+}
+
+fn run(command: &mut Command) -> (String, String, i32) {
+    read(command.output().unwrap())
+}
+
+fn read(output: Output) -> (String, String, i32) {
+    (
+        String::from_utf8(output.stdout).unwrap(),
+        String::from_utf8(output.stderr).unwrap(),
+        output.status.code().unwrap(),
+    )
+}
+
+/// Runs with these octets on standard input.
+fn run_on(command: &mut Command, input: &[u8]) -> Output {
+    let mut child = command
+        .stdin(Stdio::piped())
+        .stdout(Stdio::piped())
+        .stderr(Stdio::piped())
+        .spawn()
+        .unwrap();
+    child.stdin.take().unwrap().write_all(input).unwrap();
+    child.wait_with_output().unwrap()
+}
+
+fn shown(path: &Path) -> String {
+    path.display().to_string()
+}
+
+#[test]
+fn check_of_one_file() {
+    let folder = Folder::new();
+    let good = folder.file("good", &P2);
+    let answer = run(mfer().arg("check").arg(&good));
+    assert_eq!(answer, ("frames 1\n".into(), "".into(), 0));
+    let bad = folder.file("bad", &P6);
+    let (out, error, status) = run(mfer().arg("check").arg(&bad));
+    assert_eq!((out.as_str(), status), ("refused 8 at 3\n", 1));
+    let words = "refused 8 at 3: channel number not below the channel count";
+    assert_eq!(error, format!("mfer: {}: {words}\n", shown(&bad)));
+}
+
+#[test]
+fn check_of_several_files() {
+    let folder = Folder::new();
+    let good = folder.file("good", &P2);
+    let bad = folder.file("bad", &P6);
+    let missing = folder.path("missing");
+    let (out, error, status) = run(mfer().arg("check").args([&bad, &good]));
+    let lines = format!(
+        "{}: refused 8 at 3\n{}: frames 1\n",
+        shown(&bad),
+        shown(&good)
+    );
+    assert_eq!((out, status), (lines, 1));
+    assert_eq!(error.lines().count(), 1);
+    let (out, error, status) = run(mfer().arg("check").args([&missing, &bad, &good]));
+    assert_eq!((out.lines().count(), status), (2, 2));
+    assert!(error.starts_with(&format!("mfer: {}: ", shown(&missing))));
+}
+
+#[test]
+fn check_of_standard_input() {
+    let answer = read(run_on(mfer().args(["check", "-"]), &P2));
+    assert_eq!(answer, ("frames 1\n".into(), "".into(), 0));
+    let answer = read(run_on(mfer().args(["check", "-"]), &[]));
+    assert_eq!(answer, ("frames 0\n".into(), "".into(), 0));
+    let (out, error, status) = read(run_on(mfer().args(["check", "-"]), &[0x0A, 0x80]));
+    assert_eq!((out.as_str(), status), ("refused 2 at 0\n", 1));
+    assert!(error.starts_with("mfer: standard input: refused 2 at 0: length octet"));
+}
+
+#[test]
+fn show_of_a_standard_ecg() {
+    let folder = Folder::new();
+    let mut octets = vec![
+        0x08, 1, 1, 0x0B, 4, 1, 0xFD, 0, 1, 0x0C, 4, 0, 0xF7, 3, 0xE8, 0x12, 2, 0x80, 0, 0x05, 1, 2,
+    ];
+    octets.extend([0x3F, 0, 3, 9, 1, 1, 0x3F, 1, 6, 9, 1, 64, 4, 1, 2]);
+    octets.extend([0x1E, 6, 0, 1, 0, 2, 0, 3]);
+    octets.extend([0x1E, 6, 0, 4, 0, 5, 0, 6]);
+    octets.extend([
+        0x08, 1, 40, 0x09, 2, 0x46, 0x4A, 0x0A, 1, 7, 0x12, 0, 0x05, 0, 0x04, 0,
+    ]);
+    octets.extend([0x0C, 3, 1, 0, 1, 0x1E, 0]);
+    let file = folder.file("ecg", &octets);
+    let (out, error, status) = run(mfer().arg("show").arg(&file));
+    let table = "\
+frame 0: start 0, 2 channels, 1 sequence
+  channel  class                   lead    type            samples           interval  resolution  offset  null
+  0        1 standard 12 lead ECG  1 I     signed 16 bits  1                 1e-3 s    1000e-9 V   0x0000  0x8000
+  1        1 standard 12 lead ECG  64 aVF  signed 16 bits  2 (2 a sequence)  1e-3 s    1000e-9 V   0x0000  0x8000
+frame 1: start 1, 2 channels, 1 sequence; channels as in frame 0
+frame 2: start 2, 1 channel, 0 sequences
+  channel  class           lead          type    samples  interval  resolution  offset      null
+  0        40 resting EEG  17994 FP1-A1  single  0        1e-3 s    1 mmHg      0x00000000  none
+";
+    let head = format!("{}: {} octets, 3 frames\n", shown(&file), octets.len());
+    assert_eq!((out, error, status), (head + &table, "".into(), 0));
+}
+
+#[test]
+fn show_of_many_frames_is_the_same() {
+    let frames = |count: u8| {
+        let mut octets = vec![0x01, 1, 1, 0x05, 1, 2];
+        for number in 0..count {
+            octets.extend([0x3F, 1, 3, 9, 1, number, 0x1E, 4, number, 0, 1, 0]);
+        }
+        octets
+    };
+    let lines = |octets: &[u8]| -> Vec<String> {
+        let (out, _, status) = read(run_on(mfer().args(["show", "-"]), octets));
+        assert_eq!(status, 0);
+        out.lines().skip(1).map(String::from).collect()
+    };
+    // Seven frames are asked in the file, twenty one by one.
+    let (few, many) = (lines(&frames(7)), lines(&frames(20)));
+    assert_eq!((few.len(), many.len()), (7 * 4, 20 * 4));
+    assert_eq!(few[..], many[..few.len()]);
+}
+
+#[test]
+fn show_of_nothing_and_of_a_refused_file() {
+    let (out, _, status) = read(run_on(mfer().args(["show", "-"]), &[]));
+    assert_eq!(
+        (out.as_str(), status),
+        ("standard input: 0 octets, 0 frames\n", 0)
+    );
+    let (out, error, status) = read(run_on(mfer().args(["show", "-"]), &P6));
+    assert_eq!((out.as_str(), status), ("", 1));
+    assert!(error.starts_with("mfer: standard input: refused 8 at 3: "));
+}
+
+fn samples(octets: &[u8], words: &[&str]) -> (String, String, i32) {
+    read(run_on(mfer().args(["samples", "-"]).args(words), octets))
+}
+
+#[test]
+fn samples_one_a_line() {
+    let answer = samples(&P2, &["--frame", "0", "--channel", "0"]);
+    assert_eq!(answer, ("1\n2\n".into(), "".into(), 0));
+    let answer = samples(&P2, &["--frame=0", "--channel=1"]);
+    assert_eq!(answer, ("-1\n".into(), "".into(), 0));
+    let answer = samples(&P2, &["--csv", "--frame", "0", "--channel", "0"]);
+    assert_eq!(answer, ("number,value\n0,1\n1,2\n".into(), "".into(), 0));
+    let answer = samples(&[0x1E, 0], &["--frame", "0", "--channel", "0"]);
+    assert_eq!(answer, ("".into(), "".into(), 0));
+}
+
+#[test]
+fn samples_of_every_kind() {
+    let mut octets = vec![0x0A, 1, 7, 0x12, 4, 0xFF, 0xFF, 0xFF, 0xFF, 0x1E, 20];
+    octets.extend([0x3F, 0x80, 0, 0, 0x80, 0, 0, 0, 0x7F, 0x80, 0, 0]);
+    octets.extend([0x7F, 0xC0, 0, 1, 0xFF, 0xFF, 0xFF, 0xFF]);
+    octets.extend([0x12, 2, 0, 1, 0x0A, 1, 4, 0x1E, 4, 0, 1, 0xAB, 0xCD]);
+    octets.extend([
+        0x12, 0, 0x0A, 1, 8, 0x1E, 8, 0x3F, 0xB9, 0x99, 0x99, 0x99, 0x99, 0x99, 0x9A,
+    ]);
+    let (out, _, _) = samples(&octets, &["--frame", "0", "--channel", "0"]);
+    assert_eq!(out, "1.0\n-0.0\ninf\nnot-a-number 0x7FC00001\nnull\n");
+    let (out, _, _) = samples(&octets, &["--frame", "1", "--channel", "0", "--csv"]);
+    assert_eq!(out, "number,value\n0,null\n1,0xABCD\n");
+    let (out, _, _) = samples(&octets, &["--frame", "2", "--channel", "0"]);
+    assert_eq!(out, "0.1\n");
+}
+
+#[test]
+fn samples_that_are_not_there() {
+    for (words, error) in [
+        (
+            ["--frame", "1", "--channel", "0"],
+            "refused 20 at 0: no such frame",
+        ),
+        (
+            ["--frame", "0", "--channel", "2"],
+            "refused 21 at 0: no such channel",
+        ),
+    ] {
+        let error = format!("mfer: standard input: {error}\n");
+        assert_eq!(samples(&P2, &words), ("".into(), error, 1));
+    }
+}
+
+#[test]
+fn canonical_to_a_file_and_to_standard_output() {
+    let folder = Folder::new();
+    let input = folder.file("in", &P2);
+    let output = folder.path("out");
+    let answer = run(mfer().arg("canonical").args([&input, &output]));
+    assert_eq!(answer, ("".into(), "".into(), 0));
+    let written = fs::read(&output).unwrap();
+    assert_eq!(written.len(), 113);
+    assert_eq!(folder.names(), ["in", "out"]);
+    let piped = run_on(mfer().args(["canonical", "-", "-"]), &P2);
+    assert_eq!(piped.stdout, written);
+    // Over itself.
+    let answer = run(mfer().arg("canonical").args([&input, &input]));
+    assert_eq!(answer.2, 0);
+    assert_eq!(fs::read(&input).unwrap(), written);
+}
+
+#[test]
+fn canonical_that_fails_leaves_the_output_as_it_was() {
+    let folder = Folder::new();
+    let input = folder.file("in", &P6);
+    let output = folder.file("out", b"before");
+    let (_, error, status) = run(mfer().arg("canonical").args([&input, &output]));
+    assert_eq!(status, 1);
+    assert!(error.contains("refused 8 at 3: "));
+    assert_eq!(fs::read(&output).unwrap(), b"before");
+    let nowhere = folder.path("no/such/folder");
+    let good = folder.file("good", &P2);
+    let (_, error, status) = run(mfer().arg("canonical").args([&good, &nowhere]));
+    assert_eq!(status, 2);
+    assert!(error.starts_with(&format!("mfer: {}: ", shown(&nowhere))));
+    let (_, _, status) = run(mfer().arg("canonical").args([&good, &folder.0]));
+    assert_eq!(status, 2);
+    assert_eq!(folder.names(), ["good", "in", "out"]);
+}
+
+#[cfg(unix)]
+#[test]
+fn canonical_keeps_permissions_links_and_devices() {
+    use std::os::unix::fs::{symlink, FileTypeExt, PermissionsExt};
+    let folder = Folder::new();
+    let input = folder.file("in", &P2);
+    let output = folder.file("out", b"before");
+    fs::set_permissions(&output, fs::Permissions::from_mode(0o600)).unwrap();
+    let link = folder.path("link");
+    symlink(&output, &link).unwrap();
+    let (_, _, status) = run(mfer().arg("canonical").args([&input, &link]));
+    assert_eq!(status, 0);
+    assert!(fs::symlink_metadata(&link).unwrap().is_symlink());
+    assert_eq!(fs::read(&output).unwrap().len(), 113);
+    let mode = fs::metadata(&output).unwrap().permissions().mode();
+    assert_eq!(mode & 0o777, 0o600);
+    let (_, _, status) = run(mfer().arg("canonical").arg(&input).arg("/dev/null"));
+    assert_eq!(status, 0);
+    assert!(fs::metadata("/dev/null")
+        .unwrap()
+        .file_type()
+        .is_char_device());
+}
+
+#[test]
+fn help_and_version() {
+    let (out, error, status) = run(mfer().arg("--help"));
+    assert!(out.contains("mfer check FILE.."));
+    assert_eq!((error.as_str(), status), ("", 0));
+    let (out, _, status) = run(mfer().arg("--version"));
+    assert_eq!(out, format!("mfer {}\n", env!("CARGO_PKG_VERSION")));
+    assert_eq!(status, 0);
+}
+
+#[test]
+fn wrong_usage() {
+    for words in [
+        &[][..],
+        &["frob"],
+        &["check"],
+        &["show", "a", "b"],
+        &["check", "--frob", "a"],
+    ] {
+        let (out, error, status) = run(mfer().args(words));
+        assert_eq!((out.as_str(), status), ("", 2), "{words:?}");
+        assert!(
+            error.starts_with("mfer: ") && error.contains("mfer --help"),
+            "{error}"
+        );
+    }
+}
+
+#[test]
+fn a_closed_pipe_is_no_error() {
+    let folder = Folder::new();
+    let mut octets = vec![0x1E, 0x84];
+    octets.extend(4_000_000_u32.to_be_bytes());
+    octets.resize(octets.len() + 4_000_000, 1);
+    let file = folder.file("long", &octets);
+    let mut child = mfer()
+        .args(["samples", "--frame", "0", "--channel", "0"])
+        .arg(&file)
+        .stdout(Stdio::piped())
+        .stderr(Stdio::piped())
+        .spawn()
+        .unwrap();
+    let mut first = [0; 4];
+    child.stdout.take().unwrap().read_exact(&mut first).unwrap();
+    let output = child.wait_with_output().unwrap();
+    assert_eq!(&first, b"257\n");
+    assert_eq!(String::from_utf8(output.stderr).unwrap(), "");
+    assert!(output.status.success());
+}
+
+#[cfg(target_os = "linux")]
+#[test]
+fn a_full_disk_is_an_error() {
+    let full = fs::OpenOptions::new()
+        .write(true)
+        .open("/dev/full")
+        .unwrap();
+    let child = mfer()
+        .arg("--help")
+        .stdout(full)
+        .stderr(Stdio::piped())
+        .spawn()
+        .unwrap();
+    let (_, error, status) = read(child.wait_with_output().unwrap());
+    assert_eq!(status, 2);
+    assert!(error.starts_with("mfer: standard output: "));
+}
+
+#[test]
+fn no_progress_where_there_is_no_terminal() {
+    let folder = Folder::new();
+    let mut octets = vec![0x0A, 1, 3, 0x1E, 0x84];
+    octets.extend(40_000_000_u32.to_be_bytes());
+    octets.resize(octets.len() + 40_000_000, 1);
+    let file = folder.file("long", &octets);
+    let output = folder.path("out");
+    let answer = run(mfer().arg("canonical").args([&file, &output]));
+    assert_eq!(answer, ("".into(), "".into(), 0));
+    assert_eq!(fs::metadata(&output).unwrap().len(), 68 + 40_000_000);
+}
