@@ -3,7 +3,7 @@
 # runs the first once more under valgrind if that is there. The header's example is compiled too.
 # The library is taken from MFER_LIB_DIR, else from target/staticlib. The last line counts the tests.
 set -u
-cd "$(dirname "$0")/.."
+cd "$(dirname "$0")/.." || exit 2
 
 library=${MFER_LIB_DIR:-target/staticlib}/libmfer.a
 if [ ! -f "$library" ]; then
@@ -45,15 +45,15 @@ compile() {
     fi
 }
 
-strict="-Wall -Wextra -Werror -pedantic -Wconversion -Wshadow -O1 -g -Iinclude"
+strict=(-Wall -Wextra -Werror -pedantic -Wconversion -Wshadow -O1 -g -Iinclude)
 
-if compile "${CC:-cc}" -std=c99 -Wstrict-prototypes $strict tests/interface.c "$library" -o "$scratch/c"; then
+if compile "${CC:-cc}" -std=c99 -Wstrict-prototypes "${strict[@]}" tests/interface.c "$library" -o "$scratch/c"; then
     run "as C99" "$scratch/c"
     if command -v valgrind > "$scratch/where"; then
         run "as C99, under valgrind" valgrind -q --error-exitcode=99 --leak-check=full "$scratch/c" small
     fi
 fi
-if compile "${CXX:-c++}" -std=c++11 -x c++ $strict tests/interface.c -x none "$library" -o "$scratch/cxx"; then
+if compile "${CXX:-c++}" -std=c++11 -x c++ "${strict[@]}" tests/interface.c -x none "$library" -o "$scratch/cxx"; then
     run "as C++" "$scratch/cxx"
 fi
 
@@ -69,7 +69,7 @@ int main(void)
 }
 MAIN
 } > "$scratch/example.c"
-if compile "${CC:-cc}" -std=c99 $strict "$scratch/example.c" "$library" -o "$scratch/example"; then
+if compile "${CC:-cc}" -std=c99 "${strict[@]}" "$scratch/example.c" "$library" -o "$scratch/example"; then
     if [ "$("$scratch/example")" = "$(printf '1\n2')" ]; then
         echo "test the header's example ... ok"
         passed=$((passed + 1))
@@ -79,5 +79,5 @@ if compile "${CC:-cc}" -std=c99 $strict "$scratch/example.c" "$library" -o "$scr
     fi
 fi
 
-echo "$passed passed, $failed failed"
+echo "$passed passed, $failed failed in all"
 [ "$failed" -eq 0 ]

@@ -13,12 +13,13 @@ fn main() {
     };
     let archive = folder.join("libmfer.a");
     println!("cargo:rerun-if-changed={}", archive.display());
-    if !archive.is_file() {
+    let Ok(archive) = archive.canonicalize() else {
         panic!(
             "{} is not there: build it with `rt staticlib mfer`, or name its folder in MFER_LIB_DIR",
             archive.display()
         );
-    }
+    };
+    let folder = archive.parent().expect("a file is in a folder");
     println!("cargo:rustc-link-search=native={}", folder.display());
     println!("cargo:rustc-link-lib=static=mfer");
 }

@@ -9,7 +9,7 @@ use mathlib.Core.List.{List, [], _∷_, _++_, append-assoc}
 use mathlib.Core.Bool.{Bool, true, false}
 use Prim.Native.Nat.{ℕ, suc, _+_, _-_, _^_, _≤_, _<_}
 use native.Mathlib.Omega.{arith}
-use borrow.Author.Tests.{ltb-true}
+use borrow.Author.Tests.{ltb-true, eq-eqb, ne-eqb}
 use lib.Dec.{T, eqb, ltb, leb}
 use lib.IntN.{ℤ, pos, negsuc}
 use lib.Signed.{ltZ, mag}
@@ -27,12 +27,12 @@ use Rattle.values.proofs.Laws.{width-le}
 use Rattle.settings.specs.declared.Scale.{Scale}
 use Rattle.settings.specs.declared.Settings.{Settings}
 use Rattle.layout.specs.Frame.{widthIn}
-use Rattle.layout.specs.Size.{channelSize, nullSize, contentSize}
+use Rattle.layout.specs.Size.{channelSize, nullSize, contentSize, sequencesSize}
 use Rattle.reader.specs.Answer.{offsetBits}
 use Rattle.canonical.specs.Recording.{settled}
 use Rattle.canonical.specs.Canonical.{item, numberItem, unsignedOf, channelOctets, scaleItem, nullItem, groupItems, groupOctets, sequencesItem}
 use Rattle.canonical.proofs.Octets.{content-long}
-use Rattle.canonical.specs.Parts.{unsignedBy, firstItems, scaleItems, lastItems}
+use Rattle.canonical.specs.Parts.{unsignedBy, firstItems, scaleItems, lastItems, headItems}
 
 -- ---- one store after another
 
@@ -153,12 +153,22 @@ put-as {d} {e} {at = at} {r = r} p q = subst (λ (l : List ℕ). Put d at l r e)
 pub channel-some : (k : ℕ) → (1 ≤ channelSize k) × (channelSize k ≤ 2)
 channel-some k = pick-cases (λ (n : ℕ). (1 ≤ n) × (n ≤ 2)) (ltb k 128) (λ _. omega arith) (λ _. omega arith)
 
-none-few : length (item 0x06 []) ≤ 6
+none-long : length (item 0x06 []) ≡ 2
 unfolding item shortest
-none-few = omega arith
+none-long = refl
 
-pub sequences-few : (n : ℕ) → length (sequencesItem n) ≤ 6
+pub sequences-long : (n : ℕ) → length (sequencesItem n) ≡ sequencesSize n
 unfolding sequencesItem
-sequences-few n =
-    pick-cases (λ (l : List ℕ). length l ≤ 6) (eqb n 0) (λ _. none-few)
-    (λ _. omega (arith, ap length (field-is 6 4 n (omega arith)), length-field 6 4 n))
+sequences-long n =
+    pick-cases (λ (l : List ℕ). length l ≡ sequencesSize n) (eqb n 0) (λ e. none-long ∙ simp e)
+    (λ e. ap length (field-is 6 4 n (omega arith)) ∙ length-field 6 4 n ∙ simp e)
+
+pub head-long : (count n : ℕ) (start : ℤ) → length (headItems count n start) ≡ 12 + sequencesSize n
+head-long count n start = simp (length-append, length-field, sequences-long) (omega arith)
+
+-- What a pick of two sizes is, by its test.
+pub size-none : (n : ℕ) → n ≡ 0 → sequencesSize n ≡ 2
+size-none n e = simp (eq-eqb n 0 e)
+
+pub size-some : (n : ℕ) → (n ≡ 0 → ⊥) → sequencesSize n ≡ 6
+size-some n e = simp (ne-eqb n 0 e)

@@ -14,7 +14,7 @@ ghost use lib.Signed.{mag};
 ghost use Rattle.runs.specs.Storing.{Put};
 ghost use Rattle.layout.specs.Frame.{widthIn, sequenceOctets};
 ghost use Rattle.laid.specs.Turned.{Even, turnedAll};
-ghost use Rattle.layout.specs.Size.{nullSize, contentSize, groupSize, groupsSize, frameSize};
+ghost use Rattle.layout.specs.Size.{nullSize, contentSize, groupSize, groupsSize, sequencesSize, frameSize};
 ghost use Rattle.canonical.specs.Recording.{settled};
 ghost use Rattle.canonical.specs.Canonical.{channelOctets, scaleItem, groupItems, groupOctets, groupsOctets, sequencesItem};
 ghost use Rattle.canonical.specs.Parts.{unsignedBy, firstItems, scaleItems, lastItems, headItems, samplesTurned, frameParts};
@@ -157,7 +157,7 @@ fn put_groups(out: &mut [u8], at: usize, table: [Settings; 256], count: usize) -
 
 // 06 with four octets, or none for 0 sequences.
 fn put_sequences(out: &mut [u8], at: usize, sequences: u32) -> usize
-    requires { ⌜ at + 6 ≤ length (now out) ⌝ }
+    requires { ⌜ at + sequencesSize sequences ≤ length (now out) ⌝ }
     ensures { λ r. ⌜ Put (now (out .entry)) at (sequencesItem sequences) r (now (out .exit)) ⌝ }
 {
     if sequences == 0 {
@@ -168,7 +168,7 @@ fn put_sequences(out: &mut [u8], at: usize, sequences: u32) -> usize
 
 // 05, 06 and 07.
 fn put_head(out: &mut [u8], at: usize, count: u32, sequences: u32, start: i64) -> usize
-    requires { ⌜ (mag start < 2147483648) × (at + 18 ≤ length (now out)) ⌝ }
+    requires { ⌜ (mag start < 2147483648) × (at + 12 + sequencesSize sequences ≤ length (now out)) ⌝ }
     ensures { λ r. ⌜ Put (now (out .entry)) at (headItems count sequences start) r (now (out .exit)) ⌝ }
 {
     let z = unsigned(start, 4_294_967_296);

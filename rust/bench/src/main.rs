@@ -83,15 +83,15 @@ fn checks(course: &Course, show: &mut impl FnMut(Row)) {
     ] {
         assert_eq!(ffi::check(file).number, 0, "{what}");
         let row = course.without_buffers(
-            || drop(black_box(ffi::check(black_box(file)))),
-            || drop(black_box(reader::check(black_box(file)))),
+            || ffi::check(black_box(file)),
+            || reader::check(black_box(file)),
         );
         show(row.named(what, "second", SECOND));
     }
     // Ten times the items against ten times the smaller file.
     let tenth = files::group_items(100_000);
     let row = course.without_buffers(
-        || drop(black_box(ffi::check(black_box(&grouped)))),
+        || ffi::check(black_box(&grouped)),
         || {
             for _ in 0..10 {
                 black_box(ffi::check(black_box(&tenth)));
@@ -177,7 +177,7 @@ fn samples(course: &Course, show: &mut impl FnMut(Row)) {
         },
         || {
             for number in 0..SAMPLES {
-                drop(black_box(reader::sample(black_box(&among), 0, 7, number)));
+                let _ = black_box(reader::sample(black_box(&among), 0, 7, number));
             }
         },
     );

@@ -1,6 +1,7 @@
 //! Two programs that take turns.
 
 use std::fmt;
+use std::hint::black_box;
 use std::time::{Duration, Instant};
 
 /// A timing is of so many calls that it is at least so long.
@@ -14,7 +15,11 @@ pub struct Course {
 }
 
 impl Course {
-    pub fn without_buffers(&self, mut proved: impl FnMut(), mut other: impl FnMut()) -> Times {
+    pub fn without_buffers<P, O>(
+        &self,
+        mut proved: impl FnMut() -> P,
+        mut other: impl FnMut() -> O,
+    ) -> Times {
         let calls = calls(&mut proved);
         self.race(
             calls,
@@ -74,6 +79,7 @@ impl Course {
             ratios.push(a.as_secs_f64() / b.as_secs_f64());
         }
         Times {
+            best: least(&first) / least(&second),
             proved: median(first) / f64::from(calls),
             other: median(second) / f64::from(calls),
             ratio: median(ratios),
@@ -82,7 +88,7 @@ impl Course {
 }
 
 /// So many calls as make a timing long enough.
-fn calls(run: &mut impl FnMut()) -> u32 {
+fn calls<T>(run: &mut impl FnMut() -> T) -> u32 {
     let mut calls = 1;
     while time(calls, run) < LEAST {
         calls *= 2;
@@ -90,10 +96,10 @@ fn calls(run: &mut impl FnMut()) -> u32 {
     calls
 }
 
-fn time(calls: u32, run: &mut impl FnMut()) -> Duration {
+fn time<T>(calls: u32, run: &mut impl FnMut() -> T) -> Duration {
     let started = Instant::now();
     for _ in 0..calls {
-        run();
+        black_box(run());
     }
     started.elapsed()
 }
@@ -103,11 +109,19 @@ fn median(mut numbers: Vec<f64>) -> f64 {
     numbers[numbers.len() / 2]
 }
 
-/// Medians, in seconds a call.
+fn least(numbers: &[f64]) -> f64 {
+    numbers.iter().copied().fold(f64::INFINITY, f64::min)
+}
+
+/// What a pair took.
 pub struct Times {
+    /// Medians, in seconds a call.
     proved: f64,
     other: f64,
+    /// The median of the rounds' ratios.
     ratio: f64,
+    /// The ratio of the shortest times, which what else the machine does touches least.
+    best: f64,
 }
 
 impl Times {
@@ -136,7 +150,7 @@ impl Row {
 }
 
 pub const HEAD: &str =
-    "what                                         proved us     other us  against  ratio   bar";
+    "what                                         proved us     other us  against  ratio   bar  of best";
 
 impl fmt::Display for Row {
     fn fmt(&self, f: &mut fmt::Formatter<'_>) -> fmt::Result {
@@ -144,11 +158,12 @@ impl fmt::Display for Row {
             proved,
             other,
             ratio,
+            best,
         } = self.times;
         let missed = if self.missed() { "  missed" } else { "" };
         write!(
             f,
-            "{:<42} {:>11.2}  {:>11.2}  {:<7} {ratio:>6.2}  {:>4.2}{missed}",
+            "{:<42} {:>11.2}  {:>11.2}  {:<7} {ratio:>6.2}  {:>4.2}  {best:>7.2}{missed}",
             self.what,
             proved * 1e6,
             other * 1e6,

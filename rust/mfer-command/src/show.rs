@@ -35,11 +35,12 @@ pub fn show(name: &OsStr, out: &mut impl Write) -> Result<(), Failure> {
     let count = counted(frames.into(), "frame");
     writeln!(out, "{}: {length}, {count}", shown(name)).map_err(Failure::output)?;
     let mut progress = Progress::beside_output("showing frames");
+    let mut channels = Vec::new();
     // The last table that was written, and of which frame.
     let mut last: Option<(u32, Vec<Row>)> = None;
     for frame in 0..frames {
         progress.step(frame.into(), frames.into());
-        let channels = source.channels(frame).map_err(refused)?;
+        channels = source.channels(frame, channels).map_err(refused)?;
         let rows: Vec<Row> = (0..).zip(&channels).map(row).collect();
         let head = heading(frame, &channels[0]);
         match &last {
@@ -75,17 +76,44 @@ impl<'a> Source<'a> {
         }
     }
 
-    /// The attributes of all channels of a frame; there is at least one.
-    fn channels(&self, frame: u32) -> Result<Vec<Attributes>, Refusal> {
-        let (file, frame) = match self {
-            Source::Whole(file) => (*file, frame),
-            Source::Cut(recording) => {
-                (recording.frame(frame as usize).unwrap_or(File::new(&[])), 0)
-            }
+    /// The attributes of all channels of a frame, at least one; `before` are those of the frame
+    /// before it.
+    fn channels(&self, frame: u32, before: Vec<Attributes>) -> Result<Vec<Attributes>, Refusal> {
+        let Source::Cut(recording) = self else {
+            return self.ask(frame);
+        };
+        let number = frame as usize;
+        if number == 0 || recording.groups(number) != recording.groups(number - 1) {
+            return self.ask(frame);
+        }
+        let Attributes {
+            start, sequences, ..
+        } = self.file(frame).attributes(0, 0)?;
+        let same = |read| Attributes {
+            start,
+            sequences,
+            ..read
+        };
+        Ok(before.into_iter().map(same).collect())
+    }
+
+    fn ask(&self, frame: u32) -> Result<Vec<Attributes>, Refusal> {
+        let file = self.file(frame);
+        let frame = match self {
+            Source::Whole(_) => frame,
+            Source::Cut(_) => 0,
         };
         let first = file.attributes(frame, 0)?;
         let others = (1..first.channels).map(|channel| file.attributes(frame, channel));
         std::iter::once(Ok(first)).chain(others).collect()
+    }
+
+    /// The file that has the frame.
+    fn file(&self, frame: u32) -> File<'_> {
+        match self {
+            Source::Whole(file) => *file,
+            Source::Cut(recording) => recording.frame(frame as usize).unwrap_or(File::new(&[])),
+        }
     }
 }
 

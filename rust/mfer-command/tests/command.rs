@@ -155,7 +155,7 @@ frame 2: start 2, 1 channel, 0 sequences
   0        40 resting EEG  17994 FP1-A1  single  0        1e-3 s    1 mmHg      0x00000000  none
 ";
     let head = format!("{}: {} octets, 3 frames\n", shown(&file), octets.len());
-    assert_eq!((out, error, status), (head + &table, "".into(), 0));
+    assert_eq!((out, error, status), (head + table, "".into(), 0));
 }
 
 #[test]

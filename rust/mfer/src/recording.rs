@@ -24,7 +24,14 @@ use std::ops::Range;
 #[derive(Clone, Debug)]
 pub struct Recording {
     octets: Vec<u8>,
-    frames: Vec<Range<usize>>,
+    frames: Vec<Cut>,
+}
+
+/// Where a frame and its groups are.
+#[derive(Clone, Debug)]
+struct Cut {
+    frame: Range<usize>,
+    groups: Range<usize>,
 }
 
 impl Recording {
@@ -47,8 +54,15 @@ impl Recording {
 
     /// A frame, as a file that has it alone.
     pub fn frame(&self, frame: usize) -> Option<File<'_>> {
-        let range = self.frames.get(frame)?;
-        Some(File::new(&self.octets[range.clone()]))
+        let cut = self.frames.get(frame)?;
+        Some(File::new(&self.octets[cut.frame.clone()]))
+    }
+
+    /// The octets of a frame's groups. In two frames they are the same exactly when these have as
+    /// many channels, and every channel the same settings.
+    pub fn groups(&self, frame: usize) -> Option<&[u8]> {
+        let cut = self.frames.get(frame)?;
+        Some(&self.octets[cut.groups.clone()])
     }
 
     /// The canonical file.
@@ -57,34 +71,43 @@ impl Recording {
     }
 }
 
-/// Where the frames of a canonical file are: each from its channel count to its waveform's end. The
-/// byte order ahead of the first is the one a file has anyway.
-fn frames(octets: &[u8]) -> Vec<Range<usize>> {
+/// Where the frames of a canonical file are: each from its channel count to its waveform's end, with
+/// the groups from its start pointer's end to its waveform. The byte order ahead of the first frame
+/// is the one a file has anyway.
+fn frames(octets: &[u8]) -> Vec<Cut> {
     const BYTE_ORDER: u8 = 0x01;
+    const START: u8 = 0x07;
     const WAVEFORM: u8 = 0x1E;
     const GROUP: u8 = 0x3F;
     let mut frames = Vec::new();
-    let (mut start, mut at) = (0, 0);
+    let (mut frame, mut groups, mut at) = (0, 0, 0);
     while at < octets.len() {
         let tag = octets[at];
-        at += 1;
-        if tag == GROUP {
-            while octets[at] & 0x80 != 0 {
-                at += 1;
-            }
-            at += 1;
-        }
-        at = value_end(octets, at);
+        let end = match tag {
+            GROUP => value_end(octets, channel_end(octets, at + 1)),
+            _ => value_end(octets, at + 1),
+        };
         match tag {
-            BYTE_ORDER => start = at,
+            BYTE_ORDER => frame = end,
+            START => groups = end,
             WAVEFORM => {
-                frames.push(start..at);
-                start = at;
+                frames.push(Cut {
+                    frame: frame..end,
+                    groups: groups..at,
+                });
+                frame = end;
             }
             _ => {}
         }
+        at = end;
     }
     frames
+}
+
+/// Where the channel number ends that is at `at`.
+fn channel_end(octets: &[u8], at: usize) -> usize {
+    let more = octets[at..].iter().take_while(|octet| **octet >= 0x80);
+    at + more.count() + 1
 }
 
 /// Where the value ends whose length is at `at`.

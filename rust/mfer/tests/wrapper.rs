@@ -74,6 +74,11 @@ fn a_recording_has_the_same_frames() {
         }
     }
     assert!(recording.frame(300).is_none());
+    // The lead codes come again after 256 frames.
+    assert_eq!(recording.groups(0).unwrap().len(), 2 * 42);
+    assert_ne!(recording.groups(0), recording.groups(1));
+    assert_eq!(recording.groups(0), recording.groups(256));
+    assert!(recording.groups(300).is_none());
     assert_eq!(Ok(recording.into_octets()), file.canonical_vec());
     assert!(Recording::of(&File::new(&[])).unwrap().is_empty());
 }

@@ -2,7 +2,7 @@
 use mir.Facts.{toZ-ofZ}
 use lib.IntN.{ℤ}
 use Rattle.canonical.specs.Parts.{unsignedBy}
-use Rattle.canonical.proofs.Puts.{sequences-few, put-as, put-more, unsigned-is}
+use Rattle.canonical.proofs.Puts.{sequences-long, put-as, put-more, unsigned-is}
 use mathlib.Core.Path.{_≡_, ap, sym, _∙_}
 use mathlib.Core.List.{List, _++_}
 use native.Mathlib.Omega.{arith}
@@ -47,7 +47,7 @@ returns : tie.Need-returns
 returns c =
     let p = put-fits (simp length-field (omega (arith, c .before .before .before .before .before .before .before .before .before .before .before .before .before .before .pre .1))) (c .before .before .before .before .before .before .before .before .before .before .put-field .ensures) in
     let q = c .before .before .before .before .before .before .put-sequences .ensures in
-    let o = put-fits (simp length-field (omega (arith, p .next, put-long p, length-field 5 4 (c .before .before .before .before .before .before .before .before .before .before .before .before .before .before .args .count), q .next, put-long q, sequences-few (c .before .before .before .before .before .before .before .before .before .before .before .before .before .before .args .sequences), c .before .before .before .before .before .before .before .before .before .before .before .before .before .before .pre .1))) (c .before .before .put-field2 .ensures) in
+    let o = put-fits (simp length-field (omega (arith, p .next, put-long p, length-field 5 4 (c .before .before .before .before .before .before .before .before .before .before .before .before .before .before .args .count), q .next, put-long q, sequences-long (c .before .before .before .before .before .before .before .before .before .before .before .before .before .before .args .sequences), c .before .before .before .before .before .before .before .before .before .before .before .before .before .before .pre .1))) (c .before .before .put-field2 .ensures) in
     put-as (λ k. (field 5 4 (c .before .before .before .before .before .before .before .before .before .before .before .before .before .before .args .count) ++ sequencesItem (c .before .before .before .before .before .before .before .before .before .before .before .before .before .before .args .sequences)) ++ field 7 4 ((c .before .before .before .before .before .before .before .before .before .before .before .before .unsigned .ensures ∙ ap (unsignedBy 4294967296) (toZ-ofZ (c .before .before .before .before .before .before .before .before .before .before .before .before .before .before .fits .start)) ∙ unsigned-is 4 (c .before .before .before .before .before .before .before .before .before .before .before .before .before .before .args .start)) k)) (put-then (put-then p q) o)
 
 pub put-head-spec : {M : Type 1} → statement M

@@ -1,3 +1,15 @@
+-- One run as it stands, one run turned round, or block by block.
+use mathlib.Core.Path.{subst, _≡_, ap, sym, _∙_}
+use mathlib.Core.List.{List}
+use native.Mathlib.Omega.{arith}
+use borrow.Author.Tests.{not-true, not-false}
+use lib.ListN.{length, take}
+use Prim.Native.Nat.{ℕ, _<_}
+use Rattle.settings.specs.declared.Settings.{Settings}
+use Rattle.laid.specs.Turned.{Even}
+use Rattle.runs.specs.Storing.{Put, put-fits}
+use Rattle.canonical.proofs.Puts.{put-as}
+use Rattle.canonical.proofs.Samples.{samples-big, samples-little, samples-narrow, samples-even, even-room, taken-room}
 use borrow.Author.Needs.{needs}
 use Rattle.canonical.proofs.put_samples.Statement.{statement}
 use Rattle.canonical.proofs.put_samples.Tie as tie
@@ -20,9 +32,13 @@ copy-requires c κs = search needs
 same-length : tie.Need-same-length
 same-length c = search needs
 
+one-wide : (cs : List Settings) (v : ℕ) → (0 < v → Even v cs) → v ≡ 1 → Even 1 cs
+one-wide cs v f e = subst (λ (w : ℕ). Even w cs) e (f (omega arith))
+
+
 -- src/lib.rt:230:9
 returns : tie.Need-returns
-returns c = ?
+returns c = put-as (samples-big {little = c .before .before .before .before .before .before .before .before .args .little} (take (c .before .before .before .before .before .before .before .before .args .count) (c .before .before .before .before .before .before .before .before .args .table)) _ _ _ (not-true _ (c .before .before .before .before .if1 .taken)) (c .before .before .before .before .before .before .before .before .pre .0 .2)) (put-fits (taken-room (c .before .before .before .before .before .before .before .before .args .octets) (c .before .before .before .before .before .before .before .before .args .at) (c .before .before .before .before .before .before .before .before .args .w .now) (c .before .before .before .before .before .before .before .before .args .out .now) (c .before .before .before .before .before .before .before .before .pre .1 .1)) (c .before .before .copy .ensures))
 
 -- src/lib.rt:233:9
 copy-requires-2 : tie.Need-copy-requires-2
@@ -34,7 +50,7 @@ same-length-2 c = search needs
 
 -- src/lib.rt:233:9
 returns-2 : tie.Need-returns-2
-returns-2 c = ?
+returns-2 c = put-as (samples-narrow (take (c .before .before .before .before .before .before .before .before .before .args .count) (c .before .before .before .before .before .before .before .before .before .args .table)) _ _ _ (c .before .before .before .before .before .before .before .before .before .pre .0 .2) (one-wide (take (c .before .before .before .before .before .before .before .before .before .args .count) (c .before .before .before .before .before .before .before .before .before .args .table)) _ (c .before .before .before .before .before .before .even-width .ensures) (c .before .before .before .before .if2 .taken)) ∙ samples-little {little = c .before .before .before .before .before .before .before .before .before .args .little} (take (c .before .before .before .before .before .before .before .before .before .args .count) (c .before .before .before .before .before .before .before .before .before .args .table)) _ _ (not-false _ (c .before .before .before .before .before .if1 .left))) (put-fits (taken-room (c .before .before .before .before .before .before .before .before .before .args .octets) (c .before .before .before .before .before .before .before .before .before .args .at) (c .before .before .before .before .before .before .before .before .before .args .w .now) (c .before .before .before .before .before .before .before .before .before .args .out .now) (c .before .before .before .before .before .before .before .before .before .pre .1 .1)) (c .before .before .copy2 .ensures))
 
 -- src/lib.rt:236:9
 put-blocks-requires : tie.Need-put-blocks-requires
@@ -46,7 +62,7 @@ same-length-3 c = search needs
 
 -- src/lib.rt:236:9
 returns-3 : tie.Need-returns-3
-returns-3 c = ?
+returns-3 c = put-as (samples-little {little = c .before .before .before .before .before .before .before .before .before .before .args .little} (take (c .before .before .before .before .before .before .before .before .before .before .args .count) (c .before .before .before .before .before .before .before .before .before .before .args .table)) _ _ (not-false _ (c .before .before .before .before .before .before .if1 .left))) (c .before .before .put-blocks .ensures)
 
 -- src/lib.rt:238:22
 div-turn : tie.Need-div-turn
@@ -62,7 +78,9 @@ same-length-4 c = search needs
 
 -- src/lib.rt:223:1
 returns-4 : tie.Need-returns-4
-returns-4 c = ?
+returns-4 c =
+    let p : 0 < c .before .before .before .before .before .before .before .even-width .result = omega arith in
+    put-as (samples-even (take (c .before .before .before .before .before .before .before .before .before .before .args .count) (c .before .before .before .before .before .before .before .before .before .before .args .table)) _ _ _ (c .before .before .before .before .before .before .before .before .before .before .pre .0 .2) _ p (c .before .before .before .before .before .before .before .even-width .ensures p) (c .before .before .before .before .before .before .before .before .before .before .pre .1 .0) ∙ samples-little {little = c .before .before .before .before .before .before .before .before .before .before .args .little} (take (c .before .before .before .before .before .before .before .before .before .before .args .count) (c .before .before .before .before .before .before .before .before .before .before .args .table)) _ _ (not-false _ (c .before .before .before .before .before .before .if1 .left))) (put-fits (omega (arith, even-room (take (c .before .before .before .before .before .before .before .before .before .before .args .count) (c .before .before .before .before .before .before .before .before .before .before .args .table)) (c .before .before .before .before .before .before .before .before .before .before .args .sequences) (c .before .before .before .before .before .before .before .before .before .before .args .w .now) (c .before .before .before .before .before .before .before .before .before .before .args .octets) (c .before .before .before .before .before .before .before .before .before .before .pre .0 .2) (c .before .before .before .before .before .before .before .even-width .result) p (c .before .before .before .before .before .before .before .even-width .ensures p) (c .before .before .before .before .before .before .before .before .before .before .pre .1 .0), c .before .before .before .before .before .before .before .before .before .before .pre .1 .1)) (c .before .before .turn .ensures))
 
 pub put-samples-spec : {M : Type 1} → statement M
 put-samples-spec =
