@@ -70,7 +70,7 @@ laid-settled : (g : ℕ → ℕ → List ℕ) (cs : List Settings) (S : ℕ) →
 unfolding laid
 laid-settled g cs S = laid-from-settled g cs 0 S
 
-octets-settled : (cs : List Settings) → sequenceOctets (map settled cs) ≡ sequenceOctets cs
+pub octets-settled : (cs : List Settings) → sequenceOctets (map settled cs) ≡ sequenceOctets cs
 unfolding sequenceOctets blockOctets settled
 octets-settled [] = refl
 octets-settled (c ∷ cs) = rw (octets-settled cs)

@@ -1,17 +1,29 @@
 -- What the canonical writer answers and what it leaves in the buffer (document 01, "What comes back when it is no" and "The canonical file").
-use mathlib.Core.List.{List, _++_}
+use mathlib.Core.List.{List, [], _++_}
 use mathlib.Core.Bool.{Bool}
-use Prim.Native.Nat.{ℕ}
+use Prim.Native.Nat.{ℕ, _+_, _≤_}
+use mathlib.Core.Path.{_≡_}
 use lib.Dec.{leb}
 use lib.ListN.{length, drop}
 use Rattle.octets.specs.Pick.{pick, both}
 use Rattle.items.specs.Refusals.{bufferShort}
 use Rattle.items.specs.Walk.{refusal}
+use Rattle.layout.specs.Frame.{Frame}
 use Rattle.reader.specs.Framing.{octetsLimit}
+use Rattle.reader.specs.Answer.{sizes}
 use Rattle.reader.specs.Verdict.{Verdict, accepted, refused, verdict}
 use Rattle.canonical.specs.declared.Written.{Written}
 use Rattle.canonical.specs.Recording.{recording}
 use Rattle.canonical.specs.Canonical.{canonical}
+
+-- The frames of an accepted file.
+unfoldable pub framesIn : Verdict → List Frame
+framesIn (accepted fs) = fs
+framesIn (refused r) = []
+
+-- The canonical file of an accepted file.
+unfoldable pub canonicalOf : List ℕ → List ℕ
+canonicalOf s = canonical (recording (framesIn (verdict s)))
 
 -- The canonical file is no longer than the output buffer, nor than 15's limit.
 unfoldable pub fits : List ℕ → List ℕ → Bool
@@ -38,3 +50,9 @@ writtenOf s buffer = writtenIn buffer (verdict s)
 -- The buffer afterwards.
 unfoldable pub leftOf : List ℕ → List ℕ → List ℕ
 leftOf s buffer = leftIn buffer (verdict s)
+
+-- A file that is accepted and has frames, and a buffer that its canonical file fits into.
+pub record Ready (s buffer : List ℕ) : Type 0 where
+  pub is : verdict s ≡ accepted (framesIn (verdict s))
+  pub some : length (framesIn (verdict s)) ≡ 0 → ⊥
+  pub room : 3 + sizes (framesIn (verdict s)) ≤ length buffer

@@ -17,8 +17,15 @@ ghost use Rattle.laid.specs.Turned.{Even, turnedAll};
 ghost use Rattle.layout.specs.Size.{nullSize, contentSize, groupSize, groupsSize, sequencesSize, frameSize};
 ghost use Rattle.canonical.specs.Recording.{settled};
 ghost use Rattle.canonical.specs.Canonical.{channelOctets, scaleItem, groupItems, groupOctets, groupsOctets, sequencesItem};
+ghost use Rattle.canonical.specs.Write.{canonicalOf, Ready, writtenOf, leftOf};
 ghost use Rattle.canonical.specs.Parts.{unsignedBy, firstItems, scaleItems, lastItems, headItems, samplesTurned, frameParts};
+use items::Cursor;
+use items::Next;
 use items::Refusal;
+use reader::Asked;
+use reader::Checked;
+use reader::Effect;
+use reader::Framed;
 use reader::Standing;
 use settings::Scale;
 use settings::Settings;
@@ -250,4 +257,109 @@ fn put_frame(w: &[u8], st: Standing, sequences: u32, octets: usize, table: [Sett
     let c = runs::put_octet(out, b, 0x1E);
     let d = runs::put_length(out, c, octets as u32);
     put_samples(w, st.little, sequences, octets, table, k, out, d)
+}
+
+// Writes the frames of an accepted file that has some, behind 01 01 00.
+fn write_frames(s: &[u8], out: &mut [u8]) -> usize
+    requires { ⌜ Ready (now s) (now out) ⌝ }
+    ensures { λ r. ⌜ Put (now (out .entry)) 0 (canonicalOf (now (s .entry))) r (now (out .exit)) ⌝ }
+{
+    let a = runs::put_two(out, 0, 0x01, 0x01);
+    let mut at = runs::put_octet(out, a, 0x00);
+    let mut table = Settings::table();
+    let mut c = Cursor::first();
+    let mut st = Standing::first();
+    let mut frames = 0u32;
+    loop {
+        match items::next_item(s, c) {
+            Next::End => {
+                return at;
+            }
+            Next::Refused(_) => {
+                return at;
+            }
+            Next::Found(item, next) => {
+                c = next;
+                match reader::item_effect(s, st, item) {
+                    Effect::Pass => {}
+                    Effect::Stand(x) => {
+                        st = x;
+                    }
+                    Effect::Reset(x) => {
+                        let root = x.root;
+                        table = [root; 256];
+                        st = x;
+                    }
+                    Effect::All(change) => {
+                        let root = st.root;
+                        st = st.with_root(settings::apply(root, change));
+                        let changed = settings::apply_all(table, change);
+                        table = changed;
+                    }
+                    Effect::One(channel, change) => {
+                        let k = channel as usize;
+                        if k < 256 {
+                            table[k] = settings::apply(table[k], change);
+                        }
+                    }
+                    Effect::Frame { start, len } => {
+                        let count = reader::channels_of(st.counted);
+                        let l = layout::measure(table, count, 0);
+                        match reader::frame_of(frames, st, l.agree, l.octets, len) {
+                            Framed::Refused(_) => {
+                                return at;
+                            }
+                            Framed::Taken(sequences, after) => {
+                                let w = octets::part(s, start, len);
+                                let n = sequences as usize * l.octets as usize;
+                                at = put_frame(w, st, sequences, n, table, count, out, at);
+                                st = after;
+                                frames = frames + 1;
+                            }
+                        }
+                    }
+                    Effect::Refused(_) => {
+                        return at;
+                    }
+                }
+            }
+        }
+    }
+}
+
+// Writes the canonical file of a file into the front of a buffer.
+pub fn write_canonical(s: &[u8], out: &mut [u8]) -> Written
+    ensures { λ r. ⌜ (r ≡ writtenOf (now (s .entry)) (now (out .entry))) × (now (out .exit) ≡ leftOf (now (s .entry)) (now (out .entry))) ⌝ }
+{
+    let pass = reader::scan_file(
+        s,
+        Asked {
+            frame: 0,
+            channel: 0,
+        },
+    );
+    let checked = pass.checked;
+    let Checked::Frames(n) = checked else {
+        let Checked::Refused(x) = checked else {
+            return Written::Octets(0);
+        };
+        return Written::Refused(x);
+    };
+    if n == 0 {
+        return Written::Octets(0);
+    }
+    let size = pass.size + 3;
+    if 0x7FFF_FFFF < size {
+        return Written::Refused(Refusal {
+            number: Refusal::BUFFER,
+            place: 0,
+        });
+    }
+    if out.len() < size as usize {
+        return Written::Refused(Refusal {
+            number: Refusal::BUFFER,
+            place: 0,
+        });
+    }
+    Written::Octets(write_frames(s, out))
 }

@@ -7,9 +7,13 @@ use std::fmt;
 use std::sync::atomic::{AtomicU64, Ordering};
 use std::sync::Mutex;
 use std::thread;
+use std::time::{Duration, Instant};
 
 /// Files taken by a thread in one go.
 const BATCH: u64 = 64;
+
+/// A file that is long to ask about is shrunk as far as this time allows.
+const SHRINKING: Duration = Duration::from_secs(30);
 
 /// How many files were accepted, and refused with each number.
 #[derive(Clone, Default, Debug)]
@@ -131,7 +135,10 @@ pub fn all_same(
 }
 
 fn shrunk(number: u64, file: &[u8]) -> Failure {
-    let file = shrink(file, |file| difference(file).is_some());
+    let end = Instant::now() + SHRINKING;
+    let file = shrink(file, |file| {
+        Instant::now() < end && difference(file).is_some()
+    });
     let difference = difference(&file).unwrap_or_default();
     Failure {
         number,

@@ -81,8 +81,9 @@ fn each_channel_steps_with_its_own_block() {
 /// of root and channel last.
 #[test]
 fn settings_last_across_frames() {
+    // The second waveform would do for two sequences.
     let hex = "01 01 01 05 01 02 06 01 01 08 01 07 0D 02 01 00 3F 01 07 0A 01 01 12 02 34 12 \
-               1E 04 01 00 02 00 1E 05 03 00 34 12 99";
+               1E 04 01 00 02 00 1E 09 03 00 34 12 99 99 99 99 99";
     let first = attributes(hex, 0, 1);
     assert_eq!(first.channels, 2);
     assert_eq!(first.null, Some(0x1234));

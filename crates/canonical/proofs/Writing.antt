@@ -1,0 +1,304 @@
+-- Laws of the pass that writes the frames of an accepted file.
+--     frames-grow     the frames met so far are the first of the file's
+--     frame-is        a frame's octets are those of its parts
+--     Writing         the loop's invariant
+--     writing-first, -goes, -frame    before the first item, after an item, after a frame
+--     written-end, never-fault, never-refuses    the end; an accepted file has no other
+-- Assumes nothing.
+use mathlib.Core.Path.{_≡_, refl, sym, ap, subst, _∙_}
+use mathlib.Core.List.{List, [], _∷_, _++_, map, append-assoc, append-nil, map-append}
+use mathlib.Core.Bool.{Bool, true, false}
+use Prim.Native.Nat.{ℕ, zero, suc, _+_, _*_, _^_, _≤_, _<_}
+use native.Mathlib.Nat.{add-zero, zero-add, add-assoc}
+use native.Mathlib.Omega.{arith}
+use lib.ListN.{length, getD, take, drop, length-append, length-replicate, length-map}
+use lib.Seq.{getD-append-seam, length-take-le}
+use lib.Signed.{mag}
+use Rattle.octets.proofs.Laws.{take-octets, drop-octets}
+use Rattle.items.specs.declared.Item.{Item}
+use Rattle.items.specs.declared.Cursor.{Cursor}
+use Rattle.items.specs.declared.Refusal.{Refusal}
+use Rattle.items.specs.declared.Next.{Next}
+use Rattle.items.specs.declared.Next.the-variants.{Found, End}
+use Rattle.items.specs.declared.Within.the-variants.{Root}
+use Rattle.items.specs.Walk.{nextOf, itemsFrom, itemsOf, cursor, refusal, fault}
+use Rattle.items.proofs.Walks.{items-found, items-end, items-refused}
+use Rattle.runs.specs.Number.{field}
+use Rattle.runs.specs.Length.{shortest}
+use Rattle.runs.specs.Storing.{Put, Putting, put-fits}
+use Rattle.runs.proofs.Stores.{put-then, put-long}
+use Rattle.settings.specs.declared.Settings.{Settings}
+use Rattle.settings.specs.Settings.{channelLimit, defaultSettings, defaultTable}
+use Rattle.layout.specs.Frame.{Frame, sequenceOctets}
+use Rattle.layout.specs.declared.Layout.{Layout}
+use Rattle.layout.specs.Measure.{layoutOf}
+use Rattle.layout.specs.Size.{groupsSize, frameSize}
+use Rattle.reader.specs.declared.Standing.{Standing}
+use Rattle.reader.specs.declared.Effect.{Effect}
+use Rattle.reader.specs.declared.Framed.{Framed}
+use Rattle.reader.specs.declared.Framed.the-variants.{Taken}
+use Rattle.reader.specs.Standing.{firstStanding, effectOf, valueAt}
+use Rattle.reader.specs.Framing.{octetsLimit, channelsOf, framedAs}
+use Rattle.reader.specs.Verdict.{State, state, firstState, Outcome, goes, refuses, frameChannels, frameAt, withFrame, carried, placeAt, Verdict, accepted, refused, interpret, verdict}
+use Rattle.reader.specs.Answer.{zeroFrame, sizeOf, sizes}
+use Rattle.reader.proofs.Keeps.{meaning, Kept, Keeps, frames-kept, accepted-by, interpret-goes, interpret-refuses, interpret-finished, interpret-fault, firstCursor}
+use Rattle.reader.proofs.Framings.{pointer-small}
+use Rattle.reader.proofs.Scans.{channels-few, framed-found}
+use Rattle.reader.proofs.Ordered.{Lies, accepted-lies, accepted-small}
+use Rattle.canonical.specs.Recording.{Recorded, settled, recordedFrame, recording}
+use Rattle.canonical.specs.Canonical.{item, numberItem, unsignedOf, groupsOctets, sequencesItem, waveformOf, frameOctets, framesOctets, canonical}
+use Rattle.canonical.specs.Write.{framesIn, canonicalOf, Ready}
+use Rattle.canonical.specs.Parts.{headItems, samplesTurned, frameParts}
+use Rattle.canonical.proofs.Octets.{waveform-big, waveform-little, frame-long, frames-long, octets-settled}
+use Rattle.canonical.proofs.Puts.{put-as, field-is}
+use Rattle.canonical.proofs.Recordings.{waveform-long}
+
+-- ---- the frames met so far are the first of the file's
+
+abbrev Grown : List Frame → Outcome → Type 0
+Grown fs (goes y) = (rest : List Frame) × (y .frames ≡ fs ++ rest)
+Grown fs (refuses n) = Unit {0}
+
+with-grown : (s : List ℕ) (x : State) (start len : ℕ) (f : Framed) → Grown (x .frames) (withFrame s x start len f)
+unfolding withFrame
+with-grown s x start len (Framed.Taken n st) = (frameAt s x start len n ∷ [], refl)
+with-grown s x start len (Framed.Refused n) = tt
+
+carried-grown : (s : List ℕ) (x : State) (e : Effect) → Grown (x .frames) (carried s x e)
+unfolding carried
+carried-grown s x Effect.Pass = ([], sym (append-nil (x .frames)))
+carried-grown s x (Effect.Stand st) = ([], sym (append-nil (x .frames)))
+carried-grown s x (Effect.Reset st) = ([], sym (append-nil (x .frames)))
+carried-grown s x (Effect.All c) = ([], sym (append-nil (x .frames)))
+carried-grown s x (Effect.One channel c) = ([], sym (append-nil (x .frames)))
+carried-grown s x (Effect.Frame start len) = with-grown s x start len _
+carried-grown s x (Effect.Refused n) = tt
+
+abbrev First : List Frame → State → Cursor → Type 0
+First fs y d = (rest : List Frame) × (y .frames ≡ fs ++ rest)
+
+first-keeps : (s : List ℕ) (fs : List Frame) → Keeps s (First fs)
+first-keeps s fs x c i d y p n m =
+    let g = subst (Grown (x .frames)) m (carried-grown s x (effectOf s (x .standing) i)) in
+    (p .0 ++ g .0, g .1 ∙ ap (λ (l : List Frame). l ++ g .0) (p .1) ∙ append-assoc fs (p .0) (g .0))
+
+pub frames-grow : (s : List ℕ) (x : State) (c : Cursor) (fs : List Frame) → interpret s x (itemsFrom s c) ≡ accepted fs → (rest : List Frame) × (fs ≡ x .frames ++ rest)
+frames-grow s x c fs e =
+    let k = frames-kept s (First (x .frames)) (first-keeps s (x .frames)) x c fs ([], sym (append-nil (x .frames))) e in
+    (k .holds .0, sym (k .frames) ∙ k .holds .1)
+
+-- ---- a frame's octets, in the parts in which it is written
+
+recorded-is : (r : Recorded) (count : ℕ) → length (r .channels) ≡ count
+    → frameOctets r ≡ (((headItems count (r .sequences) (r .start) ++ groupsOctets 0 (r .channels)) ++ (0x1E ∷ [])) ++ shortest (r .sequences * sequenceOctets (r .channels))) ++ waveformOf r
+unfolding frameOctets item
+recorded-is r count e =
+    let a : numberItem 0x05 4 (length (r .channels)) ≡ field 0x05 4 count = ap (numberItem 0x05 4) e ∙ field-is 0x05 4 count (omega arith) in
+    let b = field-is 0x07 4 (unsignedOf 4 (r .start)) (omega arith) in
+    let l : shortest (length (waveformOf r)) ≡ shortest (r .sequences * sequenceOctets (r .channels)) = ap shortest (waveform-long r) in
+    rw (a, b, l) (simp append-assoc)
+
+pub frame-is : (f : Frame) (count : ℕ) → length (f .channels) ≡ count → frameOctets (recordedFrame f) ≡ frameParts (f .start) (f .sequences) (f .channels) count (waveformOf (recordedFrame f))
+unfolding recordedFrame
+frame-is f count e =
+    recorded-is (recordedFrame f) count (simp length-map e)
+    ∙ ap (λ (n : ℕ). (((headItems count (f .sequences) (f .start) ++ groupsOctets 0 (map settled (f .channels))) ++ (0x1E ∷ [])) ++ shortest (f .sequences * n)) ++ waveformOf (recordedFrame f)) (octets-settled (f .channels))
+
+-- The samples of a frame, as they are written.
+pub samples-are : (s : List ℕ) (f : Frame) → Lies s f → ((i : ℕ) → getD (f .waveform) i 0 < 256) → samplesTurned (f .little) (f .channels) (f .sequences) (f .waveform) ≡ waveformOf (recordedFrame f)
+samples-are s f l o = by (f .little) refl
+  where
+    by : (b : Bool) → f .little ≡ b → samplesTurned (f .little) (f .channels) (f .sequences) (f .waveform) ≡ waveformOf (recordedFrame f)
+    by false e = ap (λ (b : Bool). samplesTurned b (f .channels) (f .sequences) (f .waveform)) e ∙ sym (waveform-big s f l o e)
+    by true e = ap (λ (b : Bool). samplesTurned b (f .channels) (f .sequences) (f .waveform)) e ∙ sym (waveform-little s f l o e)
+
+-- ---- one frame more
+
+frames-snoc : (fs : List Recorded) (r : Recorded) → framesOctets (fs ++ (r ∷ [])) ≡ framesOctets fs ++ frameOctets r
+unfolding framesOctets
+frames-snoc [] r = append-nil (frameOctets r)
+frames-snoc (f ∷ fs) r = rw (frames-snoc fs r) (sym (append-assoc (frameOctets f) (framesOctets fs) (frameOctets r)))
+
+recording-snoc : (fs : List Frame) (f : Frame) → recording (fs ++ (f ∷ [])) ≡ recording fs ++ (recordedFrame f ∷ [])
+unfolding recording
+recording-snoc fs f = map-append recordedFrame fs (f ∷ [])
+
+sizes-split : (fs gs : List Frame) → sizes (fs ++ gs) ≡ sizes fs + sizes gs
+unfolding sizes
+sizes-split [] gs = sym (zero-add (sizes gs))
+sizes-split (f ∷ fs) gs = rw (sizes-split fs gs) (sym (add-assoc (sizeOf f) (sizes fs) (sizes gs)))
+
+-- What is written behind the first three octets where some frames have been met.
+abbrev writtenSoFar : List Frame → List ℕ
+writtenSoFar fs = framesOctets (recording fs)
+
+so-far-more : (fs : List Frame) (f : Frame) → writtenSoFar fs ++ frameOctets (recordedFrame f) ≡ writtenSoFar (fs ++ (f ∷ []))
+so-far-more fs f = sym (ap framesOctets (recording-snoc fs f) ∙ frames-snoc (recording fs) (recordedFrame f))
+
+so-far-all : (fs : List Frame) → (length fs ≡ 0 → ⊥) → (0x01 ∷ 0x01 ∷ 0x00 ∷ []) ++ writtenSoFar fs ≡ canonical (recording fs)
+unfolding recording canonical
+so-far-all [] n = absurd (n refl)
+so-far-all (f ∷ fs) n = refl
+
+-- The first three octets.
+pub head-put : {s d e f : List ℕ} {a at : ℕ} → Ready s d → Putting d 0 (0x01 ∷ 0x01 ∷ []) a e → Putting e a (0x00 ∷ []) at f → Put d 0 (0x01 ∷ 0x01 ∷ 0x00 ∷ []) at f
+head-put r p q =
+    let u = put-fits (omega (arith, r .room)) p in
+    put-then u (put-fits (omega (arith, r .room, put-long u, u .next)) q)
+
+-- ---- the pass
+
+-- What is known where the pass stands before the item at a cursor: d is the buffer behind which the first three octets are written, e as it is now.
+pub record Writing (s d : List ℕ) (table : List Settings) (c : Cursor) (st : Standing) (frames at : ℕ) (e : List ℕ) : Type 0 where
+  pub is : verdict s ≡ accepted (framesIn (verdict s))
+  pub some : length (framesIn (verdict s)) ≡ 0 → ⊥
+  pub room : 3 + sizes (framesIn (verdict s)) ≤ length d
+  pub counted : st .counted ≤ channelLimit
+  pub full : length table ≡ channelLimit
+  pub met : List Frame
+  pub count : frames ≡ length met
+  pub same : interpret s (state st table met) (itemsFrom s c) ≡ accepted (framesIn (verdict s))
+  pub put : Put d 3 (writtenSoFar met) at e
+
+-- Before the first item.
+pub writing-first : {s d e : List ℕ} (table : List Settings) (c : Cursor) (st : Standing) {at : ℕ} → Ready s d → table ≡ defaultTable → c ≡ cursor 0 Root → st ≡ firstStanding → Put d 0 (0x01 ∷ 0x01 ∷ 0x00 ∷ []) at e → Writing s e table c st 0 at e
+unfolding framesOctets recording
+writing-first {s} table c st r et ec es p =
+    rw (et, ec, es)
+    record {
+      is = r .is;
+      some = r .some;
+      room = omega (arith, r .room, put-long p);
+      counted = omega arith;
+      full = length-replicate channelLimit defaultSettings;
+      met = [];
+      count = refl;
+      same = accepted-by s (framesIn (verdict s)) (r .is) .1;
+      put = record { next = p .next; stored = refl };
+    }
+
+module _ {s d : List ℕ} {table : List Settings} {c : Cursor} {st : Standing} {frames at : ℕ} {e : List ℕ} (p : Writing s d table c st frames at e) where
+  abbrev here : State
+  here = state st table (p .met)
+
+  -- An item that gives no frame.
+  pub writing-goes : {n : Next} {i : Item} {d' : Cursor} {table' : List Settings} {st' : Standing} → n ≡ nextOf s c → n ≡ Found i d' → st' .counted ≤ channelLimit → length table' ≡ channelLimit → carried s here (effectOf s st i) ≡ goes (state st' table' (p .met)) → Writing s d table' d' st' frames at e
+  writing-goes {i = i} {d' = d'} {table' = table'} {st' = st'} a b hc hl g =
+      record {
+        is = p .is;
+        some = p .some;
+        room = p .room;
+        counted = hc;
+        full = hl;
+        met = p .met;
+        count = p .count;
+        same = sym (interpret-goes s here i (itemsFrom s d') (state st' table' (p .met)) g) ∙ ap (interpret s here) (sym (items-found s c i d' (sym a ∙ b))) ∙ p .same;
+        put = p .put;
+      }
+
+  -- The end.
+  pub written-end : {n : Next} {o : List ℕ} {k : ℕ} → n ≡ nextOf s c → n ≡ End → Put o 0 (0x01 ∷ 0x01 ∷ 0x00 ∷ []) k d → Put o 0 (canonicalOf s) at e
+  unfolding canonicalOf
+  written-end a b q =
+      let v : accepted (p .met) ≡ accepted (framesIn (verdict s)) = sym (interpret-finished s here) ∙ ap (interpret s here) (sym (items-end s c (sym a ∙ b))) ∙ p .same in
+      let f : p .met ≡ framesIn (verdict s) = cc in
+      put-as (ap (λ (fs : List Frame). (0x01 ∷ 0x01 ∷ 0x00 ∷ []) ++ writtenSoFar fs) f ∙ so-far-all (framesIn (verdict s)) (p .some)) (put-then {u = 0x01 ∷ 0x01 ∷ 0x00 ∷ []} (record { next = refl; stored = q .stored }) (p .put))
+
+  -- An accepted file has no fault of form.
+  pub never-fault : {n : Next} (r : Refusal) → n ≡ nextOf s c → n ≡ Next.Refused r → ⊥
+  never-fault r a b =
+      let v : refused r ≡ accepted (framesIn (verdict s)) = sym (interpret-fault s here r) ∙ ap (interpret s here) (sym (items-refused s c r (sym a ∙ b))) ∙ p .same in
+      let z : _≡_ {A = ℕ} 0 1 = cc in
+      omega arith
+
+  -- Nor a refused item.
+  pub never-refuses : {n : Next} {i : Item} {d' : Cursor} (k : ℕ) → n ≡ nextOf s c → n ≡ Found i d' → carried s here (effectOf s st i) ≡ refuses k → ⊥
+  never-refuses {i = i} {d' = d'} k a b g =
+      let v : refused (refusal k (placeAt i)) ≡ accepted (framesIn (verdict s)) = sym (interpret-refuses s here i (itemsFrom s d') k g) ∙ ap (interpret s here) (sym (items-found s c i d' (sym a ∙ b))) ∙ p .same in
+      let z : _≡_ {A = ℕ} 0 1 = cc in
+      omega arith
+
+-- ---- a frame
+
+module _ {s d : List ℕ} {table : List Settings} {c : Cursor} {st : Standing} {frames at : ℕ} {e : List ℕ} (p : Writing s d table c st frames at e)
+    (count : ℕ) (l : Layout) (ec : count ≡ channelsOf (st .counted)) (el : l ≡ layoutOf 0 (take count table)) where
+  -- What the frame's waveform gives, as the pass computes it.
+  pub framed-carried : (i : Item) (start len : ℕ) {x : Effect} {r f : Framed} → x ≡ effectOf s st i → x ≡ Effect.Frame start len → r ≡ framedAs frames st (l .agree) (l .octets) len → r ≡ f → carried s (state st table (p .met)) (effectOf s st i) ≡ withFrame s (state st table (p .met)) start len f
+  unfolding carried layoutOf
+  framed-carried i start len a b u v =
+      ap (carried s (state st table (p .met))) (sym a ∙ b)
+      ∙ ap (withFrame s (state st table (p .met)) start len) (sym (rw (el, p .count, ec) at u) ∙ v)
+
+  module _ {n : Next} {i : Item} {d' : Cursor} {start len sequences : ℕ} {x : Standing} {f : Effect} {r : Framed}
+      (en : n ≡ nextOf s c) (fn : n ≡ Found i d')
+      (ee : f ≡ effectOf s st i) (fe : f ≡ Effect.Frame start len)
+      (er : r ≡ framedAs frames st (l .agree) (l .octets) len) (fr : r ≡ Taken sequences x) where
+    abbrev there : Frame
+    there = frameAt s (state st table (p .met)) start len sequences
+
+    abbrev all : List Frame
+    all = framesIn (verdict s)
+
+    taken : carried s (state st table (p .met)) (effectOf s st i) ≡ goes (state x table (p .met ++ (there ∷ [])))
+    unfolding withFrame
+    taken = framed-carried i start len ee fe er fr
+
+    same-after : interpret s (state x table (p .met ++ (there ∷ []))) (itemsFrom s d') ≡ accepted all
+    same-after = sym (interpret-goes s (state st table (p .met)) i (itemsFrom s d') (state x table (p .met ++ (there ∷ []))) taken) ∙ ap (interpret s (state st table (p .met))) (sym (items-found s c i d' (sym en ∙ fn))) ∙ p .same
+
+    grown : (rest : List Frame) × (all ≡ (p .met ++ (there ∷ [])) ++ rest)
+    grown = frames-grow s (state x table (p .met ++ (there ∷ []))) d' all same-after
+
+    split : all ≡ p .met ++ there ∷ (grown .0)
+    split = grown .1 ∙ append-assoc (p .met) (there ∷ []) (grown .0)
+
+    sized : sizes all ≡ sizes (p .met) + (sizeOf there + sizes (grown .0))
+    unfolding sizes
+    sized = ap sizes split ∙ sizes-split (p .met) (there ∷ (grown .0))
+
+    lies : Lies s there
+    lies =
+        let k : length all ≡ length (p .met) + suc (length (grown .0)) = ap length split ∙ length-append (p .met) (there ∷ (grown .0)) in
+        let h : length (p .met) < length all = omega arith in
+        subst (Lies s) (ap (λ (fs : List Frame). getD fs (length (p .met)) zeroFrame) split ∙ getD-append-seam (p .met) there (grown .0) zeroFrame) (accepted-lies s all (p .is) (length (p .met)) h)
+
+    long-there : length (take count table) ≡ count
+    long-there =
+        let h = channels-few (st .counted) (p .counted) in
+        length-take-le count table (omega (arith, p .full, ec))
+
+    -- Where the frame is written, and that it fits.
+    pub frame-ready : (0 < count) × (count ≤ 256) × (sequences * l .octets ≡ sequences * sequenceOctets (take count table)) × (mag (st .start) < 2147483648)
+    unfolding layoutOf
+    frame-ready =
+        let h : length (take count table) ≡ length (there .channels) = ap (λ (k : ℕ). length (take k table)) ec in
+        (omega (arith, long-there, lies .some), omega (arith, long-there, lies .few), ap (λ (k : Layout). sequences * k .octets) el, pointer-small (st .start) (lies .pointer))
+
+    pub frame-room : (w : List ℕ) → w ≡ valueAt s start len → (sequences * l .octets ≤ length w) × (sequences * l .octets < 4294967296) × (at + frameSize sequences (groupsSize 0 (take count table)) (sequences * l .octets) ≤ length e)
+    unfolding layoutOf sizeOf
+    frame-room w ew =
+        let q : sequences * l .octets ≡ sequences * sequenceOctets (there .channels) = ap (λ (k : Layout). sequences * k .octets) el ∙ ap (λ (k : ℕ). sequences * sequenceOctets (take k table)) ec in
+        let v : length w ≡ length (there .waveform) = ap length ew in
+        let g : frameSize sequences (groupsSize 0 (take count table)) (sequences * l .octets) ≡ sizeOf there = ap (frameSize sequences (groupsSize 0 (take count table))) q ∙ ap (λ (k : ℕ). frameSize sequences (groupsSize 0 (take k table)) (sequences * sequenceOctets (there .channels))) ec in
+        (omega (arith, lies .fits), omega (arith, lies .fits, lies .inside, accepted-small s all (p .is)), omega (arith, p .room, sized, put-long (p .put), p .put .next, frames-long (p .met)))
+
+    -- The frame written.
+    pub writing-frame : {w : List ℕ} {at' : ℕ} {e' : List ℕ} → ((k : ℕ) → getD s k 0 < 256) → w ≡ valueAt s start len → Put e at (frameParts (st .start) sequences (take count table) count (samplesTurned (st .little) (take count table) sequences w)) at' e' → Writing s d table d' x (frames + 1) at' e'
+    writing-frame {w} {at'} {e'} o ew q =
+        let k : frameParts (st .start) sequences (take count table) count (samplesTurned (st .little) (take count table) sequences w) ≡ frameOctets (recordedFrame there) =
+        ap (λ (u : List ℕ). frameParts (st .start) sequences (take count table) count (samplesTurned (st .little) (take count table) sequences u)) ew
+        ∙ ap (λ (m : ℕ). frameParts (st .start) sequences (take m table) count (samplesTurned (st .little) (take m table) sequences (valueAt s start len))) ec
+        ∙ ap (λ (u : List ℕ). frameParts (st .start) sequences (there .channels) count u) (samples-are s there lies (take-octets len (drop start s) (drop-octets start s o)))
+        ∙ sym (frame-is there count (sym (ap (λ (m : ℕ). length (take m table)) ec) ∙ long-there)) in
+        let w' = framed-found frames st (l .agree) (l .octets) len er fr in
+        record {
+          is = p .is;
+          some = p .some;
+          room = p .room;
+          counted = rw (w' .3) (p .counted);
+          full = p .full;
+          met = p .met ++ (there ∷ []);
+          count = simp length-append (omega (arith, p .count));
+          same = same-after;
+          put = put-as (so-far-more (p .met) there) (put-then (p .put) (put-as k q));
+        }
