@@ -11,9 +11,11 @@ use mathlib.Core.Bool.{Bool, true, false}
 use Prim.Native.Nat.{ℕ, zero, suc, _+_, _*_, _^_, _≤_, _<_}
 use native.Mathlib.Nat.{add-zero, zero-add, add-assoc}
 use native.Mathlib.Omega.{arith}
+use borrow.Author.Tests.{le-leb, lt-leb}
 use lib.ListN.{length, getD, take, drop, length-append, length-replicate, length-map}
 use lib.Seq.{getD-append-seam, length-take-le}
 use lib.Signed.{mag}
+use Rattle.octets.proofs.Pick.{both-false}
 use Rattle.octets.proofs.Laws.{take-octets, drop-octets}
 use Rattle.items.specs.declared.Item.{Item}
 use Rattle.items.specs.declared.Cursor.{Cursor}
@@ -21,12 +23,13 @@ use Rattle.items.specs.declared.Refusal.{Refusal}
 use Rattle.items.specs.declared.Next.{Next}
 use Rattle.items.specs.declared.Next.the-variants.{Found, End}
 use Rattle.items.specs.declared.Within.the-variants.{Root}
+use Rattle.items.specs.Refusals.{bufferShort}
 use Rattle.items.specs.Walk.{nextOf, itemsFrom, itemsOf, cursor, refusal, fault}
 use Rattle.items.proofs.Walks.{items-found, items-end, items-refused}
 use Rattle.runs.specs.Number.{field}
 use Rattle.runs.specs.Length.{shortest}
 use Rattle.runs.specs.Storing.{Put, Putting, put-fits}
-use Rattle.runs.proofs.Stores.{put-then, put-long}
+use Rattle.runs.proofs.Stores.{put-then, put-long, sets-front}
 use Rattle.settings.specs.declared.Settings.{Settings}
 use Rattle.settings.specs.Settings.{channelLimit, defaultSettings, defaultTable}
 use Rattle.layout.specs.Frame.{Frame, sequenceOctets}
@@ -40,16 +43,20 @@ use Rattle.reader.specs.declared.Framed.the-variants.{Taken}
 use Rattle.reader.specs.Standing.{firstStanding, effectOf, valueAt}
 use Rattle.reader.specs.Framing.{octetsLimit, channelsOf, framedAs}
 use Rattle.reader.specs.Verdict.{State, state, firstState, Outcome, goes, refuses, frameChannels, frameAt, withFrame, carried, placeAt, Verdict, accepted, refused, interpret, verdict}
-use Rattle.reader.specs.Answer.{zeroFrame, sizeOf, sizes}
+use Rattle.reader.specs.Answer.{zeroFrame, sizeOf, sizes, scannedIn, scanOf}
+use Rattle.reader.specs.declared.Asked.{Asked}
+use Rattle.reader.specs.declared.Checked.{Checked}
+use Rattle.reader.specs.declared.Scan.{Scan}
 use Rattle.reader.proofs.Keeps.{meaning, Kept, Keeps, frames-kept, accepted-by, interpret-goes, interpret-refuses, interpret-finished, interpret-fault, firstCursor}
 use Rattle.reader.proofs.Framings.{pointer-small}
 use Rattle.reader.proofs.Scans.{channels-few, framed-found}
 use Rattle.reader.proofs.Ordered.{Lies, accepted-lies, accepted-small}
 use Rattle.canonical.specs.Recording.{Recorded, settled, recordedFrame, recording}
 use Rattle.canonical.specs.Canonical.{item, numberItem, unsignedOf, groupsOctets, sequencesItem, waveformOf, frameOctets, framesOctets, canonical}
-use Rattle.canonical.specs.Write.{framesIn, canonicalOf, Ready}
+use Rattle.canonical.specs.Write.{framesIn, canonicalOf, fits, writtenIn, writtenOf, leftIn, leftOf, Ready}
+use Rattle.canonical.specs.declared.Written.{Written}
 use Rattle.canonical.specs.Parts.{headItems, samplesTurned, frameParts}
-use Rattle.canonical.proofs.Octets.{waveform-big, waveform-little, frame-long, frames-long, octets-settled}
+use Rattle.canonical.proofs.Octets.{waveform-big, waveform-little, frame-long, frames-long, canonical-long, canonical-none, octets-settled}
 use Rattle.canonical.proofs.Puts.{put-as, field-is}
 use Rattle.canonical.proofs.Recordings.{waveform-long}
 
@@ -302,3 +309,83 @@ module _ {s d : List ℕ} {table : List Settings} {c : Cursor} {st : Standing} {
           same = same-after;
           put = put-as (so-far-more (p .met) there) (put-then (p .put) (put-as k q));
         }
+
+-- ---- what the writer answers
+
+module _ (s d : List ℕ) (q : Asked) (r : Scan) (e : r ≡ scanOf q s) where
+  abbrev Answer : Written → List ℕ → Type 0
+  Answer a left = (a ≡ writtenOf s d) × (left ≡ leftOf s d)
+
+  -- The file's own refusal.
+  pub written-refused : (x : Refusal) → r .checked ≡ Checked.Refused x → Answer (Written.Refused x) d
+  unfolding writtenOf leftOf writtenIn leftIn scanOf scannedIn
+  written-refused x h = by (verdict s) refl
+    where
+      by : (v : Verdict) → verdict s ≡ v → (Written.Refused x ≡ writtenIn d (verdict s)) × (d ≡ leftIn d (verdict s))
+      by (accepted fs) k =
+          let z : Checked.Frames (length fs) ≡ Checked.Refused x = sym (ap (λ (y : Scan). y .checked) (e ∙ ap (scannedIn q) k)) ∙ h in
+          let y : _≡_ {A = ℕ} 0 1 = cc in
+          let o : ⊥ = omega arith in
+          absurd o
+      by (refused y) k =
+          let z : Checked.Refused y ≡ Checked.Refused x = sym (ap (λ (y : Scan). y .checked) (e ∙ ap (scannedIn q) k)) ∙ h in
+          let f : y ≡ x = cc in
+          (rw (k, f), rw k)
+
+  module _ (n : ℕ) (h : r .checked ≡ Checked.Frames n) where
+    -- An accepted file, with so many frames.
+    taken-is : (verdict s ≡ accepted (framesIn (verdict s))) × (n ≡ length (framesIn (verdict s))) × (r .size ≡ sizes (framesIn (verdict s)))
+    unfolding scanOf scannedIn framesIn
+    taken-is = by (verdict s) refl
+      where
+        by : (v : Verdict) → verdict s ≡ v → (verdict s ≡ accepted (framesIn (verdict s))) × (n ≡ length (framesIn (verdict s))) × (r .size ≡ sizes (framesIn (verdict s)))
+        by (accepted fs) k =
+            let z : Checked.Frames (length fs) ≡ Checked.Frames n = sym (ap (λ (y : Scan). y .checked) (e ∙ ap (scannedIn q) k)) ∙ h in
+            let f : length fs ≡ n = cc in
+            (rw k, rw k (sym f), rw k (ap (λ (y : Scan). y .size) (e ∙ ap (scannedIn q) k)))
+        by (refused y) k =
+            let z : Checked.Refused y ≡ Checked.Frames n = sym (ap (λ (y : Scan). y .checked) (e ∙ ap (scannedIn q) k)) ∙ h in
+            let y : _≡_ {A = ℕ} 0 1 = cc in
+            let o : ⊥ = omega arith in
+            absurd o
+
+    answer-is : (a : Written) (left : List ℕ) → a ≡ writtenIn d (accepted (framesIn (verdict s))) → left ≡ leftIn d (accepted (framesIn (verdict s))) → Answer a left
+    unfolding writtenOf leftOf
+    answer-is a left u v = (u ∙ ap (writtenIn d) (sym (taken-is .0)), v ∙ ap (leftIn d) (sym (taken-is .0)))
+
+    -- No frames: the empty file.
+    pub written-none : n ≡ 0 → Answer (Written.Octets 0) d
+    unfolding writtenIn leftIn fits
+    written-none z =
+        let c = canonical-none (framesIn (verdict s)) (sym (taken-is .1) ∙ z) in
+        answer-is (Written.Octets 0) d (rw c (simp (le-leb 0 (length d) (omega arith)))) (rw c (simp (le-leb 0 (length d) (omega arith))))
+
+    module _ (some : n ≡ 0 → ⊥) where
+      long-is : length (canonical (recording (framesIn (verdict s)))) ≡ r .size + 3
+      long-is = canonical-long (framesIn (verdict s)) (λ z. some (taken-is .1 ∙ z)) ∙ omega (arith, taken-is .2)
+
+      -- It does not fit.
+      pub written-short : fits (canonicalOf s) d ≡ false → Answer (Written.Refused (refusal bufferShort 0)) d
+      unfolding writtenIn leftIn canonicalOf
+      written-short f = answer-is (Written.Refused (refusal bufferShort 0)) d (rw f) (rw f)
+
+      pub short-buffer : length d < r .size + 3 → fits (canonicalOf s) d ≡ false
+      unfolding fits canonicalOf
+      short-buffer l = simp (long-is, lt-leb (r .size + 3) (length d) l)
+
+      pub short-limit : octetsLimit < r .size + 3 → fits (canonicalOf s) d ≡ false
+      unfolding fits canonicalOf
+      short-limit l = simp (long-is, lt-leb (r .size + 3) octetsLimit l, both-false)
+
+      pub ready : r .size + 3 ≤ length d → Ready s d
+      ready l = record { is = taken-is .0; some = λ z. some (taken-is .1 ∙ z); room = omega (arith, taken-is .2) }
+
+      -- It fits, and is written.
+      pub written-whole : {k : ℕ} {f : List ℕ} → r .size + 3 ≤ octetsLimit → r .size + 3 ≤ length d → Put d 0 (canonicalOf s) k f → Answer (Written.Octets k) f
+      unfolding writtenIn leftIn fits canonicalOf
+      written-whole {k} {f} l m p =
+          let c = canonical (recording (framesIn (verdict s))) in
+          let b : fits c d ≡ true = simp (long-is, le-leb (r .size + 3) (length d) m, le-leb (r .size + 3) octetsLimit l) in
+          answer-is (Written.Octets k) f
+          (rw b (ap Written.Octets (p .next ∙ zero-add (length c))))
+          (rw b (p .stored ∙ sets-front c d (omega (arith, long-is))))

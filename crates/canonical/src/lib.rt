@@ -348,18 +348,16 @@ pub fn write_canonical(s: &[u8], out: &mut [u8]) -> Written
     if n == 0 {
         return Written::Octets(0);
     }
-    let size = pass.size + 3;
-    if 0x7FFF_FFFF < size {
-        return Written::Refused(Refusal {
-            number: Refusal::BUFFER,
-            place: 0,
-        });
+    let size = pass.size as usize;
+    let short = Written::Refused(Refusal {
+        number: Refusal::BUFFER,
+        place: 0,
+    });
+    if Standing::OCTETS - 3 < size {
+        return short;
     }
-    if out.len() < size as usize {
-        return Written::Refused(Refusal {
-            number: Refusal::BUFFER,
-            place: 0,
-        });
+    if out.len() < size + 3 {
+        return short;
     }
     Written::Octets(write_frames(s, out))
 }

@@ -1,3 +1,7 @@
+-- By what the pass over the file says, and by whether the canonical file fits.
+use mathlib.Core.Path.{_≡_, sym, ap, _∙_}
+use native.Mathlib.Omega.{arith}
+use Rattle.canonical.proofs.Writing.{written-refused, written-none, written-short, short-buffer, short-limit, ready, written-whole}
 use borrow.Author.Needs.{needs}
 use Rattle.canonical.proofs.write_canonical.Statement.{statement}
 use Rattle.canonical.proofs.write_canonical.Tie as tie
@@ -32,27 +36,31 @@ returns c = search needs
 
 -- src/lib.rt:346:9
 returns-2 : tie.Need-returns-2
-returns-2 c = ?
+returns-2 c = written-refused _ _ _ _ (c .before .before .before .before .before .before .scan-file .ensures) _ (c .before .before .before .before .checked2 .given .1 ∙ c .before .checked3 .given .1)
 
 -- src/lib.rt:349:9
 returns-3 : tie.Need-returns-3
-returns-3 c = ?
+returns-3 c = written-none _ _ _ _ (c .before .before .before .before .scan-file .ensures) _ (c .before .before .checked .given .1) (c .if1 .taken)
 
--- src/lib.rt:351:16
-add-size : tie.Need-add-size
-add-size c = ?
+-- src/lib.rt:356:8
+sub-if2 : tie.Need-sub-if2
+sub-if2 c = search needs
 
--- src/lib.rt:353:9
+-- src/lib.rt:357:9
 returns-4 : tie.Need-returns-4
-returns-4 c = ?
+returns-4 c = written-short _ _ _ _ (c .before .before .before .before .before .scan-file .ensures) _ (c .before .before .before .checked .given .1) (c .before .if1 .left) (short-limit _ _ _ _ (c .before .before .before .before .before .scan-file .ensures) _ (c .before .before .before .checked .given .1) (c .before .if1 .left) (omega (arith, c .if2 .taken)))
 
--- src/lib.rt:359:9
+-- src/lib.rt:359:20
+add-if3 : tie.Need-add-if3
+add-if3 c = search needs
+
+-- src/lib.rt:360:9
 returns-5 : tie.Need-returns-5
-returns-5 c = ?
+returns-5 c = written-short _ _ _ _ (c .before .before .before .before .before .before .scan-file .ensures) _ (c .before .before .before .before .checked .given .1) (c .before .before .if1 .left) (short-buffer _ _ _ _ (c .before .before .before .before .before .before .scan-file .ensures) _ (c .before .before .before .before .checked .given .1) (c .before .before .if1 .left) (c .if3 .taken))
 
--- src/lib.rt:364:21
+-- src/lib.rt:362:21
 write-frames-requires : tie.Need-write-frames-requires
-write-frames-requires c κs = ?
+write-frames-requires c κs = ready _ _ _ _ (c .before .before .before .before .before .before .before .scan-file .ensures) _ (c .before .before .before .before .before .checked .given .1) (c .before .before .before .if1 .left) (c .before .if3 .left)
 
 -- src/lib.rt:331:1
 same-length : tie.Need-same-length
@@ -60,7 +68,7 @@ same-length c = search needs
 
 -- src/lib.rt:331:1
 returns-6 : tie.Need-returns-6
-returns-6 c = ?
+returns-6 c = written-whole _ _ _ _ (c .before .before .before .before .before .before .before .before .before .before .scan-file .ensures) _ (c .before .before .before .before .before .before .before .before .checked .given .1) (c .before .before .before .before .before .before .if1 .left) (omega (arith, c .before .before .before .before .before .if2 .left)) (c .before .before .before .before .if3 .left) (c .before .before .write-frames .ensures)
 
 pub write-canonical-spec : {M : Type 1} → statement M
 write-canonical-spec =
@@ -74,8 +82,9 @@ write-canonical-spec =
     returns
     returns-2
     returns-3
-    add-size
+    sub-if2
     returns-4
+    add-if3
     returns-5
     write-frames-requires
     same-length
