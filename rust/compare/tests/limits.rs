@@ -69,6 +69,10 @@ fn sequences_4294967295() {
     assert_eq!(check(&octets(large)), Err((14, 18)));
     same_on(&[small, large, "06 04 00 00 00 00 1E 00", "06 04 FF FF FF FF"]);
     assert_eq!(check(&octets("06 04 FF FF FF FF")), Ok(0));
+    // 2^31 sequences of two octets are 2^32, which is no 0.
+    let wrapped = "06 04 80 00 00 00 1E 01 00";
+    assert_eq!(check(&octets(wrapped)), Err((14, 6)));
+    same_on(&[wrapped]);
 }
 
 #[test]

@@ -1,0 +1,199 @@
+-- Document 01's files on the bench, P1 to P11, as one table. The definitions are computed on each file, so that `refl` proves it.
+use mathlib.Core.Path.{_≡_, refl}
+use mathlib.Core.List.{List, [], _∷_, map}
+use Prim.Native.Nat.{ℕ}
+use lib.IntN.{pos, negsuc}
+use Rattle.octets.specs.Number.{bigFrom, littleOf, numberOf, twos, signedOf}
+use Rattle.values.specs.declared.Value.the-variants.{Whole}
+use Rattle.values.specs.Sample.{widthOf, plainOf, isNull, valueOf}
+use Rattle.items.specs.declared.Item.{Item}
+use Rattle.items.specs.Head.{channelOf, lengthOf, unknownContext, rootOnly, primitiveHead, groupLength, groupHead, headOf}
+use Rattle.items.specs.Walk.{Items, item, finished, fault, refusal, itemOf, nextIn, nextOf, follow, walk, itemsFrom, itemsOf}
+use Rattle.settings.specs.Define.{tagged, scaleOf, defined}
+use Rattle.settings.specs.Settings.{allApplied}
+use Rattle.layout.specs.Frame.{blockOctets, sequenceOctets, octetsBelow, widthAgrees, channelAgrees, allAgree, samplesOf, offsetOf, placeOf}
+use Rattle.runs.specs.Number.{be}
+use Rattle.runs.specs.Length.{holding, shortest}
+use Rattle.laid.specs.Laid.{block, sequence, laidFrom, laid}
+use Rattle.reader.specs.declared.Checked.{Checked}
+use Rattle.reader.specs.declared.Checked.the-variants.{Frames}
+use Rattle.reader.specs.declared.Described.{Described}
+use Rattle.reader.specs.declared.Sampled.{Sampled}
+use Rattle.reader.specs.declared.Sampled.the-variants.{Sample}
+use Rattle.reader.specs.Framing.{channelsOf, sequencesOf, pointerFits, pointerAfter, framedAs}
+use Rattle.reader.specs.Standing.{orderEffect, countEffect, sequencesEffect, startEffect, compressedEffect, allEffect, oneEffect, rootEffect, plainEffect, memberEffect, groupEffect, effectOf}
+use Rattle.reader.specs.Verdict.{oneChanged, withFrame, carried, placeAt, afterItem, interpret, verdict, checkedAs, checkOf}
+use Rattle.reader.specs.Answer.{offsetBits, attributesIn, describedIn, attributesOf, sampleIn, sampledIn, sampleOf}
+use Rattle.canonical.specs.Recording.{settled, sampleBits, tabulate, recordedFrame, recording}
+use Rattle.canonical.specs.Canonical.{item as itemOctets, numberItem, unsignedOf, channelOctets, scaleItem, nullItem, groupItems, groupOctets, groupsOctets, sequencesItem, waveformOf, frameOctets, framesOctets, canonical}
+use Rattle.canonical.specs.Write.{framesIn, canonicalOf}
+
+-- ---- what is said of a file
+
+-- The channel numbers of a file's groups.
+unfoldable pub named : Items → List ℕ
+named (item (Item.Plain place tag start len) more) = named more
+named (item (Item.Group place channel) more) = channel ∷ named more
+named (item (Item.Member place channel tag start len) more) = named more
+named (item (Item.Mark place) more) = named more
+named finished = []
+named (fault r) = []
+
+-- A question and its answer: the channels that groups name; the attributes by frame and channel; a sample by frame, channel and number; the
+-- canonical file.
+pub data Fact : Type 0 where
+  groups : List ℕ → Fact
+  attributes : ℕ → ℕ → Described → Fact
+  sample : ℕ → ℕ → ℕ → Sampled → Fact
+  rewritten : List ℕ → Fact
+
+-- A file, the answer of the check, and what else is said of it.
+pub record Case : Type 0 where
+  pub input : List ℕ
+  pub checked : Checked
+  pub facts : List Fact
+
+-- The question with the answer that the definitions give for the file s.
+abbrev pub answered : List ℕ → Fact → Fact
+answered s (groups x) = groups (named (itemsOf s))
+answered s (attributes frame channel x) = attributes frame channel (attributesOf s frame channel)
+answered s (sample frame channel n x) = sample frame channel n (sampleOf s frame channel n)
+answered s (rewritten x) = rewritten (canonicalOf s)
+
+-- The file with the answers that the definitions give.
+abbrev pub asked : Case → Case
+asked c = record { input = c .input; checked = checkOf (c .input); facts = map (answered (c .input)) (c .facts) }
+
+-- A table with the answers that the definitions give; it unfolds all of them.
+unfoldable pub computed : List Case → List Case
+unfolding bigFrom littleOf numberOf twos signedOf widthOf plainOf isNull valueOf
+    channelOf lengthOf unknownContext rootOnly primitiveHead groupLength groupHead headOf itemOf nextIn nextOf follow walk itemsFrom itemsOf
+    tagged scaleOf defined allApplied
+    blockOctets sequenceOctets octetsBelow widthAgrees channelAgrees allAgree samplesOf offsetOf placeOf
+    orderEffect countEffect sequencesEffect startEffect compressedEffect rootEffect
+    allEffect oneEffect plainEffect memberEffect groupEffect effectOf
+    channelsOf sequencesOf pointerFits pointerAfter framedAs
+    oneChanged withFrame carried placeAt afterItem interpret verdict checkedAs checkOf
+    offsetBits attributesIn describedIn attributesOf sampleIn sampledIn sampleOf
+    settled sampleBits tabulate recordedFrame recording
+    be holding shortest block sequence laidFrom laid
+    itemOctets numberItem unsignedOf channelOctets scaleItem nullItem groupItems groupOctets groupsOctets
+    sequencesItem waveformOf frameOctets framesOctets canonical
+    named framesIn canonicalOf
+computed cs = map asked cs
+
+-- ---- the files
+
+-- A refused file: the number and the place of the refusal.
+abbrev refusedAt : List ℕ → ℕ → ℕ → Case
+refusedAt s number place = record { input = s; checked = Checked.Refused (refusal number place); facts = [] }
+
+-- The attributes of a channel by the frame's channels and sequences and by its data type and sample width; all else is as by default.
+abbrev typed : ℕ → ℕ → ℕ → ℕ → Described
+typed channels sequences kind width =
+    Described.Attributes (record {
+      start = pos 0;
+      channels = channels;
+      sequences = sequences;
+      block = 1;
+      class = 0;
+      lead = 0;
+      kind = kind;
+      interval = record { unit = 0; exponent = pos 0; mantissa = pos 1000 };
+      resolution = record { unit = 0; exponent = negsuc 5; mantissa = pos 1 };
+      offset = record { width = width; bits = 0 };
+      null = record { width = 0; bits = 0 };
+    })
+
+-- P2's canonical file, 113 octets.
+abbrev pub canonical2 : List ℕ
+canonical2 =
+    0x01 ∷ 0x01 ∷ 0x00
+    ∷ 0x05 ∷ 0x04 ∷ 0x00 ∷ 0x00 ∷ 0x00 ∷ 0x02 ∷ 0x06 ∷ 0x04 ∷ 0x00 ∷ 0x00 ∷ 0x00 ∷ 0x01 ∷ 0x07 ∷ 0x04 ∷ 0x00 ∷ 0x00 ∷ 0x00 ∷ 0x00
+    ∷ 0x3F ∷ 0x00 ∷ 0x27
+    ∷ 0x04 ∷ 0x04 ∷ 0x00 ∷ 0x00 ∷ 0x00 ∷ 0x02 ∷ 0x08 ∷ 0x02 ∷ 0x00 ∷ 0x00 ∷ 0x09 ∷ 0x02 ∷ 0x00 ∷ 0x00 ∷ 0x0A ∷ 0x01 ∷ 0x00
+    ∷ 0x0B ∷ 0x06 ∷ 0x00 ∷ 0x00 ∷ 0x00 ∷ 0x00 ∷ 0x03 ∷ 0xE8 ∷ 0x0C ∷ 0x06 ∷ 0x00 ∷ 0xFA ∷ 0x00 ∷ 0x00 ∷ 0x00 ∷ 0x01
+    ∷ 0x0D ∷ 0x02 ∷ 0x00 ∷ 0x00 ∷ 0x12 ∷ 0x00
+    ∷ 0x3F ∷ 0x01 ∷ 0x27
+    ∷ 0x04 ∷ 0x04 ∷ 0x00 ∷ 0x00 ∷ 0x00 ∷ 0x01 ∷ 0x08 ∷ 0x02 ∷ 0x00 ∷ 0x00 ∷ 0x09 ∷ 0x02 ∷ 0x00 ∷ 0x00 ∷ 0x0A ∷ 0x01 ∷ 0x00
+    ∷ 0x0B ∷ 0x06 ∷ 0x00 ∷ 0x00 ∷ 0x00 ∷ 0x00 ∷ 0x03 ∷ 0xE8 ∷ 0x0C ∷ 0x06 ∷ 0x00 ∷ 0xFA ∷ 0x00 ∷ 0x00 ∷ 0x00 ∷ 0x01
+    ∷ 0x0D ∷ 0x02 ∷ 0x00 ∷ 0x00 ∷ 0x12 ∷ 0x00
+    ∷ 0x1E ∷ 0x06 ∷ 0x00 ∷ 0x01 ∷ 0x00 ∷ 0x02 ∷ 0xFF ∷ 0xFF
+    ∷ []
+
+-- The files P1 to P11 and what document 01 says of each.
+abbrev pub cases : List Case
+cases =
+    -- P1
+    record {
+      input = [];
+      checked = Frames 0;
+      facts = rewritten [] ∷ [];
+    }
+    -- P2
+    ∷ record {
+      input =
+          0x01 ∷ 0x01 ∷ 0x01 ∷ 0x04 ∷ 0x01 ∷ 0x02 ∷ 0x05 ∷ 0x01 ∷ 0x02 ∷ 0x3F ∷ 0x01 ∷ 0x03 ∷ 0x04 ∷ 0x01 ∷ 0x01
+          ∷ 0x1E ∷ 0x06 ∷ 0x01 ∷ 0x00 ∷ 0x02 ∷ 0x00 ∷ 0xFF ∷ 0xFF ∷ [];
+      checked = Frames 1;
+      facts =
+          sample 0 0 0 (Sample 17 (Whole (pos 1)))
+          ∷ sample 0 0 1 (Sample 19 (Whole (pos 2)))
+          ∷ sample 0 1 0 (Sample 21 (Whole (negsuc 0)))
+          ∷ rewritten canonical2
+          ∷ [];
+    }
+    -- P3
+    ∷ record {
+      input = 0x1E ∷ 0x00 ∷ [];
+      checked = Frames 1;
+      facts = attributes 0 0 (typed 1 0 0 2) ∷ [];
+    }
+    -- P4
+    ∷ record {
+      input = 0x05 ∷ 0x01 ∷ 0x02 ∷ 0x3F ∷ 0x00 ∷ 0x03 ∷ 0x0A ∷ 0x01 ∷ 0x03 ∷ 0x0A ∷ 0x01 ∷ 0x05 ∷ 0x1E ∷ 0x02 ∷ 0x07 ∷ 0x08 ∷ [];
+      checked = Frames 1;
+      facts =
+          attributes 0 0 (typed 2 1 5 1)
+          ∷ attributes 0 1 (typed 2 1 5 1)
+          ∷ sample 0 0 0 (Sample 14 (Whole (pos 7)))
+          ∷ sample 0 1 0 (Sample 15 (Whole (pos 8)))
+          ∷ [];
+    }
+    -- P5
+    ∷ record {
+      input = 0x3F ∷ 0x00 ∷ 0x03 ∷ 0x0A ∷ 0x01 ∷ 0x03 ∷ 0x1E ∷ 0x02 ∷ 0x00 ∷ 0x09 ∷ [];
+      checked = Frames 1;
+      facts =
+          attributes 0 0 (typed 1 1 0 2)
+          ∷ sample 0 0 0 (Sample 8 (Whole (pos 9)))
+          ∷ sample 0 0 1 (Sampled.Refused (refusal 22 0))
+          ∷ [];
+    }
+    -- P6
+    ∷ refusedAt (0x05 ∷ 0x01 ∷ 0x02 ∷ 0x3F ∷ 0x02 ∷ 0x00 ∷ []) 8 3
+    -- P7
+    ∷ refusedAt (0x0A ∷ 0x80 ∷ []) 2 0
+    -- P8
+    ∷ refusedAt (0x3F ∷ 0x00 ∷ 0x80 ∷ []) 10 0
+    -- P9
+    ∷ refusedAt (0x06 ∷ 0x01 ∷ 0x02 ∷ 0x1E ∷ 0x02 ∷ 0x00 ∷ 0x05 ∷ []) 14 3
+    -- P10
+    ∷ refusedAt (0x0D ∷ 0x01 ∷ 0x01 ∷ 0x1E ∷ 0x02 ∷ 0x00 ∷ 0x05 ∷ []) 12 3
+    -- P11
+    ∷ record {
+      input = 0x05 ∷ 0x02 ∷ 0x01 ∷ 0x00 ∷ 0x3F ∷ 0x81 ∷ 0x7F ∷ 0x03 ∷ 0x0A ∷ 0x01 ∷ 0x03 ∷ [];
+      checked = Frames 0;
+      facts = groups (255 ∷ []) ∷ [];
+    }
+    ∷ []
+
+-- The definitions give all the answers of the table.
+pub bench-files : computed cases ≡ cases
+unfolding computed
+bench-files = refl
+
+-- P2's canonical file, rewritten, gives the same octets.
+pub rewrites-itself : canonicalOf canonical2 ≡ canonical2
+unfolding computed
+rewrites-itself = refl

@@ -1,0 +1,256 @@
+-- The canonical files of recordings.
+--     recordingOf, recording-is    the recording that a file holds
+--     canonical-read     the canonical file of an accepted file is accepted, and holds the same recording
+--     canonical-again    so that its own canonical file is itself
+--     same-exactly       two canonical files are equal exactly when the recordings are
+--     writes             the writer answers 23 exactly when the canonical file does not fit, and else its length
+--     written-out, written-file    what it leaves then
+--     refusal-leaves     a refusal changes no octet of the buffer
+--     written-again      the canonical file in the buffer, read and written again
+--     same-written       the canonical files in two buffers are equal exactly when the recordings are
+-- Assumes nothing.
+use Prim.Native.Nat.{ℕ, _≤_, _<_}
+use mathlib.Core.Path.{_≡_, refl, sym, ap, _∙_}
+use mathlib.Core.Logic.{_↔_, _⊎_, inl, inr}
+use mathlib.Core.List.{List, [], _++_}
+use mathlib.Core.Bool.{true, false}
+use native.Mathlib.Omega.{arith}
+use native.Mathlib.Decide.{decLe}
+use borrow.Author.Tests.{le-leb, lt-leb}
+use lib.ListN.{length, getD, take, drop, length-map}
+use lib.Seq.{take-append-seam, drop-append-seam}
+use Rattle.octets.proofs.Pick.{both-false}
+use Rattle.items.specs.declared.Refusal.{Refusal}
+use Rattle.items.specs.Refusals.{bufferShort}
+use Rattle.items.specs.Walk.{refusal}
+use Rattle.layout.specs.Frame.{Frame}
+use Rattle.reader.specs.Framing.{octetsLimit}
+use Rattle.reader.specs.Verdict.{Verdict, accepted, refused, verdict, checkOf}
+use Rattle.reader.proofs.Ordered.{accepted-few}
+use Rattle.canonical.specs.declared.Written.{Written}
+use Rattle.canonical.specs.Recording.{Recorded, recordedFrame, recording}
+use Rattle.canonical.specs.Canonical.{canonical}
+use Rattle.canonical.specs.Write.{fits, writtenIn, leftIn, writtenOf, leftOf}
+use Rattle.canonical.proofs.ReadBack.{Reads, read-back}
+use Rattle.canonical.proofs.Accepted.{accepted-recorded}
+use Rattle.theorems.proofs.Questions.{check-accepted, refused-answers}
+
+-- The recording that a verdict gives; a refused file has none.
+unfoldable pub recordingIn : Verdict → List Recorded
+recordingIn (accepted fs) = recording fs
+recordingIn (refused r) = []
+
+-- The recording that a file holds.
+unfoldable pub recordingOf : List ℕ → List Recorded
+recordingOf s = recordingIn (verdict s)
+
+pub recording-is : (s : List ℕ) (fs : List Frame) → verdict s ≡ accepted fs → recordingOf s ≡ recording fs
+unfolding recordingOf recordingIn
+recording-is s fs e = ap recordingIn e
+
+-- Each number of a file is an octet.
+abbrev pub AllOctets : List ℕ → Type 0
+AllOctets s = (i : ℕ) → getD s i 0 < 256
+
+-- ---- reading
+
+-- A file holds one recording.
+reads-one : (s : List ℕ) (x y : List Recorded) → Reads s x → Reads s y → x ≡ y
+reads-one s x y a b =
+    let f : a .frames ≡ b .frames = cc (a .is, b .is) in
+    sym (a .recorded) ∙ ap recording f ∙ b .recorded
+
+recording-long : (fs : List Frame) → length (recording fs) ≡ length fs
+unfolding recording
+recording-long fs = length-map fs recordedFrame
+
+module _ (s : List ℕ) (octets : AllOctets s) (fs : List Frame) (e : verdict s ≡ accepted fs) (short : length (canonical (recording fs)) ≤ octetsLimit) where
+  pub canonical-read : Reads (canonical (recording fs)) (recording fs)
+  canonical-read = read-back (recording fs) (accepted-recorded s octets fs e) (rw recording-long (accepted-few s fs e)) short
+
+  -- Its own canonical file is itself.
+  pub canonical-again : canonical (recording (canonical-read .frames)) ≡ canonical (recording fs)
+  canonical-again = ap canonical (canonical-read .recorded)
+
+pub same-exactly : (s t : List ℕ) → AllOctets s → AllOctets t → (fs gs : List Frame) → verdict s ≡ accepted fs → verdict t ≡ accepted gs → length (canonical (recording fs)) ≤ octetsLimit → length (canonical (recording gs)) ≤ octetsLimit → (canonical (recording fs) ≡ canonical (recording gs)) ↔ (recording fs ≡ recording gs)
+same-exactly s t os ot fs gs e g h k =
+    (λ q. reads-one (canonical (recording gs)) (recording fs) (recording gs) (rw q at (canonical-read s os fs e h)) (canonical-read t ot gs g k), ap canonical)
+
+-- ---- writing
+
+-- The canonical file is longer than the buffer, or than a file may be.
+abbrev pub TooLong : List ℕ → List ℕ → Type 0
+TooLong x d = (length d < length x) ⊎ (octetsLimit < length x)
+
+-- It is neither.
+abbrev Fitting : List ℕ → List ℕ → Type 0
+Fitting x d = (length x ≤ length d) × (length x ≤ octetsLimit)
+
+not-both : (x d : List ℕ) → Fitting x d → TooLong x d → ⊥
+not-both x d h (inl l) = omega arith
+not-both x d h (inr l) = omega arith
+
+one-of : (x d : List ℕ) → Fitting x d ⊎ TooLong x d
+one-of x d = by (decLe (length x) (length d)) (decLe (length x) octetsLimit)
+  where
+    by : Dec (length x ≤ length d) → Dec (length x ≤ octetsLimit) → Fitting x d ⊎ TooLong x d
+    by (yes h) (yes k) = inl (h, k)
+    by (yes h) (no k) = inr (inr (omega arith))
+    by (no h) k = inr (inl (omega arith))
+
+fits-yes : (x d : List ℕ) → Fitting x d → fits x d ≡ true
+unfolding fits
+fits-yes x d h = simp (le-leb (length x) (length d) (h .0), le-leb (length x) octetsLimit (h .1))
+
+fits-no : (x d : List ℕ) → TooLong x d → fits x d ≡ false
+unfolding fits
+fits-no x d (inl h) = simp (lt-leb (length x) (length d) h)
+fits-no x d (inr h) = simp (lt-leb (length x) octetsLimit h, both-false)
+
+-- The writer gives no refusal: the file is accepted, its canonical file stands at the start of the buffer, and octets past it keep what they
+-- held.
+pub record WrittenOut (s d : List ℕ) (m : ℕ) : Type 0 where
+  pub frames : List Frame
+  pub is : verdict s ≡ accepted frames
+  pub long : length (canonical (recording frames)) ≡ m
+  pub room : m ≤ length d
+  pub small : m ≤ octetsLimit
+  pub file : take m (leftOf s d) ≡ canonical (recording frames)
+  pub rest : drop m (leftOf s d) ≡ drop m d
+
+-- What the writer does with an accepted file whose frames are fs.
+pub record Writes (s d : List ℕ) (fs : List Frame) : Type 0 where
+  pub short : (writtenOf s d ≡ Written.Refused (refusal bufferShort 0)) ↔ TooLong (canonical (recording fs)) d
+  pub late : (r : Refusal) → writtenOf s d ≡ Written.Refused r → r ≡ refusal bufferShort 0
+  pub octets : (m : ℕ) → (writtenOf s d ≡ Written.Octets m) ↔ ((length (canonical (recording fs)) ≡ m) × (m ≤ length d) × (m ≤ octetsLimit))
+
+module _ (s d : List ℕ) (fs : List Frame) (e : verdict s ≡ accepted fs) where
+  -- Its canonical file.
+  abbrev file : List ℕ
+  file = canonical (recording fs)
+
+  written-fits : Fitting file d → (writtenOf s d ≡ Written.Octets (length file)) × (leftOf s d ≡ file ++ drop (length file) d)
+  unfolding writtenOf writtenIn leftOf leftIn
+  written-fits h = (ap (writtenIn d) e ∙ rw (fits-yes file d h), ap (leftIn d) e ∙ rw (fits-yes file d h))
+
+  written-short : TooLong file d → (writtenOf s d ≡ Written.Refused (refusal bufferShort 0)) × (leftOf s d ≡ d)
+  unfolding writtenOf writtenIn leftOf leftIn
+  written-short h = (ap (writtenIn d) e ∙ rw (fits-no file d h), ap (leftIn d) e ∙ rw (fits-no file d h))
+
+  pub writes : Writes s d fs
+  writes = by (one-of file d)
+    where
+      by : Fitting file d ⊎ TooLong file d → Writes s d fs
+      by (inl t) =
+          let w = written-fits t .0 in
+          record {
+            short = (λ h. let z : _≡_ {A = ℕ} 0 1 = cc in let n : ⊥ = omega arith in absurd n, λ h. absurd (not-both file d t h));
+            late = λ r h. let z : _≡_ {A = ℕ} 0 1 = cc in let n : ⊥ = omega arith in absurd n;
+            octets = λ m. (λ h. let k : length file ≡ m = cc in (k, omega arith, omega arith), λ h. w ∙ ap Written.Octets (h .0));
+          }
+      by (inr t) =
+          let w = written-short t .0 in
+          record {
+            short = (λ h. t, λ h. w);
+            late = λ r h. cc;
+            octets = λ m. (λ h. let z : _≡_ {A = ℕ} 0 1 = cc in let n : ⊥ = omega arith in absurd n, λ h. absurd (not-both file d (omega arith) t));
+          }
+
+  out : (m : ℕ) → writtenOf s d ≡ Written.Octets m → WrittenOut s d m
+  out m h =
+      let w = writes .octets m .0 h in
+      let l = written-fits (omega arith) .1 in
+      record {
+        frames = fs;
+        is = e;
+        long = w .0;
+        room = w .1;
+        small = w .2;
+        file = rw (← w .0, l) (take-append-seam file (drop (length file) d));
+        rest = rw (← w .0, l) (drop-append-seam file (drop (length file) d));
+      }
+
+  kept : (r : Refusal) → writtenOf s d ≡ Written.Refused r → leftOf s d ≡ d
+  kept r h = written-short (writes .short .0 (h ∙ ap Written.Refused (writes .late r h))) .1
+
+-- The file itself is refused.
+module _ (s d : List ℕ) (r : Refusal) (e : verdict s ≡ refused r) where
+  none-out : (m : ℕ) → writtenOf s d ≡ Written.Octets m → ⊥
+  none-out m h = let k = refused-answers s r e .written d in let z : _≡_ {A = ℕ} 0 1 = cc in omega arith
+
+  all-kept : leftOf s d ≡ d
+  unfolding leftOf leftIn
+  all-kept = ap (leftIn d) e
+
+pub written-out : (s d : List ℕ) (m : ℕ) → writtenOf s d ≡ Written.Octets m → WrittenOut s d m
+written-out s d m h = by (verdict s) refl
+  where
+    by : (v : Verdict) → verdict s ≡ v → WrittenOut s d m
+    by (accepted fs) e = out s d fs e m h
+    by (refused r) e = absurd (none-out s d r e m h)
+
+pub refusal-leaves : (s d : List ℕ) (r : Refusal) → writtenOf s d ≡ Written.Refused r → leftOf s d ≡ d
+refusal-leaves s d r h = by (verdict s) refl
+  where
+    by : (v : Verdict) → verdict s ≡ v → leftOf s d ≡ d
+    by (accepted fs) e = kept s d fs e r h
+    by (refused q) e = all-kept s d q e
+
+-- ---- over buffers
+
+-- The canonical file in the buffer, and what is behind it.
+pub written-file : (s d : List ℕ) (m : ℕ) → writtenOf s d ≡ Written.Octets m → (take m (leftOf s d) ≡ canonical (recordingOf s)) × (drop m (leftOf s d) ≡ drop m d)
+written-file s d m h = let w = written-out s d m h in (w .file ∙ ap canonical (sym (recording-is s (w .frames) (w .is))), w .rest)
+
+written-read : (s d : List ℕ) (m : ℕ) → AllOctets s → writtenOf s d ≡ Written.Octets m → Reads (take m (leftOf s d)) (recordingOf s)
+written-read s d m octets h =
+    let w = written-out s d m h in
+    rw (w .file, recording-is s (w .frames) (w .is)) (canonical-read s octets (w .frames) (w .is) (omega (arith, w .long, w .small)))
+
+-- The file x holds the recording of the accepted file s: the check counts as many frames, and the writer does the same with both.
+pub record ReadAgain (s x : List ℕ) : Type 0 where
+  pub recorded : Reads x (recordingOf s)
+  pub check : checkOf x ≡ checkOf s
+  pub written : (d : List ℕ) → writtenOf x d ≡ writtenOf s d
+  pub left : (d : List ℕ) → leftOf x d ≡ leftOf s d
+
+same-written-in : (fs gs : List Frame) → recording fs ≡ recording gs → (d : List ℕ) → writtenIn d (accepted fs) ≡ writtenIn d (accepted gs)
+unfolding writtenIn
+same-written-in fs gs q d = rw q
+
+same-left-in : (fs gs : List Frame) → recording fs ≡ recording gs → (d : List ℕ) → leftIn d (accepted fs) ≡ leftIn d (accepted gs)
+unfolding leftIn
+same-left-in fs gs q d = rw q
+
+read-again : (s x : List ℕ) (fs : List Frame) → verdict s ≡ accepted fs → Reads x (recordingOf s) → ReadAgain s x
+unfolding writtenOf leftOf
+read-again s x fs e r =
+    let q : recording (r .frames) ≡ recording fs = r .recorded ∙ recording-is s fs e in
+    let n : length (r .frames) ≡ length fs = sym (recording-long (r .frames)) ∙ ap length q ∙ recording-long fs in
+    record {
+      recorded = r;
+      check = check-accepted x (length fs) .1 (r .frames, r .is, n) ∙ sym (check-accepted s (length fs) .1 (fs, e, refl));
+      written = λ d. ap (writtenIn d) (r .is) ∙ same-written-in (r .frames) fs q d ∙ ap (writtenIn d) (sym e);
+      left = λ d. ap (leftIn d) (r .is) ∙ same-left-in (r .frames) fs q d ∙ ap (leftIn d) (sym e);
+    }
+
+pub written-again : (s : List ℕ) → AllOctets s → (d : List ℕ) (m : ℕ) → writtenOf s d ≡ Written.Octets m → ReadAgain s (take m (leftOf s d))
+written-again s octets d m h =
+    let w = written-out s d m h in
+    read-again s (take m (leftOf s d)) (w .frames) (w .is) (written-read s d m octets h)
+
+same-files : (s t : List ℕ) (fs gs : List Frame) → verdict s ≡ accepted fs → verdict t ≡ accepted gs → recordingOf s ≡ recordingOf t → canonical (recording fs) ≡ canonical (recording gs)
+same-files s t fs gs e g p = ap canonical (sym (recording-is s fs e) ∙ p ∙ recording-is t gs g)
+
+pub same-written : (s t d g : List ℕ) (m n : ℕ) → AllOctets s → AllOctets t → writtenOf s d ≡ Written.Octets m → writtenOf t g ≡ Written.Octets n → ((m ≡ n) × (take m (leftOf s d) ≡ take n (leftOf t g))) ↔ (recordingOf s ≡ recordingOf t)
+same-written s t d g m n os ot h k = (recordings, files)
+  where
+    recordings : (m ≡ n) × (take m (leftOf s d) ≡ take n (leftOf t g)) → recordingOf s ≡ recordingOf t
+    recordings q = reads-one (take n (leftOf t g)) (recordingOf s) (recordingOf t) (rw (q .1) at (written-read s d m os h)) (written-read t g n ot k)
+
+    files : recordingOf s ≡ recordingOf t → (m ≡ n) × (take m (leftOf s d) ≡ take n (leftOf t g))
+    files p =
+        let a = written-out s d m h in
+        let b = written-out t g n k in
+        let f = same-files s t (a .frames) (b .frames) (a .is) (b .is) p in
+        (sym (a .long) ∙ ap length f ∙ b .long, a .file ∙ f ∙ sym (b .file))

@@ -1,0 +1,116 @@
+-- The three demands, over the definitions that the contracts cite.
+--     demand-one      every call ends with an answer or a refusal; 15 and those from 20 up exactly when their conditions hold
+--     demand-two      what is told and what is written is what document 01 defines, and reads back as the same recording
+--     demand-three    no two samples share an octet, and canonical files are equal exactly when the recordings are
+-- Assumes nothing.
+use Prim.Native.Nat.{ℕ, _≤_, _<_}
+use mathlib.Core.Path.{_≡_, refl}
+use mathlib.Core.Logic.{_↔_, _⊎_}
+use mathlib.Core.List.{List}
+use lib.ListN.{length, take, drop}
+use Rattle.items.specs.declared.Refusal.{Refusal}
+use Rattle.items.specs.Refusals.{fileLimit}
+use Rattle.items.specs.Walk.{refusal, itemsOf}
+use Rattle.layout.specs.Frame.{Frame}
+use Rattle.reader.specs.declared.Checked.{Checked}
+use Rattle.reader.specs.declared.Described.{Described}
+use Rattle.reader.specs.Framing.{octetsLimit}
+use Rattle.reader.specs.Verdict.{firstState, accepted, refused, interpret, verdict, checkOf}
+use Rattle.reader.specs.Answer.{attributesIn, attributesOf}
+use Rattle.canonical.specs.declared.Written.{Written}
+use Rattle.canonical.specs.Canonical.{canonical}
+use Rattle.canonical.specs.Write.{writtenOf, leftOf}
+use Rattle.theorems.proofs.Questions.{frameAt, AnsweredBy, AttributesAnswered, SampleAnswered, check-accepted, accepted-or-refused, limit-exactly, limit-place, limit-passed, refused-answers, attributes-answered, sample-answered}
+use Rattle.theorems.proofs.Places.{Name, Exists, NamedSample, Belongs, Inside, Owned, sample-exists, sample-inside, samples-apart, octet-owned}
+use Rattle.theorems.proofs.Canonical.{recordingOf, AllOctets, Writes, ReadAgain, writes, refusal-leaves, written-file, written-again, same-written}
+
+-- ---- demand 1
+
+-- "Any octets at all may be handed to any entry point. Each call ends with an answer or a numbered refusal from the table in document 01,
+-- given exactly when its condition holds and none ahead of it in that paper's order does, with the place in the file; a refusal changes no
+-- octet of the output buffer."
+pub record DemandOne (s : List ℕ) : Type 0 where
+  -- 15 comes first: exactly when the file is too long, and always at place 0.
+  pub limit : (checkOf s ≡ Checked.Refused (refusal fileLimit 0)) ↔ (octetsLimit < length s)
+  pub limitPlace : (r : Refusal) → checkOf s ≡ Checked.Refused r → r .number ≡ fileLimit → r ≡ refusal fileLimit 0
+  -- Else the items decide, in file order. When 1 to 14 are given, and where, is the definition `interpret` itself.
+  pub items : length s ≤ octetsLimit → verdict s ≡ interpret s firstState (itemsOf s)
+  -- The file is accepted or refused.
+  pub ends : ((fs : List Frame) × (verdict s ≡ accepted fs)) ⊎ ((r : Refusal) × (verdict s ≡ refused r))
+  -- On a refused file every question and the writer answer its refusal.
+  pub refusedFile : (r : Refusal) → verdict s ≡ refused r → AnsweredBy s r
+  -- On an accepted file 20, 21, 22 and 23 are answered at place 0, each exactly when its condition holds and none ahead of it does.
+  pub attributes : (fs : List Frame) → verdict s ≡ accepted fs → (i c : ℕ) → AttributesAnswered s fs i c
+  pub sample : (fs : List Frame) → verdict s ≡ accepted fs → (i c n : ℕ) → SampleAnswered s fs i c n
+  pub written : (fs : List Frame) → verdict s ≡ accepted fs → (d : List ℕ) → Writes s d fs
+  -- A refusal changes no octet of the buffer.
+  pub left : (d : List ℕ) (r : Refusal) → writtenOf s d ≡ Written.Refused r → leftOf s d ≡ d
+
+pub demand-one : (s : List ℕ) → DemandOne s
+demand-one s =
+    record {
+      limit = limit-exactly s;
+      limitPlace = limit-place s;
+      items = limit-passed s;
+      ends = accepted-or-refused s;
+      refusedFile = refused-answers s;
+      attributes = attributes-answered s;
+      sample = sample-answered s;
+      written = λ fs e d. writes s d fs e;
+      left = refusal-leaves s;
+    }
+
+-- ---- demand 2
+
+-- "Every attribute, start pointer and sample is what MFER defines, as document 01 condenses it, and every octet of the canonical file is the
+-- one document 01 lays down. Reading a canonical file gives the same recording again."
+pub record DemandTwo (s : List ℕ) : Type 0 where
+  -- The check counts the frames of the verdict.
+  pub count : (n : ℕ) → (checkOf s ≡ Checked.Frames n) ↔ ((fs : List Frame) × (verdict s ≡ accepted fs) × (length fs ≡ n))
+  -- The attributes, the start pointer among them, and the place and value of a sample are those of its frame.
+  pub attributes : (fs : List Frame) → verdict s ≡ accepted fs → (i c : ℕ) → i < length fs → c < length (frameAt fs i .channels) → attributesOf s i c ≡ Described.Attributes (attributesIn c (frameAt fs i))
+  pub sample : (fs : List Frame) → verdict s ≡ accepted fs → (a : NamedSample s) → Inside s fs a
+  -- The canonical file stands at the start of the buffer, and octets past it keep what they held.
+  pub written : (d : List ℕ) (m : ℕ) → writtenOf s d ≡ Written.Octets m → (take m (leftOf s d) ≡ canonical (recordingOf s)) × (drop m (leftOf s d) ≡ drop m d)
+  -- Read, it has as many frames and holds the same recording; written out again, it is as the first file.
+  pub again : AllOctets s → (d : List ℕ) (m : ℕ) → writtenOf s d ≡ Written.Octets m → ReadAgain s (take m (leftOf s d))
+
+pub demand-two : (s : List ℕ) → DemandTwo s
+demand-two s =
+    record {
+      count = check-accepted s;
+      attributes = λ fs e i c h k. attributes-answered s fs e i c .there _ .1 (h, k, refl);
+      sample = sample-inside s;
+      written = written-file s;
+      again = written-again s;
+    }
+
+-- ---- demand 3
+
+-- The samples of an accepted file, whose frames are fs.
+pub record Placed (s : List ℕ) (fs : List Frame) : Type 0 where
+  -- Each name that the file has is a sample's.
+  pub named : (x : Name) → Exists fs x → (a : NamedSample s) × (a .name ≡ x)
+  -- Its octets, from the place that the reader answers, lie inside its own frame's waveform.
+  pub inside : (a : NamedSample s) → Inside s fs a
+  -- Two samples with different names share no octet.
+  pub apart : (a b : NamedSample s) → (a .name ≡ b .name → ⊥) → (p : ℕ) → Belongs s fs a p → Belongs s fs b p → ⊥
+  -- Each octet of a waveform is one sample's, or surplus, and never both.
+  pub owned : (i o : ℕ) → i < length fs → o < length (frameAt fs i .waveform) → Owned s fs (frameAt fs i) o
+
+-- "Whatever an accepted file holds, and whichever of its samples is named by frame, channel and number, the sample's octets, from the place
+-- that the reader answers, lie inside its own frame's waveform. Two of the file's samples with different names, in one frame or in two,
+-- never share an octet. Each waveform octet belongs to exactly one sample or to the surplus at the end, never to both. And whichever two
+-- accepted files are both written out, whatever the output buffers held before, the canonical files left there are equal, in length and in
+-- every octet, exactly when the recordings are equal, down to each attribute and each bit of each sample."
+pub record DemandThree : Type 0 where
+  pub places : (s : List ℕ) (fs : List Frame) → verdict s ≡ accepted fs → Placed s fs
+  -- Files s and t are written to buffers that held d and g; m and n octets are their canonical files.
+  pub same : (s t d g : List ℕ) (m n : ℕ) → AllOctets s → AllOctets t → writtenOf s d ≡ Written.Octets m → writtenOf t g ≡ Written.Octets n → ((m ≡ n) × (take m (leftOf s d) ≡ take n (leftOf t g))) ↔ (recordingOf s ≡ recordingOf t)
+
+pub demand-three : DemandThree
+demand-three =
+    record {
+      places = λ s fs e. record { named = sample-exists s fs e; inside = sample-inside s fs e; apart = samples-apart s fs e; owned = octet-owned s fs e };
+      same = same-written;
+    }

@@ -1,0 +1,5 @@
+pub mod Questions
+pub mod Places
+pub mod Canonical
+pub mod Demands
+pub mod Bench
