@@ -203,7 +203,14 @@ fn even_width(table: [Settings; 256], count: usize) -> usize
 }
 
 // The samples of all sequences of a waveform, each turned round, block by block.
-fn put_blocks(w: &[u8], sequences: u32, table: [Settings; 256], count: usize, out: &mut [u8], at: usize) -> usize
+fn put_blocks(
+    w: &[u8],
+    sequences: u32,
+    table: [Settings; 256],
+    count: usize,
+    out: &mut [u8],
+    at: usize,
+) -> usize
     requires { ⌜ (count ≤ 256) × (sequences * sequenceOctets (take count table) ≤ length (now w)) ⌝ }
     requires { ⌜ at + sequences * sequenceOctets (take count table) ≤ length (now out) ⌝ }
     ensures { λ r. ⌜ Put (now (out .entry)) at (turnedAll (take count table) sequences (now (w .entry))) r (now (out .exit)) ⌝ }
@@ -227,7 +234,16 @@ fn put_blocks(w: &[u8], sequences: u32, table: [Settings; 256], count: usize, ou
 
 // The samples of a waveform, big-endian: as they stand where their order is big or no sample has two octets, turned round in one run
 // where all have one width, else block by block.
-fn put_samples(w: &[u8], little: bool, sequences: u32, octets: usize, table: [Settings; 256], count: usize, out: &mut [u8], at: usize) -> usize
+fn put_samples(
+    w: &[u8],
+    little: bool,
+    sequences: u32,
+    octets: usize,
+    table: [Settings; 256],
+    count: usize,
+    out: &mut [u8],
+    at: usize,
+) -> usize
     requires { ⌜ (0 < count) × (count ≤ 256) × (octets ≡ sequences * sequenceOctets (take count table)) ⌝ }
     requires { ⌜ (octets ≤ length (now w)) × (at + octets ≤ length (now out)) ⌝ }
     ensures { λ r. ⌜ Put (now (out .entry)) at (samplesTurned «little» (take count table) sequences (now (w .entry))) r (now (out .exit)) ⌝ }
@@ -246,7 +262,16 @@ fn put_samples(w: &[u8], little: bool, sequences: u32, octets: usize, table: [Se
 }
 
 // A frame: 05, 06, 07, the groups, 1E and the samples.
-fn put_frame(w: &[u8], st: Standing, sequences: u32, octets: usize, table: [Settings; 256], count: u32, out: &mut [u8], at: usize) -> usize
+fn put_frame(
+    w: &[u8],
+    st: Standing,
+    sequences: u32,
+    octets: usize,
+    table: [Settings; 256],
+    count: u32,
+    out: &mut [u8],
+    at: usize,
+) -> usize
     requires { ⌜ (0 < count) × (count ≤ 256) × (octets ≡ sequences * sequenceOctets (take count table)) × (mag (st .start) < 2147483648) ⌝ }
     requires { ⌜ (octets ≤ length (now w)) × (octets < 4294967296) × (at + frameSize sequences (groupsSize 0 (take count table)) octets ≤ length (now out)) ⌝ }
     ensures { λ r. ⌜ Put (now (out .entry)) at (frameParts (st .start) sequences (take count table) count (samplesTurned (st .little) (take count table) sequences (now (w .entry)))) r (now (out .exit)) ⌝ }

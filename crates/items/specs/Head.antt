@@ -66,7 +66,7 @@ groupHead u (Channel.Number channel k) = groupLength channel k (length (drop k u
 groupHead u Channel.PastEnd = Refused pastEnd
 groupHead u Channel.TooLong = Refused channelForm
 
--- Within an item the order is 1, 5, channel number (4 or 3 as met), 2, 3.
+-- Within an item the order is 1, 5, channel number (4 or 3 as met), 2, 3. Where there is no octet at all, 3; a walk never asks there.
 unfoldable pub headOf : Bool → List ℕ → Head
 headOf inside [] = Refused pastEnd
 headOf inside (tag ∷ u) =

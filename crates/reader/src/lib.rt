@@ -2,9 +2,9 @@
 //
 // Promises, for any octets at all: `check` counts the frames or answers the refusal of document 01 with its number and place;
 // `describe` answers what stands for a channel in a frame, and `sample` where a sample lies and what it is, or a refusal. All three are
-// thin over `scan`, which walks the file once.
-// Read first: specs/Standing.antt (what an item asks for), specs/Frame.antt (frames and samples), specs/Verdict.antt (the file),
-// specs/Answer.antt (the questions).
+// thin over `scan_file`, which walks the file once.
+// Read first: specs/Standing.antt (what an item asks for), specs/Framing.antt (frames), specs/Verdict.antt (the file), specs/Answer.antt
+// (the questions).
 ghost use mathlib.Core.Path.{_≡_};
 ghost use Prim.Native.Nat.{_*_, _^_, _≤_, _<_, min};
 ghost use lib.Dec.{ltb};

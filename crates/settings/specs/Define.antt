@@ -64,7 +64,8 @@ scaleOf little v = record { unit = getD v 0 0; exponent = twos 1 (getD v 1 0); m
 abbrev pub bitsOf : Bool → List ℕ → Bits
 bitsOf little v = record { width = length (take 8 v); bits = numberOf little (take 8 v) }
 
--- The new value that a definition's octets hold. (No length that fits is cut off here.)
+-- The new value that a definition's octets hold. Text after a class or lead code is stepped over; no other length that fits is cut off, and octets
+-- that are not there count as 0.
 abbrev pub changeOf : Attribute → Bool → List ℕ → Change
 changeOf Attribute.Block little v = Change.Block (numberOf little (take 4 v))
 changeOf Attribute.Class little v = Change.Class (codeOf little v)
@@ -105,7 +106,8 @@ inRange (Change.Resolution x) = scaleFits lastResolutionUnit x
 inRange (Change.Offset x) = true
 inRange (Change.Null x) = true
 
--- What a definition asks for: 6 for its length, 7 for its value; length 0 goes back to what stands in `base`.
+-- What a definition asks for: 6 for its length, 7 for its value; length 0 goes back to what stands in `base`: the
+-- defaults outside a group, the root settings inside one.
 unfoldable pub defined : Attribute → Bool → Settings → List ℕ → Defined
 defined a little base v =
     pick (not (lengthFits a (length v))) (Refused unfitLength)

@@ -19,9 +19,11 @@ blockLimit = 1_048_576
 abbrev pub lastKind : ℕ
 lastKind = 8
 
+-- The highest unit of an interval.
 abbrev pub lastIntervalUnit : ℕ
 lastIntervalUnit = 2
 
+-- The highest unit of a resolution.
 abbrev pub lastResolutionUnit : ℕ
 lastResolutionUnit = 22
 

@@ -12,7 +12,7 @@ use Rattle.values.specs.declared.Bits.{Bits}
 use Rattle.values.specs.declared.Value.{Value}
 use Rattle.values.specs.declared.Value.the-variants.{Whole, Status, Single, Double, NotNumber, Null}
 
--- Octets of a sample by its data type, 0 to 8; an accepted file has no other type.
+-- Octets of a sample by its data type, 0 to 8; an accepted file has no other type, and for one the answer is 0.
 unfoldable pub widthOf : ℕ → ℕ
 widthOf kind = getD (2 ∷ 2 ∷ 4 ∷ 1 ∷ 2 ∷ 1 ∷ 4 ∷ 4 ∷ 8 ∷ []) kind 0
 
@@ -50,7 +50,7 @@ plainOf kind little x =
     kind
     (Whole (pos 0))
 
--- The bits are null's: null is defined, and its bits are these.
+-- The bits are null's: null is defined, and its bits are these. Widths need no comparison: 12 has refused a null of another width.
 unfoldable pub isNull : Bits → ℕ → Bool
 isNull null n = both (not (eqb (null .width) 0)) (eqb (null .bits) n)
 

@@ -15,7 +15,6 @@ use Rattle.values.proofs.width.Reads as width-reads
 narrow : (k w : ℕ) → w ≡ widthOf k → w ≤ 8
 narrow k w e = rw e (width-le k)
 
-
 -- src/lib.rt:124:13
 width-requires : tie.Need-width-requires
 width-requires c κs = search needs

@@ -70,7 +70,6 @@ even-taken t n i v e h l f j m =
     let k : j < n = omega (arith, taken-long t n e h) in
     ap (λ (c : Settings). widthOf (c .kind)) (sym (taken-at t n j k)) ∙ f j (omega arith)
 
-
 -- src/lib.rt:180:1
 returns-2 : tie.Need-returns-2 Inv-loop μ-loop
 returns-2 c = λ h. even-taken (c .before .before .before .before .args .t1) (c .before .before .before .before .args .count) (c .before .loop .i) _ (c .before .loop .inv .2) (c .before .loop .inv .1) (c .loop-test .left) (c .before .loop .inv .3)

@@ -15,7 +15,6 @@ use Rattle.values.proofs.width.Reads as width-reads
 narrow : (k w : ℕ) → w ≡ widthOf k → w ≤ 8
 narrow k w e = rw e (width-le k)
 
-
 -- src/lib.rt:81:9
 returns : tie.Need-returns
 returns c = (simp (eq-eqb _ 0 (c .if1 .taken)), omega arith)

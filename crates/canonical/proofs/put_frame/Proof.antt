@@ -32,7 +32,6 @@ use Rattle.runs.proofs.put_octet.Reads as put-octet-reads
 in64 : (c : tie.After-struct-told) → SFits w64 (c .before .before .before .before .args .st .start)
 in64 c = search needs
 
-
 -- src/lib.rt:248:9
 put-head-requires : tie.Need-put-head-requires
 unfolding frameSize

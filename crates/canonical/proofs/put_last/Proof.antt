@@ -30,7 +30,6 @@ width-requires c κs = search needs
 narrow : (k w : ℕ) → w ≡ widthOf k → w ≤ 8
 narrow k w e = rw e (width-le k)
 
-
 -- src/lib.rt:93:13
 cast-w : tie.Need-cast-w
 cast-w c = omega (arith, narrow (c .before .before .before .before .args .c .kind) _ (c .width .ensures))

@@ -35,7 +35,6 @@ same-length c = search needs
 one-wide : (cs : List Settings) (v : ℕ) → (0 < v → Even v cs) → v ≡ 1 → Even 1 cs
 one-wide cs v f e = subst (λ (w : ℕ). Even w cs) e (f (omega arith))
 
-
 -- src/lib.rt:230:9
 returns : tie.Need-returns
 returns c = put-as (samples-big {little = c .before .before .before .before .before .before .before .before .args .little} (take (c .before .before .before .before .before .before .before .before .args .count) (c .before .before .before .before .before .before .before .before .args .table)) _ _ _ (not-true _ (c .before .before .before .before .if1 .taken)) (c .before .before .before .before .before .before .before .before .pre .0 .2)) (put-fits (taken-room (c .before .before .before .before .before .before .before .before .args .octets) (c .before .before .before .before .before .before .before .before .args .at) (c .before .before .before .before .before .before .before .before .args .w .now) (c .before .before .before .before .before .before .before .before .args .out .now) (c .before .before .before .before .before .before .before .before .pre .1 .1)) (c .before .before .copy .ensures))

@@ -29,7 +29,6 @@ in8 c = search needs
 in32 : (c : tie.After-struct-told2) → SFits w32 (c .before .before .before .before .before .before .args .x .mantissa)
 in32 c = search needs
 
-
 -- src/lib.rt:45:29
 cast-unsigned : tie.Need-cast-unsigned
 cast-unsigned c = rw (toZ-ofZ (in8 c)) (sfits-widen tt (in8 c))

@@ -27,7 +27,6 @@ negative c = subst (λ (y : ℤ). ltZ y (pos 0) ≡ true) (toZ-ofZ (c .before .f
 turned : (c : tie.Then1) → toZ w64 (18446744073709551615 - ofZ w64 (c .before .args .z)) ≡ pos (mag (c .before .args .z))
 turned c = complement (c .before .args .z) (c .before .fits .z) (negative c)
 
-
 -- src/lib.rt:35:27
 cast-result : tie.Need-cast-result
 cast-result c = rw (turned c) (tt, omega arith)
@@ -45,7 +44,6 @@ positive c = subst (λ (y : ℤ). ltZ y (pos 0) ≡ false) (toZ-ofZ (c .before .
 
 read : (c : tie.Else1) → toZ w64 (ofZ w64 (c .before .args .z)) ≡ pos (unsignedBy (c .before .args .full) (c .before .args .z))
 read c = toZ-ofZ (c .before .fits .z) ∙ above-is (c .before .args .full) (c .before .args .z) (positive c)
-
 
 -- src/lib.rt:37:5
 cast-result-2 : tie.Need-cast-result-2
