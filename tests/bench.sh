@@ -121,5 +121,10 @@ run "annex A, cut after 16,000 octets of waveform" "refused 3 at 158"
 { octets "05 01 02 3F" && sleep 1 && octets "00 03 0A 01 03 0A 01 05 1E 02 07 08"; } | "$program" >"$line"
 compare "P4 in two pieces" "frames 1"
 
+# 59 KiB of the stack are the program's own buffer.
+octets "05 01 02 3F 00 03 0A 01 03 0A 01 05 1E 02 07 08" >"$file"
+(ulimit -s 128 && env -i "$program" <"$file" >"$line")
+compare "P4 with a stack of 128 KiB" "frames 1"
+
 printf '%s passed, %s failed\n' "$passed" "$failed"
 [ "$failed" -eq 0 ]

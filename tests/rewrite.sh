@@ -184,5 +184,11 @@ run "a canonical file of 120,000 octets"
 { octets "0A 01 05" && octets "1E 00" | repeated 2104 && octets "1E 09 01 02 03 04 05 06 07 08 09"; } >"$file"
 line "a canonical file of 120,001 octets" "refused 23 at 0"
 
+# 176 KiB of the stack are the program's own buffers.
+octets "01 01 00 1E 02 00 01" >"$file"
+"$program" <"$file" >"$expected"
+(ulimit -s 304 && env -i "$program" <"$file" >"$wrote")
+compare "a stack of 128 KiB beside the buffers" "$wrote"
+
 printf '%s passed, %s failed\n' "$passed" "$failed"
 [ "$failed" -eq 0 ]
