@@ -77,6 +77,7 @@ frameOctets r =
     ++ (groupsOctets 0 (r .channels)
     ++ item 0x1E (waveformOf r))))
 
+-- The frames, one after the other.
 unfoldable pub framesOctets : List Recorded → List ℕ
 framesOctets [] = []
 framesOctets (r ∷ rs) = frameOctets r ++ framesOctets rs

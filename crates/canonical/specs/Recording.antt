@@ -1,6 +1,5 @@
 -- The recording that an accepted file holds (document 01, "Frames and samples").
 use mathlib.Core.List.{List, [], _∷_, map}
-use mathlib.Core.Bool.{Bool}
 use Prim.Native.Nat.{ℕ, zero, suc}
 use lib.IntN.{ℤ}
 use lib.ListN.{length}

@@ -16,12 +16,12 @@ use Rattle.canonical.specs.declared.Written.{Written}
 use Rattle.canonical.specs.Recording.{recording}
 use Rattle.canonical.specs.Canonical.{canonical}
 
--- The frames of an accepted file.
+-- The frames of an accepted file; for a refused one none.
 unfoldable pub framesIn : Verdict → List Frame
 framesIn (accepted fs) = fs
 framesIn (refused r) = []
 
--- The canonical file of an accepted file.
+-- The canonical file of an accepted file; for a refused one no octets.
 unfoldable pub canonicalOf : List ℕ → List ℕ
 canonicalOf s = canonical (recording (framesIn (verdict s)))
 

@@ -1,6 +1,6 @@
 -- Frames and samples (document 01): how a waveform is laid out, and the place of a sample.
 use mathlib.Core.List.{List, [], _∷_}
-use mathlib.Core.Bool.{Bool, true, false}
+use mathlib.Core.Bool.{Bool, true}
 use Prim.Native.Nat.{ℕ, _+_, _*_, _/_, _%_}
 use lib.Dec.{eqb}
 use lib.IntN.{ℤ}
@@ -46,6 +46,7 @@ widthAgrees width b = either (eqb (b .width) 0) (eqb (b .width) width)
 unfoldable pub channelAgrees : Settings → Bool
 channelAgrees c = both (widthAgrees (widthIn c) (c .offset)) (widthAgrees (widthIn c) (c .null))
 
+-- The same for each of a frame's channels.
 unfoldable pub allAgree : List Settings → Bool
 allAgree [] = true
 allAgree (c ∷ cs) = both (channelAgrees c) (allAgree cs)

@@ -1,10 +1,10 @@
 -- How many octets a frame takes in the canonical file (document 01, "The canonical file").
 use mathlib.Core.List.{List, [], _∷_}
-use Prim.Native.Nat.{ℕ, suc, _+_, _*_}
+use Prim.Native.Nat.{ℕ, suc, _+_}
 use lib.Dec.{eqb, ltb}
 use Rattle.octets.specs.Pick.{pick}
 use Rattle.settings.specs.declared.Settings.{Settings}
-use Rattle.layout.specs.Frame.{Frame, widthIn, sequenceOctets}
+use Rattle.layout.specs.Frame.{widthIn}
 
 -- A shortest channel number below 16,384: one octet or two.
 abbrev pub channelSize : ℕ → ℕ

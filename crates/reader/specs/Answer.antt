@@ -1,7 +1,7 @@
 -- The questions (document 01, "Frames and samples" and "What comes back when it is no"): the attributes of a channel in a frame, and the
 -- place and value of a sample.
 use mathlib.Core.List.{List, [], _∷_}
-use mathlib.Core.Bool.{Bool, true, false}
+use mathlib.Core.Bool.{false}
 use Prim.Native.Nat.{ℕ, _+_, _*_, _/_, _%_}
 use lib.Dec.{eqb, ltb}
 use lib.IntN.{pos}
@@ -13,7 +13,7 @@ use Rattle.items.specs.declared.Refusal.{Refusal}
 use Rattle.items.specs.Refusals.{noFrame, noChannel, noSample}
 use Rattle.items.specs.Walk.{refusal}
 use Rattle.settings.specs.declared.Settings.{Settings}
-use Rattle.settings.specs.Settings.{defaultSettings, zeroSettings}
+use Rattle.settings.specs.Settings.{defaultSettings}
 use Rattle.layout.specs.Frame.{Frame, widthIn, sequenceOctets, octetsBelow, channelIn, samplesOf, placeOf}
 use Rattle.layout.specs.Size.{frameSize, groupsSize}
 use Rattle.reader.specs.declared.Asked.{Asked}
@@ -67,6 +67,7 @@ describedIn frame channel (accepted fs) =
     (Described.Refused (refusal noChannel 0)))
     (Described.Refused (refusal noFrame 0))
 
+-- The attributes of a channel in a frame of a file.
 unfoldable pub attributesOf : List ℕ → ℕ → ℕ → Described
 attributesOf s frame channel = describedIn frame channel (verdict s)
 
@@ -91,6 +92,7 @@ sampledIn s frame channel n (accepted fs) =
     (Sampled.Refused (refusal noChannel 0)))
     (Sampled.Refused (refusal noFrame 0))
 
+-- A sample of a file, by frame, channel and number.
 unfoldable pub sampleOf : List ℕ → ℕ → ℕ → ℕ → Sampled
 sampleOf s frame channel n = sampledIn s frame channel n (verdict s)
 
@@ -111,13 +113,15 @@ viewOf channel f =
       settings = c;
     }
 
+-- The frame that is asked for, where there is one.
 unfoldable pub foundIn : Asked → List Frame → Found
 foundIn q fs = pick (ltb (q .frame) (length fs)) (Found.Frame (viewOf (q .channel) (getD fs (q .frame) zeroFrame))) Nothing
 
--- How many octets frames take in the canonical file, without its first three.
+-- How many octets a frame takes in the canonical file.
 unfoldable pub sizeOf : Frame → ℕ
 sizeOf f = frameSize (f .sequences) (groupsSize 0 (f .channels)) (f .sequences * sequenceOctets (f .channels))
 
+-- How many octets frames take there, without the file's first three.
 unfoldable pub sizes : List Frame → ℕ
 sizes [] = 0
 sizes (f ∷ fs) = sizeOf f + sizes fs
@@ -131,6 +135,7 @@ unfoldable pub scannedIn : Asked → Verdict → Scan
 scannedIn q (accepted fs) = record { checked = Checked.Frames (length fs); found = foundIn q fs; size = sizes fs }
 scannedIn q (refused r) = refusedScan r
 
+-- The same for a file.
 unfoldable pub scanOf : Asked → List ℕ → Scan
 scanOf q s = scannedIn q (verdict s)
 
@@ -145,6 +150,7 @@ seenIn frame channel (accepted fs) =
     (pick (ltb channel (length (f .channels))) (LookedUp.Channel (viewOf channel f)) (LookedUp.Refused (refusal noChannel 0)))
     (LookedUp.Refused (refusal noFrame 0))
 
+-- The same for a file.
 unfoldable pub seenOf : List ℕ → ℕ → ℕ → LookedUp
 seenOf s frame channel = seenIn frame channel (verdict s)
 

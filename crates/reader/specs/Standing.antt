@@ -23,6 +23,7 @@ abbrev pub firstStanding : Standing
 firstStanding =
     record { little = false; counted = 0; sequences = 0; start = pos 0; continued = pos 0; root = defaultSettings }
 
+-- One thing set, all else as it stands: the byte order, the channel count, the sequences, the start pointer, the root settings.
 abbrev pub withOrder : Bool → Standing → Standing
 withOrder little st =
     record { little = little; counted = st .counted; sequences = st .sequences; start = st .start; continued = st .continued; root = st .root }

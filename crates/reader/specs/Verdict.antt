@@ -1,6 +1,5 @@
 -- The verdict on a file: its items interpreted in file order (document 01, "Attributes" and "What comes back when it is no").
 use mathlib.Core.List.{List, [], _∷_, _++_}
-use mathlib.Core.Bool.{Bool, true, false}
 use Prim.Native.Nat.{ℕ}
 use lib.Dec.{ltb}
 use lib.ListN.{length, getD, set, take, replicate}
@@ -29,6 +28,7 @@ pub record State : Type 0 where
 abbrev pub state : Standing → List Settings → List Frame → State
 state st table fs = record { standing = st; channels = table; frames = fs }
 
+-- Before the first item: the defaults, and no frame.
 abbrev pub firstState : State
 firstState = state firstStanding defaultTable []
 
@@ -57,6 +57,7 @@ frameAt s x start len sequences =
       waveform = valueAt s start len;
     }
 
+-- A waveform gives a frame, or is refused. Settings last across frames.
 unfoldable pub withFrame : List ℕ → State → ℕ → ℕ → Framed → Outcome
 withFrame s x start len (Framed.Taken sequences st) = goes (state st (x .channels) (x .frames ++ (frameAt s x start len sequences ∷ [])))
 withFrame s x start len (Framed.Refused number) = refuses number
@@ -86,6 +87,7 @@ pub data Verdict : Type 0 where
   accepted : List Frame → Verdict
   refused : Refusal → Verdict
 
+-- A refused item decides at its place; else what follows does.
 unfoldable pub afterItem : (State → Verdict) → ℕ → Outcome → Verdict
 afterItem more place (goes y) = more y
 afterItem more place (refuses number) = refused (refusal number place)
@@ -105,5 +107,6 @@ unfoldable pub checkedAs : Verdict → Checked
 checkedAs (accepted fs) = Frames (length fs)
 checkedAs (refused r) = Checked.Refused r
 
+-- The same for a file.
 unfoldable pub checkOf : List ℕ → Checked
 checkOf s = checkedAs (verdict s)

@@ -22,7 +22,6 @@ use items::Cursor;
 use items::Item;
 use items::Next;
 use items::Refusal;
-use settings::Attribute;
 use settings::Change;
 use settings::Defined;
 use settings::Scale;
