@@ -1,0 +1,53 @@
+-- The octets of a sample, read one by one, for any width.
+--     taken                    the octets from a place on
+--     here-big, here-little    a number made of them, highest first, is the sample's bits
+-- Assumes nothing.
+use mathlib.Core.Path.{_≡_, refl, sym, ap, _∙_}
+use mathlib.Core.List.{List, [], _∷_, reverse, reverseAux}
+use mathlib.Core.Bool.{Bool, true, false}
+use Prim.Native.Nat.{ℕ, zero, suc, _+_, _≤_, _<_}
+use native.Mathlib.Nat.{add-suc}
+use native.Mathlib.Numerals.{add-one}
+use native.Mathlib.Omega.{arith}
+use lib.ListN.{length, getD, take, drop}
+use lib.Seq.{drop-cons}
+use Rattle.octets.specs.Number.{bigFrom, littleOf, numberOf}
+use Rattle.bulk.specs.Walked.{bitsHere}
+
+-- w octets from the i-th after a place on. It computes to the places that the code reads.
+abbrev pub restFrom : List ℕ → ℕ → ℕ → ℕ → List ℕ
+restFrom s at i zero = []
+restFrom s at i (suc w) = getD s (at + i) 0 ∷ restFrom s at (suc i) w
+
+rest-taken : (s : List ℕ) (at i w : ℕ) → at + i + w ≤ length s → take w (drop (at + i) s) ≡ restFrom s at i w
+rest-taken s at i zero h = refl
+rest-taken s at i (suc w) h =
+    let k : at + i < length s = omega arith in
+    rw (drop-cons s (at + i) 0 k) (rw (← add-suc at i) (ap (λ (l : List ℕ). getD s (at + i) 0 ∷ l) (rest-taken s at (suc i) w (omega arith))))
+
+pub taken : (s : List ℕ) (at w : ℕ) → at + suc w ≤ length s → take (suc w) (drop at s) ≡ getD s at 0 ∷ restFrom s at 1 w
+taken s at w h =
+    let k : at < length s = omega arith in
+    rw (drop-cons s at 0 k) (rw (← add-one at) (ap (λ (l : List ℕ). getD s at 0 ∷ l) (rest-taken s at 1 w (omega arith))))
+
+-- The first octet needs no product.
+first-octet : (a : ℕ) (xs : List ℕ) → bigFrom a xs ≡ numberOf false (a ∷ xs)
+unfolding numberOf bigFrom
+first-octet a xs = ap (λ (n : ℕ). bigFrom n xs) (omega arith)
+
+-- Lowest octet first is highest octet first from the back.
+turned : (xs r : List ℕ) → bigFrom 0 (reverseAux xs r) ≡ bigFrom (littleOf xs) r
+unfolding bigFrom littleOf
+turned [] r = refl
+turned (x ∷ xs) r = turned xs (x ∷ r)
+
+from-back : (xs : List ℕ) → numberOf false (reverse xs) ≡ numberOf true xs
+unfolding numberOf bigFrom
+from-back xs = turned xs []
+
+module _ (w : ℕ) (s : List ℕ) (at : ℕ) {little : Bool} {r : ℕ} (h : at + suc w ≤ length s) where
+  pub here-big : little ≡ false → r ≡ bigFrom (getD s at 0) (restFrom s at 1 w) → r ≡ bitsHere little (suc w) s at
+  here-big e f = f ∙ first-octet _ _ ∙ (λ i. numberOf (sym e i) (sym (taken s at w h) i))
+
+  pub here-little : {a : ℕ} {xs : List ℕ} → little ≡ true → reverse (getD s at 0 ∷ restFrom s at 1 w) ≡ a ∷ xs → r ≡ bigFrom a xs → r ≡ bitsHere little (suc w) s at
+  here-little e q f = f ∙ first-octet _ _ ∙ ap (numberOf false) (sym q) ∙ from-back _ ∙ (λ i. numberOf (sym e i) (sym (taken s at w h) i))

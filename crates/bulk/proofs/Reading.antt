@@ -1,0 +1,197 @@
+-- What reading many samples answers, over the place of the first.
+--     Room, seen-blocks, block-some, seen-inside    the channel's samples lie in the file, in blocks
+--     seen-bits                       the samples of the blocks are those of the channel
+--     read-samples, read-refused, kept, filled    the answer and the buffer
+-- Assumes nothing.
+use mathlib.Core.Path.{_≡_, refl, sym, ap, _∙_}
+use mathlib.Core.Logic.{inl, inr}
+use mathlib.Core.List.{List, _++_}
+use mathlib.Core.Bool.{Bool, true, false}
+use Prim.Native.Nat.{ℕ, zero, suc, _+_, _-_, _*_, _/_, _%_, _≤_, _<_, min}
+use native.Mathlib.Nat.{zero-mul, zero-add, add-mul, mod-lt, div-add-mod', mul-add-div-right, mul-add-mod-self-right}
+use native.Mathlib.Omega.{arith}
+use borrow.Author.Tests.{lt-ltb}
+use lib.Dec.{ltb}
+use lib.ListN.{length, getD, drop}
+use lib.Seq.{sets}
+use Rattle.octets.specs.Pick.{pick}
+use Rattle.runs.proofs.Stores.{sets-front}
+use Rattle.items.specs.declared.Refusal.{Refusal}
+use Rattle.items.specs.Refusals.{noFrame, noChannel, noSample}
+use Rattle.items.specs.Walk.{refusal}
+use Rattle.values.specs.Sample.{widthOf}
+use Rattle.layout.specs.Frame.{widthIn, blockOctets, sequenceOctets, channelIn, samplesOf, offsetOf, placeOf}
+use Rattle.laid.proofs.Places.{row-fits, below-fits, offset-inside}
+use Rattle.reader.specs.declared.Sampled.{Sampled}
+use Rattle.reader.specs.declared.View.{View}
+use Rattle.reader.specs.Verdict.{Verdict, accepted, refused, verdict}
+use Rattle.reader.specs.Answer.{zeroFrame, viewOf, placeSeen, sampleIn, sampledIn, sampleOf}
+use Rattle.reader.proofs.Answers.{Located}
+use Rattle.reader.proofs.Answers as answers
+use Rattle.reader.proofs.Every.{every-at}
+use Rattle.reader.proofs.Good.{GoodSettings, accepted-good}
+use Rattle.reader.proofs.Ordered.{accepted-lies, accepted-small}
+use Rattle.settings.specs.Settings.{zeroSettings}
+use Rattle.bulk.specs.declared.Placed.{Placed}
+use Rattle.bulk.specs.declared.Read.{Read}
+use Rattle.bulk.specs.declared.Read.the-variants.{Samples}
+use Rattle.bulk.specs.Place.{countSeen, placedOf}
+use Rattle.bulk.specs.Samples.{bitsOf, bitsFrom, readIn, readOf, writtenAs, bufferAfter}
+use Rattle.bulk.specs.Walked.{blocked, Wide, InBlocks}
+use Rattle.bulk.proofs.Placing.{PlacedAt, sampled-refused, frameIn, bits-seen}
+use Rattle.bulk.proofs.Walks.{length-bits, bits-same}
+
+-- ---- the channel that is seen
+
+module _ {s : List ℕ} {frame channel : ℕ} {v : View} (l : Located s frame channel v) where
+  settings-seen : v .settings ≡ channelIn channel (frameIn l .channels)
+  unfolding viewOf
+  settings-seen = ap (λ (x : View). x .settings) (l .view) ∙ simp (lt-ltb channel (length (frameIn l .channels)) (l .channelIs))
+
+  octets-seen : v .octets ≡ sequenceOctets (frameIn l .channels)
+  unfolding viewOf
+  octets-seen = ap (λ (x : View). x .octets) (l .view)
+
+  sequences-seen : v .sequences ≡ frameIn l .sequences
+  unfolding viewOf
+  sequences-seen = ap (λ (x : View). x .sequences) (l .view)
+
+  pub count-seen : countSeen v ≡ samplesOf channel (frameIn l)
+  unfolding samplesOf
+  count-seen = λ i. sequences-seen i * settings-seen i .block
+
+  place-seen : (n : ℕ) → placeSeen v n ≡ placeOf channel n (frameIn l)
+  unfolding viewOf placeSeen placeOf offsetOf
+  place-seen n = ap (λ (x : View). placeSeen x n) (l .view) ∙ simp (lt-ltb channel (length (frameIn l .channels)) (l .channelIs))
+
+  -- A sample lies in the file.
+  pub seen-inside : (n : ℕ) → n < countSeen v → placeSeen v n + widthIn (v .settings) ≤ length s
+  unfolding placeOf samplesOf
+  seen-inside n h =
+      let a = accepted-lies s (l .frames) (l .verdictIs) frame (l .frameIn) in
+      let k : n < frameIn l .sequences * channelIn channel (frameIn l .channels) .block = omega (arith, count-seen) in
+      let c = offset-inside {cs = frameIn l .channels} {S = frameIn l .sequences} {c = channel} {n = n} (record { channel = l .channelIs; number = k }) in
+      rw (place-seen n, settings-seen) (omega (arith, a .fits, a .inside, c))
+
+  pub file-small : length s < 2147483648
+  file-small = omega (arith, accepted-small s (l .frames) (l .verdictIs))
+
+  -- A sequence is no longer than the file, and holds the channel's block.
+  pub sequence-small : 0 < v .sequences → v .octets ≤ length s
+  sequence-small h =
+      let a = accepted-lies s (l .frames) (l .verdictIs) frame (l .frameIn) in
+      let r = row-fits (sequenceOctets (frameIn l .channels)) 0 (frameIn l .sequences) (omega (arith, sequences-seen)) in
+      rw octets-seen (omega (arith, a .fits, a .inside, rw (zero-mul, zero-add) at r))
+
+  pub block-fits : v .settings .block * widthIn (v .settings) ≤ v .octets
+  unfolding blockOctets
+  block-fits = rw (settings-seen, octets-seen) (omega (arith, below-fits (frameIn l .channels) channel (l .channelIs)))
+
+  pub kind-seen : ((i : ℕ) → getD s i 0 < 256) → v .settings .kind ≤ 8
+  kind-seen o =
+      let g = accepted-good s o (l .frames) (l .verdictIs) frame (l .frameIn) in
+      rw settings-seen (every-at GoodSettings (frameIn l .channels) (g .channels) zeroSettings channel (l .channelIs) .kind)
+
+-- The widths of the data types.
+pub width-wide : (k : ℕ) → k ≤ 8 → Wide (widthOf k)
+unfolding widthOf
+width-wide zero h = inr (inl refl)
+width-wide (suc zero) h = inr (inl refl)
+width-wide (suc (suc zero)) h = inr (inr (inl refl))
+width-wide (suc (suc (suc zero))) h = inl refl
+width-wide (suc (suc (suc (suc zero)))) h = inr (inl refl)
+width-wide (suc (suc (suc (suc (suc zero))))) h = inl refl
+width-wide (suc (suc (suc (suc (suc (suc zero)))))) h = inr (inr (inl refl))
+width-wide (suc (suc (suc (suc (suc (suc (suc zero))))))) h = inr (inr (inl refl))
+width-wide (suc (suc (suc (suc (suc (suc (suc (suc zero)))))))) h = inr (inr (inr refl))
+width-wide (suc (suc (suc (suc (suc (suc (suc (suc (suc k))))))))) h = let z : ⊥ = omega arith in absurd z
+
+-- ---- its samples, block by block
+
+factor-some : (a b n : ℕ) → n < a * b → 0 < a
+factor-some zero b n h = let z : n < 0 = rw zero-mul at h in omega arith
+factor-some (suc a) b n h = omega arith
+
+-- The place of a sample that is j after another, from that one's block.
+walk-place : (place b G below w first j : ℕ) → 0 < b
+    → place + (first / b * G + below + first % b * w) - first % b * w + ((first % b + j) / b * G + (first % b + j) % b * w)
+    ≡ place + ((first + j) / b * G + below + (first + j) % b * w)
+walk-place place b G below w first j h =
+    let e : first + j ≡ first / b * b + (first % b + j) = omega (arith, div-add-mod' first b) in
+    let d : (first + j) / b ≡ first / b + (first % b + j) / b = ap (λ (n : ℕ). n / b) e ∙ mul-add-div-right h (first / b) (first % b + j) in
+    let m : (first + j) % b ≡ (first % b + j) % b = ap (λ (n : ℕ). n % b) e ∙ mul-add-mod-self-right (first / b) b (first % b + j) in
+    rw (d, m, add-mul) (omega arith)
+
+module _ {s : List ℕ} {frame channel first p : ℕ} {v : View} (m : PlacedAt s frame channel first p v) where
+  pub block-some : 0 < v .settings .block
+  block-some = answers.block-some s frame channel first v (m .channelAt) (m .number)
+
+  module _ (w : ℕ) (e : w ≡ widthOf (v .settings .kind)) where
+    pub rest-low : first % v .settings .block * w ≤ p
+    unfolding placeSeen
+    rest-low = rw (m .place, e) (omega arith)
+
+    walked : (j : ℕ) → p - first % v .settings .block * w + ((first % v .settings .block + j) / v .settings .block * v .octets + (first % v .settings .block + j) % v .settings .block * w) ≡ placeSeen v (first + j)
+    unfolding placeSeen
+    walked j = rw (m .place, e) (walk-place (v .place) (v .settings .block) (v .octets) (v .below) (widthIn (v .settings)) first j block-some)
+
+    pub in-blocks : (n : ℕ) → n ≤ countSeen v - first → InBlocks (length s) (p - first % v .settings .block * w) (first % v .settings .block) (v .settings .block) (v .octets) w n
+    in-blocks n h =
+        let l = m .channelAt in
+        let i = seen-inside l first (m .number) in
+        let a = file-small l in
+        record {
+          small = a;
+          apart = omega (arith, sequence-small l (factor-some _ _ _ (m .number)));
+          low = mod-lt first block-some;
+          block = rw e (block-fits l);
+          starts = omega (arith, rest-low, m .place);
+          each = λ j k. rw (walked j, e) (seen-inside l (first + j) (omega (arith, m .number)));
+        }
+
+    -- The samples of the blocks are those of the channel.
+    pub seen-bits : (n : ℕ) → bitsFrom (blocked (v .little) w s (p - first % v .settings .block * w) (v .settings .block) (v .octets)) (first % v .settings .block) n ≡ bitsFrom (bitsOf s frame channel) first n
+    unfolding blocked
+    seen-bits n =
+        bits-same (blocked (v .little) w s (p - first % v .settings .block * w) (v .settings .block) (v .octets)) (bitsOf s frame channel) (first % v .settings .block) first n
+        (λ j k. rw (walked j, e) (bits-seen (m .channelAt) (first + j)))
+
+-- ---- the answer and the buffer
+
+module _ (s : List ℕ) (frame channel first room : ℕ) where
+  pub read-samples : {p n : ℕ} {v : View} → PlacedAt s frame channel first p v → n ≡ min room (countSeen v - first) → Samples n ≡ readOf s frame channel first room
+  unfolding readOf readIn
+  read-samples {v = v} m e =
+      let l = m .channelAt in
+      let c = count-seen l in
+      let h : first < samplesOf channel (frameIn l) = omega (arith, m .number) in
+      ap Samples (e ∙ ap (λ (k : ℕ). min room (k - first)) c)
+      ∙ sym (ap (readIn room frame channel first) (l .verdictIs) ∙ simp (lt-ltb frame (length (l .frames)) (l .frameIn), lt-ltb channel _ (l .channelIs), lt-ltb first _ h))
+
+  refused-in : (x : Refusal) (o : Verdict) → Sampled.Refused x ≡ sampledIn s frame channel first o → Read.Refused x ≡ readIn room frame channel first o
+  unfolding sampledIn readIn sampleIn
+  refused-in x (refused r) e = let f : x ≡ r = cc in ap Read.Refused f
+  refused-in x (accepted fs) e = by (ltb frame (length fs)) (ltb channel (length (getD fs frame zeroFrame .channels))) (ltb first (samplesOf channel (getD fs frame zeroFrame))) e
+    where
+      by : (a b c : Bool) → Sampled.Refused x ≡ pick a (pick b (pick c (sampleIn s channel first (getD fs frame zeroFrame)) (Sampled.Refused (refusal noSample 0))) (Sampled.Refused (refusal noChannel 0))) (Sampled.Refused (refusal noFrame 0))
+          → Read.Refused x ≡ pick a (pick b (pick c (Samples (min room (samplesOf channel (getD fs frame zeroFrame) - first))) (Read.Refused (refusal noSample 0))) (Read.Refused (refusal noChannel 0))) (Read.Refused (refusal noFrame 0))
+      by true true true g = let z : _≡_ {A = ℕ} 0 1 = cc in let y : ⊥ = omega arith in absurd y
+      by true true false g = let f : x ≡ refusal noSample 0 = cc in ap Read.Refused f
+      by true false c g = let f : x ≡ refusal noChannel 0 = cc in ap Read.Refused f
+      by false b c g = let f : x ≡ refusal noFrame 0 = cc in ap Read.Refused f
+
+  pub read-refused : {r : Placed} {x : Refusal} → r ≡ placedOf s frame channel first → r ≡ Placed.Refused x → Read.Refused x ≡ readOf s frame channel first room
+  unfolding readOf sampleOf
+  read-refused {x = x} e f = refused-in x (verdict s) (sampled-refused s frame channel first e f)
+
+module _ (s : List ℕ) (frame channel first : ℕ) (out : List ℕ) where
+  abbrev after : Read → List ℕ
+  after r = let bits = writtenAs s frame channel first r in bits ++ drop (length bits) out
+
+  pub kept : {x : Refusal} → Read.Refused x ≡ readOf s frame channel first (length out) → out ≡ bufferAfter s frame channel first out
+  unfolding bufferAfter writtenAs
+  kept e = ap after e
+
+  pub filled : {n : ℕ} {new : List ℕ} → Samples n ≡ readOf s frame channel first (length out) → n ≤ length out → new ≡ sets out 0 (bitsFrom (bitsOf s frame channel) first n) → new ≡ bufferAfter s frame channel first out
+  unfolding bufferAfter writtenAs
+  filled {n} e h f = f ∙ sets-front (bitsFrom (bitsOf s frame channel) first n) out (omega (arith, length-bits (bitsOf s frame channel) first n)) ∙ ap after e

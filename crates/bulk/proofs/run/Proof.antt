@@ -1,0 +1,60 @@
+-- By the width: each has its loop.
+use mathlib.Core.Path.{subst}
+use Rattle.bulk.specs.Walked.{Within}
+use Rattle.bulk.proofs.Walks.{wide-eight}
+use borrow.Author.Needs.{needs}
+use Rattle.bulk.proofs.run.Statement.{statement}
+use Rattle.bulk.proofs.run.Tie as tie
+
+run1-requires : tie.Need-run1-requires
+run1-requires c κs = (subst (Within _ _ _ _) (c .before .if1 .taken) (c .before .before .before .before .pre .1 .0), c .before .before .before .before .pre .1 .1)
+
+same-length : tie.Need-same-length
+same-length c = search needs
+
+returns : tie.Need-returns
+returns c = rw (c .before .before .before .before .if1 .taken) (c .before .before .run1 .ensures)
+
+run2-requires : tie.Need-run2-requires
+run2-requires c κs = (subst (Within _ _ _ _) (c .before .if2 .taken) (c .before .before .before .before .before .pre .1 .0), c .before .before .before .before .before .pre .1 .1)
+
+same-length-2 : tie.Need-same-length-2
+same-length-2 c = search needs
+
+returns-2 : tie.Need-returns-2
+returns-2 c = rw (c .before .before .before .before .if2 .taken) (c .before .before .run2 .ensures)
+
+run4-requires : tie.Need-run4-requires
+run4-requires c κs = (subst (Within _ _ _ _) (c .before .if3 .taken) (c .before .before .before .before .before .before .pre .1 .0), c .before .before .before .before .before .before .pre .1 .1)
+
+same-length-3 : tie.Need-same-length-3
+same-length-3 c = search needs
+
+returns-3 : tie.Need-returns-3
+returns-3 c = rw (c .before .before .before .before .if3 .taken) (c .before .before .run4 .ensures)
+
+run8-requires : tie.Need-run8-requires
+run8-requires c κs = (subst (Within _ _ _ _) (wide-eight (c .before .before .before .before .before .before .pre .0) (c .before .before .before .if1 .left) (c .before .before .if2 .left) (c .before .if3 .left)) (c .before .before .before .before .before .before .pre .1 .0), c .before .before .before .before .before .before .pre .1 .1)
+
+same-length-4 : tie.Need-same-length-4
+same-length-4 c = search needs
+
+returns-4 : tie.Need-returns-4
+returns-4 c = rw (wide-eight (c .before .before .before .before .before .before .before .before .before .pre .0) (c .before .before .before .before .before .before .if1 .left) (c .before .before .before .before .before .if2 .left) (c .before .before .before .before .if3 .left)) (c .before .before .run8 .ensures)
+
+pub run-spec : {M : Type 1} → statement M
+run-spec =
+    tie.close
+    (tie.spec
+    run1-requires
+    same-length
+    returns
+    run2-requires
+    same-length-2
+    returns-2
+    run4-requires
+    same-length-3
+    returns-3
+    run8-requires
+    same-length-4
+    returns-4)

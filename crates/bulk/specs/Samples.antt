@@ -1,0 +1,57 @@
+-- The bits of samples, as the file has them (document 01, "Frames and samples"), and what reading many of them answers.
+use mathlib.Core.List.{List, [], _∷_, _++_}
+use Prim.Native.Nat.{ℕ, zero, suc, _-_, min}
+use lib.Dec.{ltb}
+use lib.ListN.{length, getD, take, drop}
+use Rattle.octets.specs.Pick.{pick}
+use Rattle.octets.specs.Number.{numberOf}
+use Rattle.items.specs.Refusals.{noFrame, noChannel, noSample}
+use Rattle.items.specs.Walk.{refusal}
+use Rattle.layout.specs.Frame.{Frame, widthIn, channelIn, samplesOf, placeOf}
+use Rattle.reader.specs.Verdict.{Verdict, accepted, refused, verdict}
+use Rattle.reader.specs.Answer.{zeroFrame}
+use Rattle.bulk.specs.declared.Read.{Read}
+use Rattle.bulk.specs.declared.Read.the-variants.{Samples}
+
+-- The bits of sample n of a channel: its octets, highest first by the frame's byte order, as a number.
+unfoldable pub bitsAt : List ℕ → ℕ → Frame → ℕ → ℕ
+bitsAt s channel f n = numberOf (f .little) (take (widthIn (channelIn channel (f .channels))) (drop (placeOf channel n f) s))
+
+-- The same in a file; 0 where it is refused.
+unfoldable pub bitsIn : List ℕ → ℕ → ℕ → ℕ → Verdict → ℕ
+bitsIn s frame channel n (refused r) = 0
+bitsIn s frame channel n (accepted fs) = bitsAt s channel (getD fs frame zeroFrame) n
+
+unfoldable pub bitsOf : List ℕ → ℕ → ℕ → ℕ → ℕ
+bitsOf s frame channel n = bitsIn s frame channel n (verdict s)
+
+-- The bits of k samples from number n on, where g gives the bits of each by its number.
+unfoldable pub bitsFrom : (ℕ → ℕ) → ℕ → ℕ → List ℕ
+bitsFrom g n zero = []
+bitsFrom g n (suc k) = g n ∷ bitsFrom g (suc n) k
+
+-- How many samples from number `first` on are read: as many as there is room for, or as there are. The file's refusal; then 20, 21, 22.
+unfoldable pub readIn : ℕ → ℕ → ℕ → ℕ → Verdict → Read
+readIn room frame channel first (refused r) = Read.Refused r
+readIn room frame channel first (accepted fs) =
+    let f = getD fs frame zeroFrame in
+    pick (ltb frame (length fs))
+    (pick (ltb channel (length (f .channels)))
+    (pick (ltb first (samplesOf channel f)) (Samples (min room (samplesOf channel f - first)))
+    (Read.Refused (refusal noSample 0)))
+    (Read.Refused (refusal noChannel 0)))
+    (Read.Refused (refusal noFrame 0))
+
+unfoldable pub readOf : List ℕ → ℕ → ℕ → ℕ → ℕ → Read
+readOf s frame channel first room = readIn room frame channel first (verdict s)
+
+-- What is written: the bits of these samples, and nothing at a refusal.
+unfoldable pub writtenAs : List ℕ → ℕ → ℕ → ℕ → Read → List ℕ
+writtenAs s frame channel first (Samples k) = bitsFrom (bitsOf s frame channel) first k
+writtenAs s frame channel first (Read.Refused r) = []
+
+-- The buffer afterwards: what is written at its front, and then what it held.
+unfoldable pub bufferAfter : List ℕ → ℕ → ℕ → ℕ → List ℕ → List ℕ
+bufferAfter s frame channel first out =
+    let bits = writtenAs s frame channel first (readOf s frame channel first (length out)) in
+    bits ++ drop (length bits) out

@@ -1,0 +1,338 @@
+// Samples of one channel: where one lies, and the bits of many in one pass over the file.
+//
+// For programs that draw or convert a channel: `place` finds the channel and the place of one sample, `samples` writes the bits of
+// consecutive samples into a buffer that the caller lends.
+// Promises, for any octets at all: the whole answer is a definition of specs/, refusals too, and so is the buffer afterwards.
+// Read first: specs/Samples.antt, then `samples` and upwards. A change to a loop wants its speed measured again: each width has a loop
+// of its own, with straight-line reads, because the compiler makes one wide load of them only so.
+ghost use mathlib.Core.Path.{_≡_};
+ghost use Prim.Native.Nat.{_+_, _*_, _^_, _≤_, _<_, min};
+ghost use lib.ListN.{length};
+ghost use lib.Seq.{sets};
+ghost use Rattle.reader.specs.Answer.{placeSeen};
+ghost use Rattle.bulk.specs.Place.{placedOf};
+ghost use Rattle.bulk.specs.Samples.{bitsFrom, readOf, bufferAfter};
+ghost use Rattle.bulk.specs.Walked.{bitsHere, spaced, blocked, Wide, Within, InBlocks};
+use items::Refusal;
+use reader::LookedUp;
+use reader::View;
+
+// The place of a sample, with what the pass keeps of its channel, or why there is none.
+pub enum Placed {
+    At(usize, View),
+    Refused(Refusal),
+}
+
+// The place of a sample of the channel that is seen.
+fn place_seen(v: View, number: u64) -> usize
+    requires { ⌜ (0 < v .settings .block) × (placeSeen v number < 2 ^ 63) ⌝ }
+    ensures { λ r. ⌜ r ≡ placeSeen v number ⌝ }
+{
+    let c = v.settings;
+    let w = values::width(c.kind) as u64;
+    let b = c.block as u64;
+    let offset = number / b * v.octets + v.below + number % b * w;
+    (v.place as u64 + offset) as usize
+}
+
+// The place of a sample: the file's refusal; then 20, 21, 22.
+pub fn place(s: &[u8], frame: u32, channel: u32, number: u64) -> Placed
+    ensures { λ r. ⌜ r ≡ placedOf (now (s .entry)) frame channel number ⌝ }
+{
+    match reader::look_up(s, frame, channel) {
+        LookedUp::Refused(x) => Placed::Refused(x),
+        LookedUp::Channel(v) => {
+            let c = v.settings;
+            let count = v.sequences as u64 * c.block as u64;
+            if count <= number {
+                return Placed::Refused(Refusal {
+                    number: Refusal::NO_SAMPLE,
+                    place: 0,
+                });
+            }
+            Placed::At(place_seen(v, number), v)
+        }
+    }
+}
+
+// The number of octets, highest first.
+fn one_octet(a: u8) -> u64
+    ensures { λ r. ⌜ r ≡ a ⌝ }
+{
+    a as u64
+}
+
+fn two_octets(a: u8, b: u8) -> u64
+    ensures { λ r. ⌜ r ≡ a * 256 + b ⌝ }
+{
+    a as u64 * 256 + b as u64
+}
+
+fn four_octets(a: u8, b: u8, c: u8, d: u8) -> u64
+    ensures { λ r. ⌜ r ≡ ((a * 256 + b) * 256 + c) * 256 + d ⌝ }
+{
+    ((a as u64 * 256 + b as u64) * 256 + c as u64) * 256 + d as u64
+}
+
+fn eight_octets(a: u8, b: u8, c: u8, d: u8, e: u8, f: u8, g: u8, h: u8) -> u64
+    ensures { λ r. ⌜ r ≡ ((((((a * 256 + b) * 256 + c) * 256 + d) * 256 + e) * 256 + f) * 256 + g) * 256 + h ⌝ }
+{
+    four_octets(a, b, c, d) * 0x1_0000_0000 + four_octets(e, f, g, h)
+}
+
+// The bits of the sample at a place.
+fn one(s: &[u8], at: usize, little: bool) -> u64
+    requires { ⌜ at + 1 ≤ length (now s) ⌝ }
+    ensures { λ r. ⌜ r ≡ bitsHere «little» 1 (now (s .entry)) at ⌝ }
+{
+    one_octet(s[at])
+}
+
+fn two(s: &[u8], at: usize, little: bool) -> u64
+    requires { ⌜ at + 2 ≤ length (now s) ⌝ }
+    ensures { λ r. ⌜ r ≡ bitsHere «little» 2 (now (s .entry)) at ⌝ }
+{
+    let a = s[at];
+    let b = s[at + 1];
+    if little {
+        return two_octets(b, a);
+    }
+    two_octets(a, b)
+}
+
+fn four(s: &[u8], at: usize, little: bool) -> u64
+    requires { ⌜ at + 4 ≤ length (now s) ⌝ }
+    ensures { λ r. ⌜ r ≡ bitsHere «little» 4 (now (s .entry)) at ⌝ }
+{
+    let a = s[at];
+    let b = s[at + 1];
+    let c = s[at + 2];
+    let d = s[at + 3];
+    if little {
+        return four_octets(d, c, b, a);
+    }
+    four_octets(a, b, c, d)
+}
+
+fn eight(s: &[u8], at: usize, little: bool) -> u64
+    requires { ⌜ at + 8 ≤ length (now s) ⌝ }
+    ensures { λ r. ⌜ r ≡ bitsHere «little» 8 (now (s .entry)) at ⌝ }
+{
+    let a = s[at];
+    let b = s[at + 1];
+    let c = s[at + 2];
+    let d = s[at + 3];
+    let e = s[at + 4];
+    let f = s[at + 5];
+    let g = s[at + 6];
+    let h = s[at + 7];
+    if little {
+        return eight_octets(h, g, f, e, d, c, b, a);
+    }
+    eight_octets(a, b, c, d, e, f, g, h)
+}
+
+// The bits of n samples, each `step` octets after the one before it, from `at` on in the buffer.
+fn run1(s: &[u8], from: usize, step: usize, n: usize, little: bool, out: &mut [u64], at: usize)
+    requires { ⌜ Within (length (now s)) from step n 1 ⌝ }
+    requires { ⌜ at + n ≤ length (now out) ⌝ }
+    ensures { λ _. ⌜ now (out .exit) ≡ sets (now (out .entry)) at (spaced «little» 1 (now (s .entry)) step from n) ⌝ }
+{
+    let mut q = from;
+    let mut p = at;
+    let mut left = n;
+    while 0 < left {
+        out[p] = one(s, q, little);
+        p += 1;
+        q += step;
+        left -= 1;
+    }
+}
+
+fn run2(s: &[u8], from: usize, step: usize, n: usize, little: bool, out: &mut [u64], at: usize)
+    requires { ⌜ Within (length (now s)) from step n 2 ⌝ }
+    requires { ⌜ at + n ≤ length (now out) ⌝ }
+    ensures { λ _. ⌜ now (out .exit) ≡ sets (now (out .entry)) at (spaced «little» 2 (now (s .entry)) step from n) ⌝ }
+{
+    let mut q = from;
+    let mut p = at;
+    let mut left = n;
+    while 0 < left {
+        out[p] = two(s, q, little);
+        p += 1;
+        q += step;
+        left -= 1;
+    }
+}
+
+fn run4(s: &[u8], from: usize, step: usize, n: usize, little: bool, out: &mut [u64], at: usize)
+    requires { ⌜ Within (length (now s)) from step n 4 ⌝ }
+    requires { ⌜ at + n ≤ length (now out) ⌝ }
+    ensures { λ _. ⌜ now (out .exit) ≡ sets (now (out .entry)) at (spaced «little» 4 (now (s .entry)) step from n) ⌝ }
+{
+    let mut q = from;
+    let mut p = at;
+    let mut left = n;
+    while 0 < left {
+        out[p] = four(s, q, little);
+        p += 1;
+        q += step;
+        left -= 1;
+    }
+}
+
+fn run8(s: &[u8], from: usize, step: usize, n: usize, little: bool, out: &mut [u64], at: usize)
+    requires { ⌜ Within (length (now s)) from step n 8 ⌝ }
+    requires { ⌜ at + n ≤ length (now out) ⌝ }
+    ensures { λ _. ⌜ now (out .exit) ≡ sets (now (out .entry)) at (spaced «little» 8 (now (s .entry)) step from n) ⌝ }
+{
+    let mut q = from;
+    let mut p = at;
+    let mut left = n;
+    while 0 < left {
+        out[p] = eight(s, q, little);
+        p += 1;
+        q += step;
+        left -= 1;
+    }
+}
+
+// The same for samples of any width.
+fn run(
+    s: &[u8],
+    from: usize,
+    step: usize,
+    n: usize,
+    w: usize,
+    little: bool,
+    out: &mut [u64],
+    at: usize,
+)
+    requires { ⌜ Wide w ⌝ }
+    requires { ⌜ Within (length (now s)) from step n w ⌝ }
+    requires { ⌜ at + n ≤ length (now out) ⌝ }
+    ensures { λ _. ⌜ now (out .exit) ≡ sets (now (out .entry)) at (spaced «little» w (now (s .entry)) step from n) ⌝ }
+{
+    if w == 1 {
+        run1(s, from, step, n, little, out, at);
+        return;
+    }
+    if w == 2 {
+        run2(s, from, step, n, little, out, at);
+        return;
+    }
+    if w == 4 {
+        run4(s, from, step, n, little, out, at);
+        return;
+    }
+    run8(s, from, step, n, little, out, at);
+}
+
+// The smaller of two.
+fn smaller(a: usize, b: usize) -> usize
+    ensures { λ r. ⌜ r ≡ min a b ⌝ }
+{
+    if a < b { a } else { b }
+}
+
+// The bits of n samples of blocks of b samples that lie g octets apart, from sample `first` of the block at `from` on.
+fn blocks(
+    s: &[u8],
+    from: usize,
+    first: usize,
+    b: usize,
+    g: usize,
+    w: usize,
+    little: bool,
+    out: &mut [u64],
+    n: usize,
+)
+    requires { ⌜ Wide w ⌝ }
+    requires { ⌜ InBlocks (length (now s)) from first b g w n ⌝ }
+    requires { ⌜ n ≤ length (now out) ⌝ }
+    ensures { λ _. ⌜ now (out .exit) ≡ sets (now (out .entry)) 0 (bitsFrom (blocked «little» w (now (s .entry)) from b g) first n) ⌝ }
+{
+    let mut start = from;
+    let mut r = first;
+    let mut p = 0usize;
+    while p < n {
+        let m = smaller(b - r, n - p);
+        run(s, start + r * w, w, m, w, little, out, p);
+        p += m;
+        start += g;
+        r = 0;
+    }
+}
+
+// The same, in one run where the samples are evenly spaced.
+fn fill(
+    s: &[u8],
+    start: usize,
+    r: usize,
+    b: usize,
+    g: usize,
+    w: usize,
+    little: bool,
+    out: &mut [u64],
+    n: usize,
+)
+    requires { ⌜ Wide w ⌝ }
+    requires { ⌜ InBlocks (length (now s)) start r b g w n ⌝ }
+    requires { ⌜ n ≤ length (now out) ⌝ }
+    ensures { λ _. ⌜ now (out .exit) ≡ sets (now (out .entry)) 0 (bitsFrom (blocked «little» w (now (s .entry)) start b g) r n) ⌝ }
+{
+    if b * w == g {
+        run(s, start + r * w, w, n, w, little, out, 0);
+        return;
+    }
+    if b == 1 {
+        run(s, start + r * w, g, n, w, little, out, 0);
+        return;
+    }
+    blocks(s, start, r, b, g, w, little, out, n);
+}
+
+// How many of the samples that are left there is room for.
+fn fitting(room: usize, left: u64) -> usize
+    ensures { λ r. ⌜ r ≡ min room left ⌝ }
+{
+    if left < room as u64 {
+        return left as usize;
+    }
+    room
+}
+
+// The answer to reading many samples: how many were written, or why none.
+pub enum Read {
+    Samples(usize),
+    Refused(Refusal),
+}
+
+// The bits of a channel's samples from number `first` on, at the front of the buffer: as many as fit or there are.
+pub fn samples(s: &[u8], frame: u32, channel: u32, first: u64, out: &mut [u64]) -> Read
+    ensures { λ r. ⌜ r ≡ readOf (now (s .entry)) frame channel first (length (now (out .entry))) ⌝ }
+    ensures { λ _. ⌜ now (out .exit) ≡ bufferAfter (now (s .entry)) frame channel first (now (out .entry)) ⌝ }
+{
+    match place(s, frame, channel, first) {
+        Placed::Refused(x) => Read::Refused(x),
+        Placed::At(at, v) => {
+            let c = v.settings;
+            let b = c.block as u64;
+            let w = values::width(c.kind);
+            let r = (first % b) as usize;
+            let n = fitting(out.len(), v.sequences as u64 * b - first);
+            fill(
+                s,
+                at - r * w,
+                r,
+                b as usize,
+                v.octets as usize,
+                w,
+                v.little,
+                out,
+                n,
+            );
+            Read::Samples(n)
+        }
+    }
+}

@@ -1,0 +1,42 @@
+-- By the answer of the question.
+use Rattle.mfer.proofs.Says.{attributes-found, attributes-refuse}
+use borrow.Author.Needs.{needs}
+use Rattle.mfer.proofs.mfer_attributes.Statement.{statement}
+use Rattle.mfer.proofs.mfer_attributes.Tie as tie
+
+describe-requires : tie.Need-describe-requires
+describe-requires c κs = search needs
+
+enum-known-a : tie.Need-enum-known-a
+enum-known-a c = search needs
+
+numbers-of-requires : tie.Need-numbers-of-requires
+numbers-of-requires c κs = search needs
+
+bits-of-requires : tie.Need-bits-of-requires
+bits-of-requires c κs = search needs
+
+enum-known-x : tie.Need-enum-known-x
+enum-known-x c = search needs
+
+cast-result : tie.Need-cast-result
+cast-result c = search needs
+
+returns : tie.Need-returns
+returns c = attributes-found _ _ _ (c .before .before .before .before .before .describe .ensures) (c .before .before .before .a .given .1) (c .before .numbers-of .ensures) (c .bits-of .ensures)
+
+returns-2 : tie.Need-returns-2
+returns-2 c = attributes-refuse _ _ _ (c .before .before .before .before .before .before .describe .ensures) (c .before .before .before .before .x .given .1)
+
+pub mfer-attributes-spec : {M : Type 1} → statement M
+mfer-attributes-spec =
+    tie.close
+    (tie.spec
+    describe-requires
+    enum-known-a
+    numbers-of-requires
+    bits-of-requires
+    enum-known-x
+    cast-result
+    returns
+    returns-2)

@@ -1,0 +1,195 @@
+// The library for C: plain numbers and buffers in, a refusal's number out.
+//
+// Every function answers for any octets at all. Its result is the number of the refusal, 0 where there is none; every output is set in
+// every case, and at a refusal all are 0 but `place`, which is the refusal's. A slice passes as a pointer and a length.
+// Read first: specs/Answers.antt; each function is thin over the crate that has its meaning.
+ghost use mathlib.Core.Path.{_≡_};
+ghost use Rattle.values.specs.Sample.{kindOf};
+ghost use Rattle.mfer.specs.Answers.{checkAnswer, checkSays, numbersOf, bitPairOf, attributesAnswer, attributesSay, wholeOf, sampleAnswer, sampleSays, samplesAnswer, samplesSay};
+ghost use Rattle.bulk.specs.Samples.{bufferAfter};
+ghost use lib.ListN.{length};
+use bulk::Placed;
+use bulk::Read;
+use reader::Attributes;
+use reader::Checked;
+use reader::Described;
+use values::Value;
+
+// Checks a file: how many frames it has.
+#[no_mangle]
+pub extern "C" fn mfer_check(file: &[u8], frames: &mut u64, place: &mut u64) -> u32
+    ensures { λ r. ⌜ checkAnswer r (now (frames .exit)) (now (place .exit)) ≡ checkSays (now (file .entry)) ⌝ }
+{
+    match reader::check(file) {
+        Checked::Frames(n) => {
+            *frames = n as u64;
+            *place = 0;
+            0
+        }
+        Checked::Refused(x) => {
+            *frames = 0;
+            *place = x.place as u64;
+            x.number as u32
+        }
+    }
+}
+
+// The attributes that are numbers.
+fn numbers_of(a: Attributes) -> [i64; 15]
+    ensures { λ r. ⌜ r ≡ numbersOf a ⌝ }
+{
+    let interval = a.interval;
+    let resolution = a.resolution;
+    let offset = a.offset;
+    let null = a.null;
+    [
+        a.start,
+        a.channels as i64,
+        a.sequences as i64,
+        a.block as i64,
+        a.class as i64,
+        a.lead as i64,
+        a.kind as i64,
+        interval.unit as i64,
+        interval.exponent as i64,
+        interval.mantissa as i64,
+        resolution.unit as i64,
+        resolution.exponent as i64,
+        resolution.mantissa as i64,
+        offset.width as i64,
+        null.width as i64,
+    ]
+}
+
+// The bits of the offset and of null.
+fn bits_of(a: Attributes) -> [u64; 2]
+    ensures { λ r. ⌜ r ≡ bitPairOf a ⌝ }
+{
+    let offset = a.offset;
+    let null = a.null;
+    [offset.bits, null.bits]
+}
+
+// The attributes of a channel in a frame. `numbers` are start pointer, channels, sequences, block length, class, lead code, data type,
+// the interval's unit, exponent and mantissa, the resolution's, sample width and null width (0: no null); `bits` are the offset's and
+// null's.
+#[no_mangle]
+pub extern "C" fn mfer_attributes(
+    file: &[u8],
+    frame: u32,
+    channel: u32,
+    numbers: &mut [i64; 15],
+    bits: &mut [u64; 2],
+    place: &mut u64,
+) -> u32
+    ensures { λ r. ⌜ attributesAnswer r (now (numbers .exit)) (now (bits .exit)) (now (place .exit)) ≡ attributesSay (now (file .entry)) frame channel ⌝ }
+{
+    match reader::describe(file, frame, channel) {
+        Described::Attributes(a) => {
+            *numbers = numbers_of(a);
+            *bits = bits_of(a);
+            *place = 0;
+            0
+        }
+        Described::Refused(x) => {
+            *numbers = [0; 15];
+            *bits = [0; 2];
+            *place = x.place as u64;
+            x.number as u32
+        }
+    }
+}
+
+// The number of a value's kind.
+fn kind_of(v: Value) -> u32
+    ensures { λ r. ⌜ r ≡ kindOf v ⌝ }
+{
+    match v {
+        Value::Whole(_) => 0,
+        Value::Status(_) => 1,
+        Value::Single(_) => 2,
+        Value::Double(_) => 3,
+        Value::NotNumber(_) => 4,
+        Value::Null => 5,
+    }
+}
+
+// The number of a whole value, and 0 of every other kind.
+fn whole_of(v: Value) -> i64
+    ensures { λ r. ⌜ r ≡ wholeOf v ⌝ }
+{
+    match v {
+        Value::Whole(z) => z,
+        Value::Status(_) => 0,
+        Value::Single(_) => 0,
+        Value::Double(_) => 0,
+        Value::NotNumber(_) => 0,
+        Value::Null => 0,
+    }
+}
+
+// A sample: its place in the file, its kind (0 whole, 1 status, 2 single, 3 double, 4 not a number, 5 null), its number where it is
+// whole, and its bits as the file has them.
+#[no_mangle]
+pub extern "C" fn mfer_sample(
+    file: &[u8],
+    frame: u32,
+    channel: u32,
+    number: u64,
+    place: &mut u64,
+    kind: &mut u32,
+    whole: &mut i64,
+    bits: &mut u64,
+) -> u32
+    ensures { λ r. ⌜ sampleAnswer r (now (place .exit)) (now (kind .exit)) (now (whole .exit)) (now (bits .exit)) ≡ sampleSays (now (file .entry)) frame channel number ⌝ }
+{
+    match bulk::place(file, frame, channel, number) {
+        Placed::At(at, v) => {
+            let c = v.settings;
+            let null = c.null;
+            let x = octets::part(file, at, values::width(c.kind));
+            let value = values::sample_value(x, v.little, c.kind, null);
+            *place = at as u64;
+            *kind = kind_of(value);
+            *whole = whole_of(value);
+            *bits = octets::number(x, v.little);
+            0
+        }
+        Placed::Refused(x) => {
+            *place = x.place as u64;
+            *kind = 0;
+            *whole = 0;
+            *bits = 0;
+            x.number as u32
+        }
+    }
+}
+
+// The bits of a channel's samples from number `first` on, as the file has them, at the front of `out`: as many as fit or there are, and
+// how many. The rest of `out`, and at a refusal all of it, keeps what it held.
+#[no_mangle]
+pub extern "C" fn mfer_samples(
+    file: &[u8],
+    frame: u32,
+    channel: u32,
+    first: u64,
+    out: &mut [u64],
+    count: &mut u64,
+    place: &mut u64,
+) -> u32
+    ensures { λ r. ⌜ samplesAnswer r (now (count .exit)) (now (place .exit)) ≡ samplesSay (now (file .entry)) frame channel first (length (now (out .entry))) ⌝ }
+    ensures { λ _. ⌜ now (out .exit) ≡ bufferAfter (now (file .entry)) frame channel first (now (out .entry)) ⌝ }
+{
+    match bulk::samples(file, frame, channel, first, out) {
+        Read::Samples(n) => {
+            *count = n as u64;
+            *place = 0;
+            0
+        }
+        Read::Refused(x) => {
+            *count = 0;
+            *place = x.place as u64;
+            x.number as u32
+        }
+    }
+}
