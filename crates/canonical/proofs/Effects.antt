@@ -32,7 +32,7 @@ use Rattle.settings.specs.Define.{lengthFits, bitsLength, bitsOf, scaleOf, scal
 use Rattle.settings.proofs.Laws.{define-back, define-changed}
 use Rattle.layout.specs.Frame.{widthIn}
 use Rattle.reader.specs.declared.Standing.{Standing}
-use Rattle.reader.specs.declared.Effect.the-variants.{Stand, Reset}
+use Rattle.reader.specs.declared.Effect.the-variants.{Order, Count, Sequences, Start}
 use Rattle.reader.specs.Standing.{rootEffect, orderEffect, countEffect, sequencesEffect, startEffect}
 use Rattle.canonical.specs.Canonical.{item, numberItem, scaleItem, nullItem, groupItems, unsignedOf}
 use Rattle.canonical.proofs.Good.{GoodScale, GoodSettled}
@@ -193,25 +193,25 @@ standing counted sequences start continued =
     record { little = false; counted = counted; sequences = sequences; start = start; continued = continued; root = defaultSettings }
 
 module _ (counted sequences : ℕ) (start continued : ℤ) (at : ℕ) where
-  pub order-is : rootEffect (standing counted sequences start continued) 0x01 at (0 ∷ []) ≡ Stand (standing counted sequences start continued)
+  pub order-is : rootEffect (standing counted sequences start continued) 0x01 at (0 ∷ []) ≡ Order false
   unfolding rootEffect orderEffect
   order-is = refl
 
-  pub count-is : (n : ℕ) → 0 < n → n ≤ channelLimit → rootEffect (standing counted sequences start continued) 0x05 at (be 4 n) ≡ Reset (standing n sequences start continued)
+  pub count-is : (n : ℕ) → 0 < n → n ≤ channelLimit → rootEffect (standing counted sequences start continued) 0x05 at (be 4 n) ≡ Count n
   unfolding rootEffect countEffect
   count-is n h l =
       let z : n ≡ 0 → ⊥ = λ e. omega arith in
       let b : n < 256 ^ 4 = omega arith in
       rw (length-be, number-taken 4 4 n (lit≤ tt) b, ne-eqb n 0 z, le-ltb channelLimit n l)
 
-  pub sequences-is : (n : ℕ) → n < 4294967296 → rootEffect (standing counted sequences start continued) 0x06 at (pick (eqb n 0) [] (be 4 n)) ≡ Stand (standing counted n start continued)
+  pub sequences-is : (n : ℕ) → n < 4294967296 → rootEffect (standing counted sequences start continued) 0x06 at (pick (eqb n 0) [] (be 4 n)) ≡ Sequences n
   unfolding rootEffect sequencesEffect
   sequences-is n h = by (ℕ-discrete n 0)
     where
-      by : Dec (n ≡ 0) → rootEffect (standing counted sequences start continued) 0x06 at (pick (eqb n 0) [] (be 4 n)) ≡ Stand (standing counted n start continued)
+      by : Dec (n ≡ 0) → rootEffect (standing counted sequences start continued) 0x06 at (pick (eqb n 0) [] (be 4 n)) ≡ Sequences n
       by (yes z) = rw z
       by (no z) = simp (ne-eqb n 0 z) (rw (length-be, number-taken 4 4 n (lit≤ tt) h, ne-eqb n 0 z))
 
-  pub start-is : (z : ℤ) → mag z < 2147483648 → rootEffect (standing counted sequences start continued) 0x07 at (be 4 (unsignedOf 4 z)) ≡ Stand (standing counted sequences z continued)
+  pub start-is : (z : ℤ) → mag z < 2147483648 → rootEffect (standing counted sequences start continued) 0x07 at (be 4 (unsignedOf 4 z)) ≡ Start z
   unfolding rootEffect startEffect
   start-is z h = rw (length-be, taken 4 4 (unsignedOf 4 z) (lit≤ tt), signed-back 4 z (omega arith))

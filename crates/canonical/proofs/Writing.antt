@@ -4,6 +4,7 @@
 --     Writing         the loop's invariant
 --     writing-first, -goes, -frame    before the first item, after an item, after a frame
 --     written-end, never-fault, never-refuses    the end; an accepted file has no other
+--     Going, going-..    the same over the records that are laid down
 -- Assumes nothing.
 use mathlib.Core.Path.{_≡_, refl, sym, ap, subst, _∙_}
 use mathlib.Core.List.{List, [], _∷_, _++_, map, append-assoc, append-nil, map-append}
@@ -12,7 +13,7 @@ use Prim.Native.Nat.{ℕ, zero, suc, _+_, _*_, _^_, _≤_, _<_}
 use native.Mathlib.Nat.{add-zero, zero-add, add-assoc}
 use native.Mathlib.Omega.{arith}
 use borrow.Author.Tests.{le-leb, lt-leb}
-use lib.ListN.{length, getD, take, drop, length-append, length-replicate, length-map}
+use lib.ListN.{length, getD, take, drop, replicate, length-append, length-replicate, length-map}
 use lib.Seq.{getD-append-seam, length-take-le}
 use lib.Signed.{mag}
 use Rattle.octets.proofs.Pick.{both-false}
@@ -49,7 +50,8 @@ use Rattle.reader.specs.declared.Checked.{Checked}
 use Rattle.reader.specs.declared.Scan.{Scan}
 use Rattle.reader.proofs.Keeps.{meaning, Kept, Keeps, frames-kept, accepted-by, interpret-goes, interpret-refuses, interpret-finished, interpret-fault, firstCursor}
 use Rattle.reader.proofs.Framings.{pointer-small}
-use Rattle.reader.proofs.Scans.{channels-few, framed-found}
+use Rattle.settings.proofs.Shown.{shown, shown-none}
+use Rattle.reader.proofs.Scans.{channels-few, framed-found, shownBy, Records, Filling, shown-full, frame-shown}
 use Rattle.reader.proofs.Ordered.{Lies, accepted-lies, accepted-small}
 use Rattle.canonical.specs.Recording.{Recorded, settled, recordedFrame, recording}
 use Rattle.canonical.specs.Canonical.{item, numberItem, unsignedOf, groupsOctets, sequencesItem, waveformOf, frameOctets, framesOctets, canonical}
@@ -74,8 +76,10 @@ with-grown s x start len (Framed.Refused n) = tt
 carried-grown : (s : List ℕ) (x : State) (e : Effect) → Grown (x .frames) (carried s x e)
 unfolding carried
 carried-grown s x Effect.Pass = ([], sym (append-nil (x .frames)))
-carried-grown s x (Effect.Stand st) = ([], sym (append-nil (x .frames)))
-carried-grown s x (Effect.Reset st) = ([], sym (append-nil (x .frames)))
+carried-grown s x (Effect.Order little) = ([], sym (append-nil (x .frames)))
+carried-grown s x (Effect.Count n) = ([], sym (append-nil (x .frames)))
+carried-grown s x (Effect.Sequences n) = ([], sym (append-nil (x .frames)))
+carried-grown s x (Effect.Start z) = ([], sym (append-nil (x .frames)))
 carried-grown s x (Effect.All c) = ([], sym (append-nil (x .frames)))
 carried-grown s x (Effect.One channel c) = ([], sym (append-nil (x .frames)))
 carried-grown s x (Effect.Frame start len) = with-grown s x start len _
@@ -309,6 +313,55 @@ module _ {s d : List ℕ} {table : List Settings} {c : Cursor} {st : Standing} {
           same = same-after;
           put = put-as (so-far-more (p .met) there) (put-then (p .put) (put-as k q));
         }
+
+-- ---- the pass over the records
+
+-- The same where the records laid down and the root settings tell what all channels hold.
+pub record Going (s d : List ℕ) (table : List Settings) (own : ℕ) (c : Cursor) (st : Standing) (frames at : ℕ) (e : List ℕ) : Type 0 where
+  pub records : Records own table
+  pub pass : Writing s d (shownBy st own table) c st frames at e
+
+pub going-first : {s d e : List ℕ} (table : List Settings) (c : Cursor) (st : Standing) {at : ℕ} → Ready s d → table ≡ defaultTable → c ≡ cursor 0 Root → st ≡ firstStanding → Put d 0 (0x01 ∷ 0x01 ∷ 0x00 ∷ []) at e → Going s e table 0 c st 0 at e
+going-first table c st r et ec es p =
+    record {
+      records = record { low = omega arith; full = ap length et ∙ length-replicate channelLimit defaultSettings };
+      pass = writing-first (shownBy st 0 table) c st r (shown-none channelLimit (st .root) table ∙ ap (λ (x : Standing). replicate channelLimit (x .root)) es) ec es p;
+    }
+
+module _ {s d : List ℕ} {table : List Settings} {own : ℕ} {c : Cursor} {st : Standing} {frames at : ℕ} {e : List ℕ} (p : Going s d table own c st frames at e) where
+  -- Some records more are laid down.
+  pub going-filled : {own' : ℕ} {table' : List Settings} → Filling (st .root) own table own' table' → Going s d table' own' c st frames at e
+  going-filled f = record { records = f .records; pass = subst (λ (t : List Settings). Writing s d t c st frames at e) (sym (f .same)) (p .pass) }
+
+  -- An item that gives no frame.
+  pub going-goes : {n : Next} {i : Item} {d' : Cursor} {own' : ℕ} {table' : List Settings} {st' : Standing} → n ≡ nextOf s c → n ≡ Found i d' → Records own' table' → st' .counted ≤ channelLimit → carried s (state st (shownBy st own table) (p .pass .met)) (effectOf s st i) ≡ goes (state st' (shownBy st' own' table') (p .pass .met)) → Going s d table' own' d' st' frames at e
+  going-goes {st' = st'} a b k h g = record { records = k; pass = writing-goes (p .pass) a b h (shown-full k st') g }
+
+  module _ (count : ℕ) (l : Layout) (ec : count ≡ channelsOf (st .counted)) (el : l ≡ layoutOf 0 (take count table)) (few : count ≤ own) where
+    same-taken : take count table ≡ take count (shownBy st own table)
+    same-taken = frame-shown (p .records) st count few
+
+    laid : l ≡ layoutOf 0 (take count (shownBy st own table))
+    laid = el ∙ ap (layoutOf 0) same-taken
+
+    pub going-carried : (i : Item) (start len : ℕ) {x : Effect} {r f : Framed} → x ≡ effectOf s st i → x ≡ Effect.Frame start len → r ≡ framedAs frames st (l .agree) (l .octets) len → r ≡ f → carried s (state st (shownBy st own table) (p .pass .met)) (effectOf s st i) ≡ withFrame s (state st (shownBy st own table) (p .pass .met)) start len f
+    going-carried = framed-carried (p .pass) count l ec laid
+
+    module _ {n : Next} {i : Item} {d' : Cursor} {start len sequences : ℕ} {x : Standing} {f : Effect} {r : Framed}
+        (en : n ≡ nextOf s c) (fn : n ≡ Found i d')
+        (ee : f ≡ effectOf s st i) (fe : f ≡ Effect.Frame start len)
+        (er : r ≡ framedAs frames st (l .agree) (l .octets) len) (fr : r ≡ Taken sequences x) where
+      pub going-ready : (0 < count) × (count ≤ 256) × (sequences * l .octets ≡ sequences * sequenceOctets (take count table)) × (mag (st .start) < 2147483648)
+      going-ready = rw same-taken (frame-ready (p .pass) count l ec laid en fn ee fe er fr)
+
+      pub going-room : (w : List ℕ) → w ≡ valueAt s start len → (sequences * l .octets ≤ length w) × (sequences * l .octets < 4294967296) × (at + frameSize sequences (groupsSize 0 (take count table)) (sequences * l .octets) ≤ length e)
+      going-room w ew = rw same-taken (frame-room (p .pass) count l ec laid en fn ee fe er fr w ew)
+
+      pub going-frame : {w : List ℕ} {at' : ℕ} {e' : List ℕ} → ((k : ℕ) → getD s k 0 < 256) → w ≡ valueAt s start len → Put e at (frameParts (st .start) sequences (take count table) count (samplesTurned (st .little) (take count table) sequences w)) at' e' → Going s d table own d' x (frames + 1) at' e'
+      going-frame {w} {at'} {e'} o ew q =
+          let z = framed-found frames st (l .agree) (l .octets) len er fr in
+          let g = writing-frame (p .pass) count l ec laid en fn ee fe er fr o ew (rw same-taken at q) in
+          record { records = p .records; pass = subst (λ (r : Settings). Writing s d (shown channelLimit r own table) d' x (frames + 1) at' e') (sym (z .4)) g }
 
 -- ---- what the writer answers
 

@@ -292,6 +292,7 @@ fn write_frames(s: &[u8], out: &mut [u8]) -> usize
     let a = runs::put_two(out, 0, 0x01, 0x01);
     let mut at = runs::put_octet(out, a, 0x00);
     let mut table = Settings::table();
+    let mut own = 0usize;
     let mut c = Cursor::first();
     let mut st = Standing::first();
     let mut frames = 0u32;
@@ -305,21 +306,35 @@ fn write_frames(s: &[u8], out: &mut [u8]) -> usize
             }
             Next::Found(item, next) => {
                 c = next;
-                match reader::item_effect(s, st, item) {
+                let effect = reader::item_effect(s, st, item);
+                let root = st.root;
+                let n = reader::reach(effect, st.counted);
+                while own < n {
+                    table[own] = root;
+                    own += 1;
+                }
+                match effect {
                     Effect::Pass => {}
-                    Effect::Stand(x) => {
-                        st = x;
+                    Effect::Order(little) => {
+                        st = st.with_order(little);
                     }
-                    Effect::Reset(x) => {
-                        let root = x.root;
-                        table = [root; 256];
-                        st = x;
+                    Effect::Count(counted) => {
+                        own = 0;
+                        st = st.with_count(counted);
+                    }
+                    Effect::Sequences(sequences) => {
+                        st = st.with_sequences(sequences);
+                    }
+                    Effect::Start(start) => {
+                        st = st.with_start(start);
                     }
                     Effect::All(change) => {
-                        let root = st.root;
+                        let mut i = 0usize;
+                        while i < own {
+                            table[i] = settings::apply(table[i], change);
+                            i += 1;
+                        }
                         st = st.with_root(settings::apply(root, change));
-                        let changed = settings::apply_all(table, change);
-                        table = changed;
                     }
                     Effect::One(channel, change) => {
                         let k = channel as usize;

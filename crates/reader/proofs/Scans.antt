@@ -1,5 +1,4 @@
 -- Laws of the one pass over a file.
---     effect-counts    a channel count that stands is at most 256
 --     framed-with      what is known of a frame that is taken
 --     Scanning         the loop's invariant: what is left of the file gives the verdict
 --     scanning-first, -goes, -frame    before the first item, after an item, after a frame
@@ -19,7 +18,6 @@ use lib.IntN.{ℤ}
 use lib.ListN.{length, getD, take, drop, set, replicate, length-append, length-take, length-set, length-map, length-replicate, List·getD-append, List·getD-eq-default}
 use lib.Seq.{length-take-le, getD-append-seam, getD-take, set-out}
 use Rattle.octets.specs.Pick.{pick, both}
-use Rattle.octets.specs.Number.{numberOf}
 use Rattle.octets.proofs.Pick.{pick-cases}
 use Rattle.items.specs.declared.Item.{Item}
 use Rattle.items.specs.declared.Cursor.{Cursor}
@@ -32,10 +30,9 @@ use Rattle.items.specs.Walk.{Items, item, finished, fault, nextOf, itemsFrom, i
 use Rattle.items.proofs.Walks.{items-found, items-end, items-refused}
 use Rattle.settings.specs.declared.Settings.{Settings}
 use Rattle.settings.specs.declared.Change.{Change}
-use Rattle.settings.specs.declared.Tagged.{Tagged}
-use Rattle.settings.specs.declared.Defined.{Defined}
 use Rattle.settings.specs.Settings.{channelLimit, defaultSettings, defaultTable, zeroSettings, applied, allApplied}
-use Rattle.settings.specs.Define.{tagged, defined}
+use Rattle.settings.proofs.Mapped.{mapped, mapped-long}
+use Rattle.settings.proofs.Shown.{shown, shown-none, shown-long, shown-fill, shown-map, shown-set, shown-get, shown-take}
 use Rattle.layout.specs.declared.Layout.{Layout}
 use Rattle.layout.specs.Frame.{Frame, sequenceOctets, octetsBelow, allAgree, channelIn}
 use Rattle.layout.specs.Size.{frameSize, groupsSize}
@@ -51,112 +48,18 @@ use Rattle.reader.specs.declared.Found.{Found}
 use Rattle.reader.specs.declared.Found.the-variants.{Nothing}
 use Rattle.reader.specs.declared.Checked.{Checked}
 use Rattle.reader.specs.declared.Scan.{Scan}
-use Rattle.reader.specs.Standing.{firstStanding, withRoot, withContinued, orderEffect, countEffect, sequencesEffect, startEffect, compressedEffect, allEffect, oneEffect, rootEffect, plainEffect, memberEffect, groupEffect, valueAt, effectOf}
+use Rattle.reader.specs.Standing.{firstStanding, withOrder, withCount, withSequences, withStart, withRoot, withContinued, valueAt, effectOf}
+use Rattle.reader.specs.Reach.{reachOf}
 use Rattle.reader.specs.Framing.{octetsLimit, framesLimit, channelsOf, sequencesOf, pointerFits, pointerAfter, framedAs}
 use Rattle.reader.specs.Verdict.{State, state, firstState, Outcome, goes, refuses, oneChanged, frameChannels, frameAt, withFrame, carried, placeAt, Verdict, accepted, refused, afterItem, interpret, verdict}
 use Rattle.reader.proofs.Keeps.{interpret-goes, interpret-refuses}
 use Rattle.reader.specs.Answer.{zeroFrame, viewOf, foundIn, sizeOf, sizes, refusedScan, scannedIn, scanOf}
 
--- ---- the channel count
-
-abbrev Counts : Effect → Type 0
-Counts Effect.Pass = Unit {0}
-Counts (Effect.Stand x) = x .counted ≤ channelLimit
-Counts (Effect.Reset x) = x .counted ≤ channelLimit
-Counts (Effect.All c) = Unit {0}
-Counts (Effect.One channel c) = Unit {0}
-Counts (Effect.Frame start len) = Unit {0}
-Counts (Effect.Refused number) = Unit {0}
-
-module _ (st : Standing) (h : st .counted ≤ channelLimit) where
-  order-counts : (v : List ℕ) → Counts (orderEffect st v)
-  unfolding orderEffect
-  order-counts v =
-      pick-cases Counts (ltb 1 (length v)) (λ _. tt)
-      (λ _. pick-cases Counts (eqb (length v) 0) (λ _. h)
-      (λ _. pick-cases Counts (ltb 1 (getD v 0 0)) (λ _. tt) (λ _. h)))
-
-  abbrev fourOf : List ℕ → ℕ
-  fourOf v = numberOf (st .little) (take 4 v)
-
-  count-counts : (v : List ℕ) → Counts (countEffect st v)
-  unfolding countEffect
-  count-counts v =
-      pick-cases Counts (ltb 4 (length v)) (λ _. tt)
-      (λ _. pick-cases Counts (eqb (length v) 0) (λ _. omega arith)
-      (λ _. pick-cases Counts (eqb (fourOf v) 0) (λ _. tt)
-      (λ _. pick-cases Counts (ltb channelLimit (fourOf v)) (λ _. tt) (λ e. ltb-false channelLimit (fourOf v) e))))
-
-  sequences-counts : (v : List ℕ) → Counts (sequencesEffect st v)
-  unfolding sequencesEffect
-  sequences-counts v =
-      pick-cases Counts (ltb 4 (length v)) (λ _. tt)
-      (λ _. pick-cases Counts (eqb (length v) 0) (λ _. h)
-      (λ _. pick-cases Counts (eqb (fourOf v) 0) (λ _. tt) (λ _. h)))
-
-  start-counts : (v : List ℕ) → Counts (startEffect st v)
-  unfolding startEffect
-  start-counts v =
-      pick-cases Counts (ltb 4 (length v)) (λ _. tt)
-      (λ _. pick-cases Counts (eqb (length v) 0) (λ _. h) (λ _. h))
-
-  compressed-counts : (v : List ℕ) → Counts (compressedEffect v)
-  unfolding compressedEffect
-  compressed-counts v = pick-cases Counts (eqb (length v) 0) (λ _. tt) (λ _. tt)
-
-  root-counts : (tag start : ℕ) (v : List ℕ) → Counts (rootEffect st tag start v)
-  unfolding rootEffect
-  root-counts tag start v =
-      pick-cases Counts (eqb tag 1) (λ _. order-counts v)
-      (λ _. pick-cases Counts (eqb tag 5) (λ _. count-counts v)
-      (λ _. pick-cases Counts (eqb tag 6) (λ _. sequences-counts v)
-      (λ _. pick-cases Counts (eqb tag 7) (λ _. start-counts v)
-      (λ _. pick-cases Counts (eqb tag 14) (λ _. compressed-counts v)
-      (λ _. pick-cases Counts (eqb tag 30) (λ _. tt) (λ _. tt))))))
-
-  all-counts : (d : Defined) → Counts (allEffect d)
-  unfolding allEffect
-  all-counts (Defined.Changed c) = tt
-  all-counts (Defined.Refused number) = tt
-
-  one-counts : (channel : ℕ) (d : Defined) → Counts (oneEffect channel d)
-  unfolding oneEffect
-  one-counts channel (Defined.Changed c) = tt
-  one-counts channel (Defined.Refused number) = tt
-
-  plain-counts : (tag start : ℕ) (v : List ℕ) (t : Tagged) → Counts (plainEffect st tag start v t)
-  unfolding plainEffect
-  plain-counts tag start v (Tagged.Defines a) = all-counts _
-  plain-counts tag start v Tagged.Other = root-counts tag start v
-
-  member-counts : (channel : ℕ) (v : List ℕ) (t : Tagged) → Counts (memberEffect st channel v t)
-  unfolding memberEffect
-  member-counts channel v (Tagged.Defines a) = one-counts channel _
-  member-counts channel v Tagged.Other = tt
-
-  group-counts : (channel : ℕ) → Counts (groupEffect st channel)
-  unfolding groupEffect
-  group-counts channel =
-      pick-cases Counts (eqb (st .counted) 0) (λ _. tt)
-      (λ _. pick-cases Counts (ltb channel (st .counted)) (λ _. tt) (λ _. tt))
-
-  effect-counts : (s : List ℕ) (i : Item) → Counts (effectOf s st i)
-  unfolding effectOf
-  effect-counts s (Item.Plain place tag start len) = plain-counts tag start _ (tagged tag)
-  effect-counts s (Item.Group place channel) = group-counts channel
-  effect-counts s (Item.Member place channel tag start len) =
-      pick-cases Counts (eqb (st .counted) 0) (λ _. tt) (λ _. member-counts channel _ (tagged tag))
-  effect-counts s (Item.Mark place) = tt
-
--- The same of what a call answers.
-pub effect-found : (s : List ℕ) (st : Standing) (i : Item) {r e : Effect} → st .counted ≤ channelLimit → r ≡ effectOf s st i → r ≡ e → Counts e
-effect-found s st i h p q = subst Counts (sym p ∙ q) (effect-counts st h s i)
-
 -- ---- a frame that is taken
 
 abbrev TakenWith : Standing → ℕ → ℕ → ℕ → Framed → Type 0
 TakenWith st frames octets long (Framed.Taken n x) =
-    (n * octets ≤ long) × (long ≤ octetsLimit) × (frames < framesLimit) × (x .counted ≡ st .counted)
+    (n * octets ≤ long) × (long ≤ octetsLimit) × (frames < framesLimit) × (x .counted ≡ st .counted) × (x .root ≡ st .root)
 TakenWith st frames octets long (Framed.Refused k) = Unit {0}
 
 framed-with : (frames : ℕ) (st : Standing) (agree : Bool) (octets long : ℕ) → TakenWith st frames octets long (framedAs frames st agree octets long)
@@ -168,7 +71,7 @@ framed-with frames st agree octets long =
     (λ b. pick-cases (TakenWith st frames octets long) (not agree) (λ _. tt)
     (λ _. pick-cases (TakenWith st frames octets long) (not (pointerFits (st .start))) (λ _. tt)
     (λ _. pick-cases (TakenWith st frames octets long) (ltb long _) (λ _. tt)
-    (λ d. (ltb-false long _ d, ltb-false octetsLimit long a, leb-false framesLimit frames b, refl)))))))
+    (λ d. (ltb-false long _ d, ltb-false octetsLimit long a, leb-false framesLimit frames b, refl, refl)))))))
 
 pub framed-found : (frames : ℕ) (st : Standing) (agree : Bool) (octets long : ℕ) {r f : Framed} → r ≡ framedAs frames st agree octets long → r ≡ f → TakenWith st frames octets long f
 framed-found frames st agree octets long p q = subst (TakenWith st frames octets long) (sym p ∙ q) (framed-with frames st agree octets long)
@@ -348,31 +251,190 @@ pub scanned-large : (s : List ℕ) (q : Asked) → octetsLimit < length s → re
 unfolding scanOf scannedIn verdict
 scanned-large s q h = simp (lt-ltb octetsLimit (length s) h)
 
+-- ---- the records
+
+-- What the records laid down and the root settings say of all channels.
+abbrev pub shownBy : Standing → ℕ → List Settings → List Settings
+shownBy st own table = shown channelLimit (st .root) own table
+
+-- There are 256 records, and the first `own` ones are laid down.
+pub record Records (own : ℕ) (table : List Settings) : Type 0 where
+  pub low : own ≤ channelLimit
+  pub full : length table ≡ channelLimit
+
+-- Records are laid down one by one, and what is said stays the same.
+pub record Filling (x : Settings) (own₀ : ℕ) (table₀ : List Settings) (own : ℕ) (table : List Settings) : Type 0 where
+  pub records : Records own table
+  pub same : shown channelLimit x own table ≡ shown channelLimit x own₀ table₀
+
+pub filling-none : {x : Settings} {own : ℕ} {table : List Settings} → Records own table → Filling x own table own table
+filling-none k = record { records = k; same = refl }
+
+pub filling-more : {x : Settings} {own₀ : ℕ} {table₀ : List Settings} {own : ℕ} {table : List Settings} → Filling x own₀ table₀ own table → own < channelLimit → Filling x own₀ table₀ (own + 1) (set table own x)
+filling-more {x = x} {own = own} {table = table} f h =
+    record {
+      records = record { low = omega arith; full = length-set table own x ∙ f .records .full };
+      same = shown-fill channelLimit x own table (f .records .full) h ∙ f .same;
+    }
+
+-- A record stored, and all that are laid down changed.
+pub records-set : {own : ℕ} {table : List Settings} → Records own table → (k : ℕ) (v : Settings) → Records own (set table k v)
+records-set {table = table} e k v = record { low = e .low; full = length-set table k v ∙ e .full }
+
+module _ {own : ℕ} {table : List Settings} (e : Records own table) (c : Change) (i : ℕ) {table' : List Settings} (m : table' ≡ mapped (applied c) i table) where
+  pub records-mapped : Records own table'
+  records-mapped = record { low = e .low; full = ap length m ∙ mapped-long (applied c) i table ∙ e .full }
+
+  pub mapped-own : i ≤ own → own ≤ i → table' ≡ mapped (applied c) own table
+  mapped-own h l = let q : i ≡ own = omega arith in m ∙ ap (λ (k : ℕ). mapped (applied c) k table) q
+
+-- An effect looks only at records that are there, and its channel or its frame's channels are among them.
+pub reach-few : (counted : ℕ) (e : Effect) → reachOf counted e ≤ channelLimit
+unfolding reachOf
+reach-few counted Effect.Pass = omega arith
+reach-few counted (Effect.Order little) = omega arith
+reach-few counted (Effect.Count n) = omega arith
+reach-few counted (Effect.Sequences n) = omega arith
+reach-few counted (Effect.Start z) = omega arith
+reach-few counted (Effect.All c) = omega arith
+reach-few counted (Effect.One channel c) = omega arith
+reach-few counted (Effect.Frame start len) = omega arith
+reach-few counted (Effect.Refused n) = omega arith
+
+pub reached-one : (counted : ℕ) {n own channel : ℕ} {c : Change} {e : Effect} → n ≡ reachOf counted e → e ≡ Effect.One channel c → n ≤ own → channel < channelLimit → channel < own
+unfolding reachOf
+reached-one counted en ee h l = let r = en ∙ ap (reachOf counted) ee in omega arith
+
+pub reached-frame : (counted : ℕ) {n own count start len : ℕ} {e : Effect} → n ≡ reachOf counted e → e ≡ Effect.Frame start len → n ≤ own → counted ≤ channelLimit → count ≡ channelsOf counted → count ≤ own
+unfolding reachOf
+reached-frame counted en ee h l ec = let r = en ∙ ap (reachOf counted) ee in omega (arith, channels-few counted l)
+
 -- ---- effects carried out
 
 module _ (s : List ℕ) (x : State) (i : Item) {e : Effect} (a : e ≡ effectOf s (x .standing) i) where
   pub carried-by : {f : Effect} → e ≡ f → carried s x (effectOf s (x .standing) i) ≡ carried s x f
   carried-by b = ap (carried s x) (sym a ∙ b)
 
--- The record of one channel, stored where there is one.
-pub one-stored : (table : List Settings) (k : ℕ) (f : Settings → Settings) (v : Settings) → v ≡ f (getD table k zeroSettings) → set table k v ≡ oneChanged k f table
-unfolding oneChanged
-one-stored table k f v e = rw e
+module _ {own : ℕ} {table : List Settings} (k : Records own table) where
+  pub shown-full : (st : Standing) → length (shownBy st own table) ≡ channelLimit
+  shown-full st = rw (← k .full) (shown-long (st .root) own table (rw (k .full) (k .low)))
 
-pub one-outside : (table : List Settings) (k : ℕ) (f : Settings → Settings) → length table ≤ k → table ≡ oneChanged k f table
-unfolding oneChanged
-one-outside table k f h = sym (set-out table k (f (getD table k zeroSettings)) h)
+  own-low : own ≤ length table
+  own-low = rw (k .full) (k .low)
 
-pub one-long : (table : List Settings) (k : ℕ) (f : Settings → Settings) → length (oneChanged k f table) ≡ length table
-unfolding oneChanged
-one-long table k f = length-set table k (f (getD table k zeroSettings))
+  module _ (s : List ℕ) (st : Standing) (fs : List Frame) (i : Item) {e : Effect} (a : e ≡ effectOf s st i) where
+    abbrev spoken : State
+    spoken = state st (shownBy st own table) fs
 
-pub goes-same : {st st' : Standing} {table table' : List Settings} {fs : List Frame} → st' ≡ st → table' ≡ table → goes (state st table fs) ≡ goes (state st' table' fs)
-goes-same {fs = fs} a b = λ k. goes (state (sym a k) (sym b k) fs)
+    -- What an item does, where what stands after it and the records then are known.
+    abbrev Does : Standing → ℕ → List Settings → Type 0
+    Does st' own' table' = carried s spoken (effectOf s st i) ≡ goes (state st' (shownBy st' own' table') fs)
 
-pub all-long : (c : Change) (table u : List Settings) → u ≡ allApplied c table → length u ≡ length table
-unfolding allApplied
-all-long c table u e = ap length e ∙ simp length-map
+    does-as : {st' st'' : Standing} (own' : ℕ) (table' : List Settings) → st'' ≡ st' → Does st' own' table' → Does st'' own' table'
+    does-as own' table' q d = d ∙ (λ j. goes (state (sym q j) (shownBy (sym q j) own' table') fs))
+
+    pub does-nothing : e ≡ Effect.Pass → Does st own table
+    unfolding carried
+    does-nothing b = carried-by s spoken i a b
+
+    pub does-order : {little : Bool} {st' : Standing} → e ≡ Effect.Order little → st' ≡ withOrder little st → Does st' own table
+    unfolding carried
+    does-order b q = does-as own table q (carried-by s spoken i a b)
+
+    pub does-count : {n : ℕ} {st' : Standing} → e ≡ Effect.Count n → st' ≡ withCount n st → Does st' 0 table
+    unfolding carried
+    does-count {n = n} b q = does-as 0 table q (carried-by s spoken i a b ∙ ap (λ (t : List Settings). goes (state (withCount n st) t fs)) (sym (shown-none channelLimit (st .root) table)))
+
+    pub does-sequences : {n : ℕ} {st' : Standing} → e ≡ Effect.Sequences n → st' ≡ withSequences n st → Does st' own table
+    unfolding carried
+    does-sequences b q = does-as own table q (carried-by s spoken i a b)
+
+    pub does-start : {z : ℤ} {st' : Standing} → e ≡ Effect.Start z → st' ≡ withStart z st → Does st' own table
+    unfolding carried
+    does-start b q = does-as own table q (carried-by s spoken i a b)
+
+    pub does-all : {c : Change} {root : Settings} {st' : Standing} {table' : List Settings} → e ≡ Effect.All c → root ≡ applied c (st .root) → st' ≡ withRoot root st → table' ≡ mapped (applied c) own table → Does st' own table'
+    unfolding carried allApplied
+    does-all {c = c} {root = root} {table' = table'} b r q m =
+        does-as own table' q
+        (carried-by s spoken i a b
+        ∙ ap (λ (t : List Settings). goes (state (withRoot (applied c (st .root)) st) t fs)) (sym (shown-map (applied c) channelLimit (st .root) own table (k .full) (k .low)))
+        ∙ (λ j. goes (state (withRoot (sym r j) st) (shown channelLimit (sym r j) own (sym m j)) fs)))
+
+    pub does-one : {channel : ℕ} {c : Change} {v : Settings} → e ≡ Effect.One channel c → channel < own → v ≡ applied c (getD table channel zeroSettings) → Does st own (set table channel v)
+    unfolding carried oneChanged
+    does-one {channel = channel} {c = c} {v = v} b h q =
+        carried-by s spoken i a b
+        ∙ ap (λ (t : List Settings). goes (state st t fs))
+        (ap (λ (x : Settings). set (shownBy st own table) channel (applied c x)) (shown-get channelLimit (st .root) own table channel own-low zeroSettings h)
+        ∙ ap (set (shownBy st own table) channel) (sym q)
+        ∙ shown-set channelLimit (st .root) own table channel own-low v h)
+
+    -- A channel that has no record.
+    pub does-outside : {channel : ℕ} {c : Change} → e ≡ Effect.One channel c → channelLimit ≤ channel → Does st own table
+    unfolding carried oneChanged
+    does-outside {channel = channel} {c = c} b h =
+        carried-by s spoken i a b
+        ∙ ap (λ (t : List Settings). goes (state st t fs))
+        (set-out (shownBy st own table) channel (applied c (getD (shownBy st own table) channel zeroSettings)) (rw (shown-full st) h))
+
+  -- The records of a frame's channels are laid down.
+  pub frame-shown : (st : Standing) (count : ℕ) → count ≤ own → take count table ≡ take count (shownBy st own table)
+  frame-shown st count h = sym (shown-take channelLimit (st .root) own table count own-low h)
+
+  pub seen-shown : (st : Standing) (channel count : ℕ) → count ≤ own → pick (ltb channel count) (getD table (min channel 255) zeroSettings) defaultSettings ≡ pick (ltb channel count) (getD (shownBy st own table) (min channel 255) zeroSettings) defaultSettings
+  seen-shown st channel count h =
+      pick-cases (λ (r : Settings). r ≡ pick (ltb channel count) (getD (shownBy st own table) (min channel 255) zeroSettings) defaultSettings) (ltb channel count)
+      (λ t. let l = ltb-true channel count t in simp t (sym (shown-get channelLimit (st .root) own table (min channel 255) own-low zeroSettings (omega (arith, k .low)))))
+      (λ t. simp t)
+
+-- ---- the pass over the records
+
+-- What is known where the pass stands before the item at a cursor.
+pub record Passing (s : List ℕ) (q : Asked) (table : List Settings) (own : ℕ) (c : Cursor) (st : Standing) (frames : ℕ) (found : Found) (size : ℕ) : Type 0 where
+  pub records : Records own table
+  pub pass : Scanning s q (shownBy st own table) c st frames found size
+
+pub passing-first : (s : List ℕ) (q : Asked) (table : List Settings) (c : Cursor) (st : Standing) → length s ≤ octetsLimit → table ≡ defaultTable → c ≡ cursor 0 Root → st ≡ firstStanding → Passing s q table 0 c st 0 Nothing 0
+passing-first s q table c st h et ec es =
+    record {
+      records = record { low = omega arith; full = ap length et ∙ length-replicate channelLimit defaultSettings };
+      pass = scanning-first s q (shownBy st 0 table) c st h (shown-none channelLimit (st .root) table ∙ ap (λ (x : Standing). replicate channelLimit (x .root)) es) ec es;
+    }
+
+module _ {s : List ℕ} {q : Asked} {table : List Settings} {own : ℕ} {c : Cursor} {st : Standing} {frames : ℕ} {found : Found} {size : ℕ} (p : Passing s q table own c st frames found size) where
+  -- Some records more are laid down.
+  pub passing-filled : {own' : ℕ} {table' : List Settings} → Filling (st .root) own table own' table' → Passing s q table' own' c st frames found size
+  passing-filled f = record { records = f .records; pass = subst (λ (t : List Settings). Scanning s q t c st frames found size) (sym (f .same)) (p .pass) }
+
+  -- An item that gives no frame.
+  pub passing-goes : {n : Next} {i : Item} {d : Cursor} {own' : ℕ} {table' : List Settings} {st' : Standing} → n ≡ nextOf s c → n ≡ FoundItem i d → Records own' table' → st' .counted ≤ channelLimit → carried s (state st (shownBy st own table) (p .pass .met)) (effectOf s st i) ≡ goes (state st' (shownBy st' own' table') (p .pass .met)) → Passing s q table' own' d st' frames found size
+  passing-goes {st' = st'} e f k h g = record { records = k; pass = scanning-goes (p .pass) e f h (shown-full k st') g }
+
+  module _ (count : ℕ) (l : Layout) (ec : count ≡ channelsOf (st .counted)) (el : l ≡ layoutOf (q .channel) (take count table)) (few : count ≤ own) where
+    laid : l ≡ layoutOf (q .channel) (take count (shownBy st own table))
+    laid = el ∙ ap (layoutOf (q .channel)) (frame-shown (p .records) st count few)
+
+    pub passing-carried : (i : Item) (start len : ℕ) {e : Effect} {r f : Framed} → e ≡ effectOf s st i → e ≡ Effect.Frame start len → r ≡ framedAs frames st (l .agree) (l .octets) len → r ≡ f → carried s (state st (shownBy st own table) (p .pass .met)) (effectOf s st i) ≡ withFrame s (state st (shownBy st own table) (p .pass .met)) start len f
+    passing-carried = frame-carried (p .pass) count l ec laid
+
+    pub passing-groups : l .groups ≤ 16384
+    passing-groups = groups-small (p .pass) count l ec laid
+
+    -- A frame.
+    pub passing-frame : {n : Next} {i : Item} {d : Cursor} {start len sequences add : ℕ} {x : Standing} {view : View} {seen : Settings} {found' : Found} {e : Effect} {r : Framed}
+        → n ≡ nextOf s c → n ≡ FoundItem i d
+        → e ≡ effectOf s st i → e ≡ Effect.Frame start len
+        → r ≡ framedAs frames st (l .agree) (l .octets) len → r ≡ Taken sequences x
+        → seen ≡ pick (ltb (q .channel) count) (getD table (min (q .channel) 255) zeroSettings) defaultSettings
+        → view ≡ record { start = st .start; channels = count; sequences = sequences; little = st .little; place = start; octets = l .octets; below = l .below; settings = seen }
+        → found' ≡ pick (eqb frames (q .frame)) (Found.Frame view) found
+        → (add ≡ frameSize sequences (l .groups) (sequences * l .octets)) × (add < 4294967296)
+        → Passing s q table own d x (frames + 1) found' (size + add)
+    passing-frame {d = d} {len = len} {add = add} {x = x} {found' = found'} en fn ee fe er fr es ev ef ea =
+        let w = framed-found frames st (l .agree) (l .octets) len er fr in
+        let g = scanning-frame (p .pass) count l ec laid en fn ee fe er fr (es ∙ seen-shown (p .records) st (q .channel) count few) ev ef ea in
+        record { records = p .records; pass = subst (λ (r : Settings). Scanning s q (shown channelLimit r own table) d x (frames + 1) found' (size + add)) (sym (w .4)) g }
 
 -- What is kept of a frame, its start pointer read back from its bits.
 pub view-read : (v : View) {z : ℤ} → z ≡ v .start → record { start = z; channels = v .channels; sequences = v .sequences; little = v .little; place = v .place; octets = v .octets; below = v .below; settings = v .settings } ≡ v

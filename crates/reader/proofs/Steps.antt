@@ -1,16 +1,17 @@
 -- What an item may do to what stands between two items, as one list of cases.
 --     defined-gives    a definition goes back to what stands, or has a value in its range
---     effect-asks      what an item may ask for
+--     effect-asks, count-found    what an item may ask for, and that a count is at most 256
 --     framed-gives     what a waveform that is taken tells
 --     meaning-steps, meaning-refused    what an item that is not refused does, and the number of one that is
 -- Assumes nothing.
-use mathlib.Core.Path.{_≡_, refl, subst}
+use mathlib.Core.Path.{_≡_, refl, subst, sym, _∙_}
 use mathlib.Core.List.{List, [], _∷_, _++_}
 use mathlib.Core.Bool.{Bool, true, not}
 use Prim.Native.Nat.{ℕ, _*_, _≤_, _<_}
 use native.Mathlib.Omega.{arith}
 use borrow.Author.Tests.{ltb-true, ltb-false, leb-false, eqb-true, eqb-false, not-false}
 use lib.Dec.{ltb, leb, eqb}
+use lib.IntN.{ℤ}
 use lib.ListN.{length, getD, take, replicate, length-take, length-drop}
 use Rattle.octets.specs.Number.{numberOf}
 use Rattle.octets.proofs.Pick.{pick-cases}
@@ -28,7 +29,7 @@ use Rattle.layout.specs.Frame.{sequenceOctets, allAgree}
 use Rattle.reader.specs.declared.Standing.{Standing}
 use Rattle.reader.specs.declared.Effect.{Effect}
 use Rattle.reader.specs.declared.Framed.{Framed}
-use Rattle.reader.specs.Standing.{withRoot, withContinued, orderEffect, countEffect, sequencesEffect, startEffect, compressedEffect, allEffect, oneEffect, rootEffect, plainEffect, memberEffect, groupEffect, valueAt, effectOf}
+use Rattle.reader.specs.Standing.{withOrder, withCount, withSequences, withStart, withRoot, withContinued, orderEffect, countEffect, sequencesEffect, startEffect, compressedEffect, allEffect, oneEffect, rootEffect, plainEffect, memberEffect, groupEffect, valueAt, effectOf}
 use Rattle.reader.specs.Framing.{octetsLimit, framesLimit, sequencesOf, pointerFits, pointerAfter, framedAs}
 use Rattle.reader.specs.Verdict.{State, state, Outcome, goes, refuses, oneChanged, frameChannels, frameAt, withFrame, carried}
 use Rattle.reader.proofs.Keeps.{meaning}
@@ -70,8 +71,10 @@ pub record Waveform (s : List ℕ) (i : Item) (start long : ℕ) : Type 0 where
 -- What an item may ask for.
 abbrev Asks : List ℕ → Standing → Item → Effect → Type 0
 Asks s st i Effect.Pass = Unit {0}
-Asks s st i (Effect.Stand y) = (y .counted ≡ st .counted) × (y .root ≡ st .root)
-Asks s st i (Effect.Reset y) = (y .counted ≤ channelLimit) × (y .root ≡ st .root)
+Asks s st i (Effect.Order little) = Unit {0}
+Asks s st i (Effect.Count n) = n ≤ channelLimit
+Asks s st i (Effect.Sequences n) = Unit {0}
+Asks s st i (Effect.Start z) = Unit {0}
 Asks s st i (Effect.All c) = Definition s defaultSettings c
 Asks s st i (Effect.One channel c) = Definition s (st .root) c
 Asks s st i (Effect.Frame start long) = Waveform s i start long
@@ -88,34 +91,34 @@ module _ (s : List ℕ) (st : Standing) where
   one-asks i channel (Defined.Changed c) g = g
   one-asks i channel (Defined.Refused n) g = g
 
-  order-asks : (i : Item) (v : List ℕ) → Asks s st i (orderEffect st v)
+  order-asks : (i : Item) (v : List ℕ) → Asks s st i (orderEffect v)
   unfolding orderEffect
   order-asks i v =
       pick-cases (Asks s st i) (ltb 1 (length v)) (λ _. omega arith)
-      (λ _. pick-cases (Asks s st i) (eqb (length v) 0) (λ _. (refl, refl))
-      (λ _. pick-cases (Asks s st i) (ltb 1 (getD v 0 0)) (λ _. omega arith) (λ _. (refl, refl))))
+      (λ _. pick-cases (Asks s st i) (eqb (length v) 0) (λ _. tt)
+      (λ _. pick-cases (Asks s st i) (ltb 1 (getD v 0 0)) (λ _. omega arith) (λ _. tt)))
 
-  count-asks : (i : Item) (v : List ℕ) → Asks s st i (countEffect st v)
+  count-asks : (i : Item) (little : Bool) (v : List ℕ) → Asks s st i (countEffect little v)
   unfolding countEffect
-  count-asks i v =
-      let n = numberOf (st .little) (take 4 v) in
+  count-asks i little v =
+      let n = numberOf little (take 4 v) in
       pick-cases (Asks s st i) (ltb 4 (length v)) (λ _. omega arith)
-      (λ _. pick-cases (Asks s st i) (eqb (length v) 0) (λ _. (omega arith, refl))
+      (λ _. pick-cases (Asks s st i) (eqb (length v) 0) (λ _. omega arith)
       (λ _. pick-cases (Asks s st i) (eqb n 0) (λ _. omega arith)
-      (λ _. pick-cases (Asks s st i) (ltb channelLimit n) (λ _. omega arith) (λ h. (ltb-false channelLimit n h, refl)))))
+      (λ _. pick-cases (Asks s st i) (ltb channelLimit n) (λ _. omega arith) (λ h. ltb-false channelLimit n h))))
 
-  sequences-asks : (i : Item) (v : List ℕ) → Asks s st i (sequencesEffect st v)
+  sequences-asks : (i : Item) (little : Bool) (v : List ℕ) → Asks s st i (sequencesEffect little v)
   unfolding sequencesEffect
-  sequences-asks i v =
+  sequences-asks i little v =
       pick-cases (Asks s st i) (ltb 4 (length v)) (λ _. omega arith)
-      (λ _. pick-cases (Asks s st i) (eqb (length v) 0) (λ _. (refl, refl))
-      (λ _. pick-cases (Asks s st i) (eqb (numberOf (st .little) (take 4 v)) 0) (λ _. omega arith) (λ _. (refl, refl))))
+      (λ _. pick-cases (Asks s st i) (eqb (length v) 0) (λ _. tt)
+      (λ _. pick-cases (Asks s st i) (eqb (numberOf little (take 4 v)) 0) (λ _. omega arith) (λ _. tt)))
 
-  start-asks : (i : Item) (v : List ℕ) → Asks s st i (startEffect st v)
+  start-asks : (i : Item) (little : Bool) (continued : ℤ) (v : List ℕ) → Asks s st i (startEffect little continued v)
   unfolding startEffect
-  start-asks i v =
+  start-asks i little continued v =
       pick-cases (Asks s st i) (ltb 4 (length v)) (λ _. omega arith)
-      (λ _. pick-cases (Asks s st i) (eqb (length v) 0) (λ _. (refl, refl)) (λ _. (refl, refl)))
+      (λ _. pick-cases (Asks s st i) (eqb (length v) 0) (λ _. tt) (λ _. tt))
 
   compressed-asks : (i : Item) (v : List ℕ) → Asks s st i (compressedEffect v)
   unfolding compressedEffect
@@ -133,9 +136,9 @@ module _ (s : List ℕ) (st : Standing) where
       let i = Plain place tag start len in
       let v = valueAt s start len in
       pick-cases (Asks s st i) (eqb tag 0x01) (λ _. order-asks i v)
-      (λ _. pick-cases (Asks s st i) (eqb tag 0x05) (λ _. count-asks i v)
-      (λ _. pick-cases (Asks s st i) (eqb tag 0x06) (λ _. sequences-asks i v)
-      (λ _. pick-cases (Asks s st i) (eqb tag 0x07) (λ _. start-asks i v)
+      (λ _. pick-cases (Asks s st i) (eqb tag 0x05) (λ _. count-asks i (st .little) v)
+      (λ _. pick-cases (Asks s st i) (eqb tag 0x06) (λ _. sequences-asks i (st .little) v)
+      (λ _. pick-cases (Asks s st i) (eqb tag 0x07) (λ _. start-asks i (st .little) (st .continued) v)
       (λ _. pick-cases (Asks s st i) (eqb tag 0x0E) (λ _. compressed-asks i v)
       (λ _. pick-cases (Asks s st i) (eqb tag 0x1E)
       (λ _. record { place = place; tag = tag; len = len; item = refl; counts = refl }) (λ _. tt))))))
@@ -159,6 +162,10 @@ module _ (s : List ℕ) (st : Standing) where
       let i = Item.Member place channel tag start len in
       pick-cases (Asks s st i) (eqb (st .counted) 0) (λ _. tt) (λ _. member-asks i channel start len (tagged tag))
   effect-asks (Item.Mark place) = tt
+
+-- A channel count that an item asks for is at most 256.
+pub count-found : (s : List ℕ) (st : Standing) (i : Item) {r : Effect} {n : ℕ} → r ≡ effectOf s st i → r ≡ Effect.Count n → n ≤ channelLimit
+count-found s st i p q = subst (Asks s st i) (sym p ∙ q) (effect-asks s st i)
 
 -- ---- frames
 
@@ -232,8 +239,10 @@ frame-steps s x i start long (Framed.Refused k) w f = λ z l. f z (let e = w .co
 carried-steps : (s : List ℕ) (x : State) (i : Item) (e : Effect) → Asks s (x .standing) i e → Steps s x i (carried s x e)
 unfolding carried
 carried-steps s x i Effect.Pass a = passes
-carried-steps s x i (Effect.Stand y) a = stands y (a .0) (a .1)
-carried-steps s x i (Effect.Reset y) a = resets y (a .0) (a .1)
+carried-steps s x i (Effect.Order little) a = stands (withOrder little (x .standing)) refl refl
+carried-steps s x i (Effect.Count n) a = resets (withCount n (x .standing)) a refl
+carried-steps s x i (Effect.Sequences n) a = stands (withSequences n (x .standing)) refl refl
+carried-steps s x i (Effect.Start z) a = stands (withStart z (x .standing)) refl refl
 carried-steps s x i (Effect.All c) a = changes c a
 carried-steps s x i (Effect.One channel c) a = sets channel c a
 carried-steps s x i (Effect.Frame start long) a =

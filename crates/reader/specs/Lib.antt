@@ -1,4 +1,5 @@
 pub mod Standing
 pub mod Framing
+pub mod Reach
 pub mod Verdict
 pub mod Answer

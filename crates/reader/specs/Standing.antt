@@ -16,7 +16,7 @@ use Rattle.settings.specs.Settings.{defaultSettings, channelLimit}
 use Rattle.settings.specs.Define.{tagged, defined}
 use Rattle.reader.specs.declared.Standing.{Standing}
 use Rattle.reader.specs.declared.Effect.{Effect}
-use Rattle.reader.specs.declared.Effect.the-variants.{Pass, Stand, Reset, All, One, Refused}
+use Rattle.reader.specs.declared.Effect.the-variants.{Pass, Order, Count, Sequences, Start, All, One, Refused}
 
 -- Before the first item: big-endian, no channel count, sequences by waveform length, pointer 0, the defaults.
 abbrev pub firstStanding : Standing
@@ -50,36 +50,35 @@ withContinued z st =
     record { little = st .little; counted = st .counted; sequences = st .sequences; start = z; continued = z; root = st .root }
 
 -- 01, byte order of the values that follow: length 0 or 1; 0 big, 1 little; default big.
-unfoldable pub orderEffect : Standing → List ℕ → Effect
-orderEffect st v =
+unfoldable pub orderEffect : List ℕ → Effect
+orderEffect v =
     pick (ltb 1 (length v)) (Refused unfitLength)
-    (pick (eqb (length v) 0) (Stand (withOrder false st))
-    (pick (ltb 1 (getD v 0 0)) (Refused unfitValue) (Stand (withOrder (eqb (getD v 0 0) 1) st))))
+    (pick (eqb (length v) 0) (Order false)
+    (pick (ltb 1 (getD v 0 0)) (Refused unfitValue) (Order (eqb (getD v 0 0) 1))))
 
--- 05, channels: length 0 to 4; 1 to 256. Also with length 0, after which no count stands, it sends every channel back to the root
--- settings.
-unfoldable pub countEffect : Standing → List ℕ → Effect
-countEffect st v =
-    let n = numberOf (st .little) (take 4 v) in
+-- 05, channels: length 0 to 4; 1 to 256. After length 0 no count stands, kept as 0.
+unfoldable pub countEffect : Bool → List ℕ → Effect
+countEffect little v =
+    let n = numberOf little (take 4 v) in
     pick (ltb 4 (length v)) (Refused unfitLength)
-    (pick (eqb (length v) 0) (Reset (withCount 0 st))
+    (pick (eqb (length v) 0) (Count 0)
     (pick (eqb n 0) (Refused unfitValue)
-    (pick (ltb channelLimit n) (Refused unfitValue) (Reset (withCount n st)))))
+    (pick (ltb channelLimit n) (Refused unfitValue) (Count n))))
 
 -- 06, sequences: length 0 to 4; 1 to 4,294,967,295; default by waveform length, kept as 0.
-unfoldable pub sequencesEffect : Standing → List ℕ → Effect
-sequencesEffect st v =
-    let n = numberOf (st .little) (take 4 v) in
+unfoldable pub sequencesEffect : Bool → List ℕ → Effect
+sequencesEffect little v =
+    let n = numberOf little (take 4 v) in
     pick (ltb 4 (length v)) (Refused unfitLength)
-    (pick (eqb (length v) 0) (Stand (withSequences 0 st))
-    (pick (eqb n 0) (Refused unfitValue) (Stand (withSequences n st))))
+    (pick (eqb (length v) 0) (Sequences 0)
+    (pick (eqb n 0) (Refused unfitValue) (Sequences n)))
 
 -- 07, start pointer: length 0 to 4; signed; length 0 goes back to the continued pointer.
-unfoldable pub startEffect : Standing → List ℕ → Effect
-startEffect st v =
+unfoldable pub startEffect : Bool → ℤ → List ℕ → Effect
+startEffect little continued v =
     pick (ltb 4 (length v)) (Refused unfitLength)
-    (pick (eqb (length v) 0) (Stand (withStart (st .continued) st))
-    (Stand (withStart (signedOf (st .little) (take 4 v)) st)))
+    (pick (eqb (length v) 0) (Start continued)
+    (Start (signedOf little (take 4 v))))
 
 -- 0E of length above 0: refusal 9.
 unfoldable pub compressedEffect : List ℕ → Effect
@@ -98,10 +97,10 @@ oneEffect channel (Defined.Refused number) = Refused number
 -- The tags that stand only outside groups; every other one is stepped over.
 unfoldable pub rootEffect : Standing → ℕ → ℕ → List ℕ → Effect
 rootEffect st tag start v =
-    pick (eqb tag 0x01) (orderEffect st v)
-    (pick (eqb tag 0x05) (countEffect st v)
-    (pick (eqb tag 0x06) (sequencesEffect st v)
-    (pick (eqb tag 0x07) (startEffect st v)
+    pick (eqb tag 0x01) (orderEffect v)
+    (pick (eqb tag 0x05) (countEffect (st .little) v)
+    (pick (eqb tag 0x06) (sequencesEffect (st .little) v)
+    (pick (eqb tag 0x07) (startEffect (st .little) (st .continued) v)
     (pick (eqb tag 0x0E) (compressedEffect v)
     (pick (eqb tag 0x1E) (Effect.Frame start (length v))
     Pass)))))

@@ -15,7 +15,7 @@ use Rattle.reader.specs.declared.Effect.{Effect}
 use Rattle.reader.specs.declared.Framed.{Framed}
 use Rattle.reader.specs.declared.Checked.{Checked}
 use Rattle.reader.specs.declared.Checked.the-variants.{Frames}
-use Rattle.reader.specs.Standing.{firstStanding, withRoot, valueAt, effectOf}
+use Rattle.reader.specs.Standing.{firstStanding, withOrder, withCount, withSequences, withStart, withRoot, valueAt, effectOf}
 use Rattle.layout.specs.Frame.{Frame, sequenceOctets, allAgree}
 use Rattle.reader.specs.Framing.{octetsLimit, channelsOf, framedAs}
 
@@ -65,8 +65,11 @@ withFrame s x start len (Framed.Refused number) = refuses number
 -- What an effect does. A root definition ends every channel's own setting; tag 05 sends every channel back to the root settings.
 unfoldable pub carried : List ℕ → State → Effect → Outcome
 carried s x Effect.Pass = goes x
-carried s x (Effect.Stand st) = goes (state st (x .channels) (x .frames))
-carried s x (Effect.Reset st) = goes (state st (replicate channelLimit (st .root)) (x .frames))
+carried s x (Effect.Order little) = goes (state (withOrder little (x .standing)) (x .channels) (x .frames))
+carried s x (Effect.Count counted) =
+    goes (state (withCount counted (x .standing)) (replicate channelLimit (x .standing .root)) (x .frames))
+carried s x (Effect.Sequences sequences) = goes (state (withSequences sequences (x .standing)) (x .channels) (x .frames))
+carried s x (Effect.Start start) = goes (state (withStart start (x .standing)) (x .channels) (x .frames))
 carried s x (Effect.All c) =
     goes (state (withRoot (applied c (x .standing .root)) (x .standing)) (allApplied c (x .channels)) (x .frames))
 carried s x (Effect.One channel c) = goes (state (x .standing) (oneChanged channel (applied c) (x .channels)) (x .frames))

@@ -13,6 +13,7 @@ ghost use lib.Signed.{mag};
 ghost use Rattle.settings.specs.Define.{tagged};
 ghost use Rattle.reader.specs.Standing.{firstStanding, withOrder, withCount, withSequences, withStart, withContinued, withRoot, orderEffect, countEffect, sequencesEffect, startEffect, compressedEffect, allEffect, oneEffect, rootEffect, plainEffect, memberEffect, groupEffect, valueAt, effectOf};
 ghost use Rattle.reader.specs.Framing.{channelsOf, sequencesOf, pointerFits, framedAs};
+ghost use Rattle.reader.specs.Reach.{reachOf};
 ghost use Rattle.octets.specs.Pick.{pick};
 ghost use Rattle.settings.specs.Settings.{defaultSettings};
 ghost use Rattle.layout.specs.Size.{lengthSize, sequencesSize, frameSize};
@@ -63,28 +64,28 @@ impl Standing {
         }
     }
 
-    fn with_order(mut self, little: bool) -> Standing
+    pub fn with_order(mut self, little: bool) -> Standing
         ensures { λ r. ⌜ r ≡ withOrder «little» self ⌝ }
     {
         self.little = little;
         self
     }
 
-    fn with_count(mut self, counted: u32) -> Standing
+    pub fn with_count(mut self, counted: u32) -> Standing
         ensures { λ r. ⌜ r ≡ withCount counted self ⌝ }
     {
         self.counted = counted;
         self
     }
 
-    fn with_sequences(mut self, sequences: u32) -> Standing
+    pub fn with_sequences(mut self, sequences: u32) -> Standing
         ensures { λ r. ⌜ r ≡ withSequences sequences self ⌝ }
     {
         self.sequences = sequences;
         self
     }
 
-    fn with_start(mut self, start: i64) -> Standing
+    pub fn with_start(mut self, start: i64) -> Standing
         ensures { λ r. ⌜ r ≡ withStart start self ⌝ }
     {
         self.start = start;
@@ -112,10 +113,14 @@ impl Standing {
 pub enum Effect {
     // Nothing.
     Pass,
-    // Something outside the channels' records.
-    Stand(Standing),
-    // The same, and every channel back to the root settings.
-    Reset(Standing),
+    // This byte order.
+    Order(bool),
+    // This channel count, 0 for none, and every channel back to the root settings.
+    Count(u32),
+    // This number of sequences, 0 for as many as the waveform holds.
+    Sequences(u32),
+    // This start pointer.
+    Start(i64),
     // A definition for all channels.
     All(Change),
     // A definition for one channel.
@@ -127,71 +132,71 @@ pub enum Effect {
 }
 
 // 01, byte order.
-fn order_effect(st: Standing, v: &[u8]) -> Effect
-    ensures { λ r. ⌜ r ≡ orderEffect st (now (v .entry)) ⌝ }
+fn order_effect(v: &[u8]) -> Effect
+    ensures { λ r. ⌜ r ≡ orderEffect (now (v .entry)) ⌝ }
 {
     if 1 < v.len() {
         return Effect::Refused(Refusal::LENGTH);
     }
     if v.len() == 0 {
-        return Effect::Stand(st.with_order(false));
+        return Effect::Order(false);
     }
     let b = v[0];
     if 1 < b {
         return Effect::Refused(Refusal::VALUE);
     }
-    Effect::Stand(st.with_order(b == 1))
+    Effect::Order(b == 1)
 }
 
 // 05, channels.
-fn count_effect(st: Standing, v: &[u8]) -> Effect
-    ensures { λ r. ⌜ r ≡ countEffect st (now (v .entry)) ⌝ }
+fn count_effect(little: bool, v: &[u8]) -> Effect
+    ensures { λ r. ⌜ r ≡ countEffect «little» (now (v .entry)) ⌝ }
 {
     if 4 < v.len() {
         return Effect::Refused(Refusal::LENGTH);
     }
     if v.len() == 0 {
-        return Effect::Reset(st.with_count(0));
+        return Effect::Count(0);
     }
-    let n = octets::four(v, st.little);
+    let n = octets::four(v, little);
     if n == 0 {
         return Effect::Refused(Refusal::VALUE);
     }
     if 256 < n {
         return Effect::Refused(Refusal::VALUE);
     }
-    Effect::Reset(st.with_count(n))
+    Effect::Count(n)
 }
 
 // 06, sequences.
-fn sequences_effect(st: Standing, v: &[u8]) -> Effect
-    ensures { λ r. ⌜ r ≡ sequencesEffect st (now (v .entry)) ⌝ }
+fn sequences_effect(little: bool, v: &[u8]) -> Effect
+    ensures { λ r. ⌜ r ≡ sequencesEffect «little» (now (v .entry)) ⌝ }
 {
     if 4 < v.len() {
         return Effect::Refused(Refusal::LENGTH);
     }
     if v.len() == 0 {
-        return Effect::Stand(st.with_sequences(0));
+        return Effect::Sequences(0);
     }
-    let n = octets::four(v, st.little);
+    let n = octets::four(v, little);
     if n == 0 {
         return Effect::Refused(Refusal::VALUE);
     }
-    Effect::Stand(st.with_sequences(n))
+    Effect::Sequences(n)
 }
 
 // 07, start pointer.
-fn start_effect(st: Standing, v: &[u8]) -> Effect
-    ensures { λ r. ⌜ r ≡ startEffect st (now (v .entry)) ⌝ }
+fn start_effect(little: bool, continued: i64, v: &[u8]) -> Effect
+    ensures { λ r. ⌜ r ≡ startEffect «little» continued (now (v .entry)) ⌝ }
 {
     if 4 < v.len() {
         return Effect::Refused(Refusal::LENGTH);
     }
     if v.len() == 0 {
-        return Effect::Stand(st.with_start(st.continued));
+        return Effect::Start(continued);
     }
-    let z = octets::signed(v, st.little);
-    Effect::Stand(st.with_start(z as i64))
+    let z = octets::signed(v, little);
+    Effect::Start(z as i64)
 }
 
 // 0E, compression.
@@ -228,10 +233,10 @@ fn root_effect(st: Standing, tag: u8, start: usize, v: &[u8]) -> Effect
     ensures { λ r. ⌜ r ≡ rootEffect st tag start (now (v .entry)) ⌝ }
 {
     match tag {
-        0x01 => order_effect(st, v),
-        0x05 => count_effect(st, v),
-        0x06 => sequences_effect(st, v),
-        0x07 => start_effect(st, v),
+        0x01 => order_effect(v),
+        0x05 => count_effect(st.little, v),
+        0x06 => sequences_effect(st.little, v),
+        0x07 => start_effect(st.little, st.continued, v),
         0x0E => compressed_effect(v),
         0x1E => Effect::Frame {
             start,
@@ -384,6 +389,37 @@ pub fn frame_of(frames: u32, st: Standing, agree: bool, octets: u64, long: usize
     Framed::Taken(sequences as u32, st.with_continued(z))
 }
 
+// The last record for every channel number above it.
+fn index(channel: u32) -> usize
+    ensures { λ r. ⌜ r ≡ min channel 255 ⌝ }
+{
+    if channel < 255 { channel as usize } else { 255 }
+}
+
+// As many records as there are.
+fn at_most(count: u32) -> usize
+    ensures { λ r. ⌜ r ≡ min count 256 ⌝ }
+{
+    if count < 256 { count as usize } else { 256 }
+}
+
+// How many records, from channel 0 on, an effect looks at: up to the channel that it changes, or those of a frame.
+pub fn reach(e: Effect, counted: u32) -> usize
+    ensures { λ r. ⌜ r ≡ reachOf counted e ⌝ }
+{
+    match e {
+        Effect::Pass => 0,
+        Effect::Order(_) => 0,
+        Effect::Count(_) => 0,
+        Effect::Sequences(_) => 0,
+        Effect::Start(_) => 0,
+        Effect::All(_) => 0,
+        Effect::One(channel, _) => index(channel) + 1,
+        Effect::Frame { start: _, len: _ } => at_most(channels_of(counted)),
+        Effect::Refused(_) => 0,
+    }
+}
+
 // The answer of the check: the number of frames, or the refusal.
 pub enum Checked {
     Frames(u32),
@@ -523,13 +559,6 @@ fn seen(there: bool, s: Settings) -> Settings
     if there { s } else { Settings::default() }
 }
 
-// The last record for every channel number above it.
-fn index(channel: u32) -> usize
-    ensures { λ r. ⌜ r ≡ min channel 255 ⌝ }
-{
-    if channel < 255 { channel as usize } else { 255 }
-}
-
 // What is kept of a frame: this one where it is asked for, else what was kept before.
 fn keep(asked: bool, view: View, found: Found) -> Found
     ensures { λ r. ⌜ r ≡ pick asked (Found.Frame view) found ⌝ }
@@ -548,6 +577,7 @@ pub fn scan_file(s: &[u8], asked: Asked) -> Scan
         });
     }
     let mut table = Settings::table();
+    let mut own = 0usize;
     let mut c = Cursor::first();
     let mut st = Standing::first();
     let mut frames = 0u32;
@@ -567,21 +597,35 @@ pub fn scan_file(s: &[u8], asked: Asked) -> Scan
             }
             Next::Found(item, next) => {
                 c = next;
-                match item_effect(s, st, item) {
+                let effect = item_effect(s, st, item);
+                let root = st.root;
+                let n = reach(effect, st.counted);
+                while own < n {
+                    table[own] = root;
+                    own += 1;
+                }
+                match effect {
                     Effect::Pass => {}
-                    Effect::Stand(x) => {
-                        st = x;
+                    Effect::Order(little) => {
+                        st = st.with_order(little);
                     }
-                    Effect::Reset(x) => {
-                        let root = x.root;
-                        table = [root; 256];
-                        st = x;
+                    Effect::Count(counted) => {
+                        own = 0;
+                        st = st.with_count(counted);
+                    }
+                    Effect::Sequences(sequences) => {
+                        st = st.with_sequences(sequences);
+                    }
+                    Effect::Start(start) => {
+                        st = st.with_start(start);
                     }
                     Effect::All(change) => {
-                        let root = st.root;
+                        let mut i = 0usize;
+                        while i < own {
+                            table[i] = settings::apply(table[i], change);
+                            i += 1;
+                        }
                         st = st.with_root(settings::apply(root, change));
-                        let changed = settings::apply_all(table, change);
-                        table = changed;
                     }
                     Effect::One(channel, change) => {
                         let k = channel as usize;

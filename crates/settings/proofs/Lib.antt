@@ -1,2 +1,3 @@
 pub mod Mapped
+pub mod Shown
 pub mod Laws

@@ -26,6 +26,11 @@ module _ {A : Type 0} (f : A → A) where
   mapped-all (suc n) [] h = refl
   mapped-all (suc n) (x ∷ l) h = ap (λ (t : List A). f x ∷ t) (mapped-all n l (le-of-suc-le-suc h))
 
+  pub mapped-long : (n : ℕ) (l : List A) → length (mapped n l) ≡ length l
+  mapped-long zero l = refl
+  mapped-long (suc n) [] = refl
+  mapped-long (suc n) (x ∷ l) = ap suc (mapped-long n l)
+
   -- One turn of the loop, at a list of n elements, where the value stored is known by an equation.
   pub mapped-put : (d : A) (n i : ℕ) (l t : List A) (v : A) → length l ≡ n → i < n → t ≡ mapped i l → v ≡ f (getD t i d) → set t i v ≡ mapped (i + 1) l
   mapped-put d n i l t v len h e q = rw (q, e, add-one) (mapped-suc d i l (subst (λ (k : ℕ). i < k) (sym len) h))

@@ -2,11 +2,11 @@
 // one way in which a definition changes them.
 //
 // Promises, for any octets at all: `define` answers the change that a definition asks for, or 6 or 7; `apply` carries a change out in
-// one record and `apply_all` in all of them. A new attribute is one more case of `Attribute` and `Change`.
+// one record. A new attribute is one more case of `Attribute` and `Change`.
 // Read first: specs/Settings.antt, then specs/Define.antt.
 ghost use mathlib.Core.Path.{_≡_};
 ghost use lib.ListN.{getD};
-ghost use Rattle.settings.specs.Settings.{defaultSettings, defaultTable, applied, allApplied};
+ghost use Rattle.settings.specs.Settings.{defaultSettings, defaultTable, applied};
 ghost use Rattle.settings.specs.Define.{tagged, scaleLength, bitsLength, lengthFits, standingIn, scaleOf, bitsOf, changeOf, blockFits, scaleFits, inRange, defined};
 use items::Refusal;
 use values::Bits;
@@ -112,16 +112,6 @@ pub fn apply(s: Settings, c: Change) -> Settings
         Change::Null(x) => {
             t.null = x;
         }
-    }
-    t
-}
-
-// All records with one attribute changed.
-pub fn apply_all(mut t: [Settings; 256], c: Change) -> [Settings; 256]
-    ensures { λ r. ⌜ r ≡ allApplied c t ⌝ }
-{
-    for i in 0..256usize {
-        t[i] = apply(t[i], c);
     }
     t
 }

@@ -1,62 +1,42 @@
 -- Each way out is what its tests say.
-use mathlib.Core.Path.{_≡_, ap, sym, _∙_}
 use borrow.Author.Tests.{lt-ltb, le-ltb, eq-eqb, ne-eqb}
-use Rattle.reader.specs.declared.Effect.the-variants.{Stand, Reset}
-use Rattle.reader.specs.Standing.{countEffect, withCount}
+use Rattle.reader.specs.Standing.{countEffect}
 use borrow.Author.Needs.{needs}
 use Rattle.reader.proofs.count_effect.Statement.{statement}
 use Rattle.reader.proofs.count_effect.Tie as tie
 use Rattle.reader.proofs.count_effect.Reads as reads
 use Rattle.reader.proofs.count_effect.Lts as lts
 use Rattle.octets.proofs.four.Reads as four-reads
-use Rattle.reader.proofs.Standing.with_count.Reads as with-count-reads
 
--- src/lib.rt:143:9
+-- src/lib.rt:156:9
 returns : tie.Need-returns
 unfolding countEffect
 returns c = simp (lt-ltb 4 _ (c .if1 .taken))
 
--- src/lib.rt:146:30
-with-count-requires : tie.Need-with-count-requires
-with-count-requires c κs = search needs
-
--- src/lib.rt:146:9
+-- src/lib.rt:159:9
 returns-2 : tie.Need-returns-2
 unfolding countEffect
-returns-2 c = ap Reset (c .with-count .ensures) ∙ simp (le-ltb 4 _ (c .before .before .if1 .left), eq-eqb _ 0 (c .before .if2 .taken))
+returns-2 c = simp (le-ltb 4 _ (c .before .if1 .left), eq-eqb _ 0 (c .if2 .taken))
 
--- src/lib.rt:148:9
+-- src/lib.rt:161:9
 four-requires : tie.Need-four-requires
 four-requires c κs = search needs
 
--- src/lib.rt:150:9
+-- src/lib.rt:163:9
 returns-3 : tie.Need-returns-3
 unfolding countEffect
 returns-3 c = simp (le-ltb 4 _ (c .before .before .before .if1 .left), ne-eqb _ 0 (c .before .before .if2 .left), ← c .before .four .ensures, eq-eqb _ 0 (c .if3 .taken))
 
--- src/lib.rt:153:9
+-- src/lib.rt:166:9
 returns-4 : tie.Need-returns-4
 unfolding countEffect
 returns-4 c = simp (le-ltb 4 _ (c .before .before .before .before .if1 .left), ne-eqb _ 0 (c .before .before .before .if2 .left), ← c .before .before .four .ensures, ne-eqb _ 0 (c .before .if3 .left), lt-ltb 256 _ (c .if4 .taken))
 
--- src/lib.rt:155:19
-with-count-requires-2 : tie.Need-with-count-requires-2
-with-count-requires-2 c κs = search needs
-
--- src/lib.rt:139:1
+-- src/lib.rt:152:1
 returns-5 : tie.Need-returns-5
 unfolding countEffect
-returns-5 c = ap Reset (c .with-count2 .ensures) ∙ simp (le-ltb 4 _ (c .before .before .before .before .before .if1 .left), ne-eqb _ 0 (c .before .before .before .before .if2 .left), ← c .before .before .before .four .ensures, ne-eqb _ 0 (c .before .before .if3 .left), le-ltb 256 _ (c .before .if4 .left))
+returns-5 c = simp (le-ltb 4 _ (c .before .before .before .before .if1 .left), ne-eqb _ 0 (c .before .before .before .if2 .left), ← c .before .before .four .ensures, ne-eqb _ 0 (c .before .if3 .left), le-ltb 256 _ (c .if4 .left))
 
 pub count-effect-spec : {M : Type 1} → statement M
 count-effect-spec =
-    tie.close
-    (tie.spec
-    returns
-    with-count-requires
-    returns-2
-    four-requires
-    returns-3
-    returns-4
-    with-count-requires-2
-    returns-5)
+    tie.close (tie.spec returns returns-2 four-requires returns-3 returns-4 returns-5)

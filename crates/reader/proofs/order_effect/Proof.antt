@@ -1,55 +1,35 @@
 -- Each way out is what its tests say.
-use mathlib.Core.Path.{_≡_, ap, sym, _∙_}
 use borrow.Author.Tests.{lt-ltb, le-ltb, eq-eqb, ne-eqb}
-use Rattle.reader.specs.declared.Effect.the-variants.{Stand, Reset}
 use Rattle.reader.specs.Standing.{orderEffect}
 use borrow.Author.Needs.{needs}
 use Rattle.reader.proofs.order_effect.Statement.{statement}
 use Rattle.reader.proofs.order_effect.Tie as tie
 use Rattle.reader.proofs.order_effect.Reads as reads
 use Rattle.reader.proofs.order_effect.Lts as lts
-use Rattle.reader.proofs.Standing.with_order.Reads as with-order-reads
 
--- src/lib.rt:126:9
+-- src/lib.rt:139:9
 returns : tie.Need-returns
 unfolding orderEffect
 returns c = simp (lt-ltb 1 _ (c .if1 .taken))
 
--- src/lib.rt:129:30
-with-order-requires : tie.Need-with-order-requires
-with-order-requires c κs = search needs
-
--- src/lib.rt:129:9
+-- src/lib.rt:142:9
 returns-2 : tie.Need-returns-2
 unfolding orderEffect
-returns-2 c = ap Stand (c .with-order .ensures) ∙ simp (le-ltb 1 _ (c .before .before .if1 .left), eq-eqb _ 0 (c .before .if2 .taken))
+returns-2 c = simp (le-ltb 1 _ (c .before .if1 .left), eq-eqb _ 0 (c .if2 .taken))
 
--- src/lib.rt:131:13
+-- src/lib.rt:144:13
 shared-slice-read-b : tie.Need-shared-slice-read-b
 shared-slice-read-b c = search needs
 
--- src/lib.rt:133:9
+-- src/lib.rt:146:9
 returns-3 : tie.Need-returns-3
 unfolding orderEffect
 returns-3 c = simp (le-ltb 1 _ (c .before .before .before .if1 .left), ne-eqb _ 0 (c .before .before .if2 .left), lt-ltb 1 _ (c .if3 .taken))
 
--- src/lib.rt:135:19
-with-order-requires-2 : tie.Need-with-order-requires-2
-with-order-requires-2 c κs = search needs
-
--- src/lib.rt:122:1
+-- src/lib.rt:135:1
 returns-4 : tie.Need-returns-4
 unfolding orderEffect
-returns-4 c = ap Stand (c .with-order2 .ensures) ∙ simp (le-ltb 1 _ (c .before .before .before .before .if1 .left), ne-eqb _ 0 (c .before .before .before .if2 .left), le-ltb 1 _ (c .before .if3 .left))
+returns-4 c = simp (le-ltb 1 _ (c .before .before .before .if1 .left), ne-eqb _ 0 (c .before .before .if2 .left), le-ltb 1 _ (c .if3 .left))
 
 pub order-effect-spec : {M : Type 1} → statement M
-order-effect-spec =
-    tie.close
-    (tie.spec
-    returns
-    with-order-requires
-    returns-2
-    shared-slice-read-b
-    returns-3
-    with-order-requires-2
-    returns-4)
+order-effect-spec = tie.close (tie.spec returns returns-2 shared-slice-read-b returns-3 returns-4)

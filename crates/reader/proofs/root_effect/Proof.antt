@@ -1,9 +1,11 @@
 -- By the number that the arm names, or by none of them.
 use mathlib.Core.Path.{_≡_, ap, sym, _∙_}
 use borrow.Author.Tests.{lt-ltb, le-ltb, eq-eqb, ne-eqb}
-use Rattle.reader.specs.declared.Effect.the-variants.{Stand, Reset}
-use Rattle.reader.specs.Standing.{rootEffect}
-use Rattle.reader.specs.declared.Standing.{Standing}
+use Rattle.reader.specs.Standing.{rootEffect, startEffect}
+use lib.IntN.{ℤ}
+use mir.Syntax.{w64}
+use mir.Val.{SFits}
+use mir.Facts.{toZ-ofZ}
 use borrow.Author.Needs.{needs}
 use Rattle.reader.proofs.root_effect.Statement.{statement}
 use Rattle.reader.proofs.root_effect.Tie as tie
@@ -51,9 +53,12 @@ unfolding rootEffect
 returns-3 c = c .sequences-effect .ensures ∙ simp (c .before .match .keys3)
 
 -- src/lib.rt:195:1
+in64 : (c : tie.After-start-effect) → SFits w64 (c .before .before .before .before .args .st .continued)
+in64 c = search needs
+
 returns-4 : tie.Need-returns-4
 unfolding rootEffect
-returns-4 c = c .start-effect .ensures ∙ simp (c .before .match .keys4)
+returns-4 c = rw (toZ-ofZ (in64 c)) at (c .start-effect .ensures) ∙ simp (c .before .before .match .keys4)
 
 -- src/lib.rt:195:1
 returns-5 : tie.Need-returns-5

@@ -1,21 +1,23 @@
 -- Each turn is a law of the pass: what is left of the file, from the cursor behind the item and with what stands then, gives the verdict.
 use lib.Dec.{ltb}
-use lib.ListN.{getD, length, length-set, length-map, length-replicate, replicate}
+use lib.IntN.{ℤ}
+use lib.ListN.{getD, length}
 use Rattle.octets.specs.Pick.{pick}
-use Rattle.settings.specs.Settings.{defaultSettings, zeroSettings, channelLimit, applied, allApplied}
+use Rattle.settings.specs.Settings.{defaultSettings, zeroSettings, channelLimit, applied}
+use Rattle.settings.proofs.Mapped.{mapped, mapped-put}
 use mathlib.Core.Path.{subst, _≡_, refl, sym, ap, _∙_}
 use Prim.Native.Nat.{_≤_, ℕ, _-_, _+_}
 use mir.Syntax.{w64}
 use mir.Val.{SFits}
 use mir.Facts.{toZ-ofZ}
-use Rattle.reader.proofs.Scans.{goes-same, all-long, view-read, Scanning, scanning-first, scanning-goes, scanning-frame, scanned-large, scanned-end, scanned-fault, scanned-refuses, effect-found, framed-found, frame-carried, groups-small, carried-by, one-stored, one-outside, one-long}
+use Rattle.reader.proofs.Scans.{Filling, filling-none, filling-more, reach-few, reached-one, reached-frame, records-set, records-mapped, mapped-own, does-nothing, does-order, does-count, does-sequences, does-start, does-all, does-one, does-outside, carried-by, Passing, passing-first, passing-filled, passing-goes, passing-carried, passing-groups, passing-frame, scanned-large, scanned-end, scanned-fault, scanned-refuses, framed-found, view-read}
+use Rattle.reader.proofs.Steps.{count-found}
 use native.Mathlib.Omega.{arith}
 use borrow.Author.Needs.{needs}
 use Rattle.items.proofs.Walks.{next-later}
-use Rattle.settings.specs.declared.Settings.{Settings}
 use Rattle.reader.specs.declared.Standing.{Standing}
-use Rattle.reader.specs.Standing.{withRoot}
-use Rattle.reader.specs.Verdict.{State, state, goes, carried, withFrame}
+use Rattle.reader.specs.Standing.{withStart}
+use Rattle.reader.specs.Verdict.{carried, withFrame}
 use Rattle.reader.proofs.scan_file.Statement.{statement}
 use Rattle.reader.proofs.scan_file.Tie as tie
 use Rattle.reader.proofs.scan_file.Reads as reads
@@ -24,7 +26,11 @@ use Rattle.items.proofs.Cursor.first.Reads as Cursor-first-reads
 use Rattle.items.proofs.next_item.Reads as next-item-reads
 use Rattle.layout.proofs.measure.Reads as measure-reads
 use Rattle.reader.proofs.Standing.first.Reads as Standing-first-reads
+use Rattle.reader.proofs.Standing.with_count.Reads as with-count-reads
+use Rattle.reader.proofs.Standing.with_order.Reads as with-order-reads
 use Rattle.reader.proofs.Standing.with_root.Reads as with-root-reads
+use Rattle.reader.proofs.Standing.with_sequences.Reads as with-sequences-reads
+use Rattle.reader.proofs.Standing.with_start.Reads as with-start-reads
 use Rattle.reader.proofs.channels_of.Reads as channels-of-reads
 use Rattle.reader.proofs.frame_of.Reads as frame-of-reads
 use Rattle.reader.proofs.frame_size.Reads as frame-size-reads
@@ -32,292 +38,405 @@ use Rattle.reader.proofs.index.Reads as index-reads
 use Rattle.reader.proofs.item_effect.Reads as item-effect-reads
 use Rattle.reader.proofs.keep.Reads as keep-reads
 use Rattle.reader.proofs.place_of.Reads as place-of-reads
+use Rattle.reader.proofs.reach.Reads as reach-reads
 use Rattle.reader.proofs.refused_scan.Reads as refused-scan-reads
 use Rattle.reader.proofs.seen.Reads as seen-reads
 use Rattle.settings.proofs.Settings.table.Reads as table-reads
 use Rattle.settings.proofs.apply.Reads as apply-reads
-use Rattle.settings.proofs.apply_all.Reads as apply-all-reads
+
+abbrev Inv-loop2 : tie.InvT-loop2
+Inv-loop2 s asked table₀ own₀ c st frames found size item effect root n table own = (n ≤ 256) × Filling root own₀ table₀ own table
+
+abbrev μ-loop2 : tie.MeasureT-loop2
+μ-loop2 s asked table₀ own₀ c st frames found size item effect root n table own = n - own
+
+abbrev Inv-loop3 : tie.InvT-loop3
+Inv-loop3 s asked table₀ own c st frames found size root n change i₀ table i = (own ≤ 256) × (length table₀ ≡ 256) × (i ≤ own) × (table ≡ mapped (applied change) i table₀)
+
+abbrev μ-loop3 : tie.MeasureT-loop3
+μ-loop3 s asked table₀ own c st frames found size root n change i₀ table i = own - i
 
 abbrev Inv-loop : tie.InvT-loop
-Inv-loop s asked table₀ c₀ st₀ frames₀ found₀ size₀ table c st frames found size = Scanning s asked table c st frames found size
+Inv-loop s asked table₀ own₀ c₀ st₀ frames₀ found₀ size₀ table own c st frames found size = Passing s asked table own c st frames found size
 
 abbrev μ-loop : tie.MeasureT-loop
-μ-loop s asked table₀ c₀ st₀ frames₀ found₀ size₀ table c st frames found size = length s - c .at
+μ-loop s asked table₀ own₀ c₀ st₀ frames₀ found₀ size₀ table own c st frames found size = length s - c .at
 
--- src/lib.rt:546:9
-refused-scan-requires : tie.Need-refused-scan-requires Inv-loop μ-loop
+-- src/lib.rt:574:9
+refused-scan-requires : tie.Need-refused-scan-requires Inv-loop2 μ-loop2 Inv-loop3 μ-loop3 Inv-loop μ-loop
 refused-scan-requires c κs = search needs
 
--- src/lib.rt:546:9
-returns : tie.Need-returns Inv-loop μ-loop
+-- src/lib.rt:574:9
+returns : tie.Need-returns Inv-loop2 μ-loop2 Inv-loop3 μ-loop3 Inv-loop μ-loop
 returns c = c .refused-scan .ensures ∙ scanned-large _ _ (c .before .if1 .taken)
 
--- src/lib.rt:551:21
-table-requires : tie.Need-table-requires Inv-loop μ-loop
+-- src/lib.rt:579:21
+table-requires : tie.Need-table-requires Inv-loop2 μ-loop2 Inv-loop3 μ-loop3 Inv-loop μ-loop
 table-requires c κs = search needs
 
--- src/lib.rt:552:9
-first-requires : tie.Need-first-requires Inv-loop μ-loop
+-- src/lib.rt:581:9
+first-requires : tie.Need-first-requires Inv-loop2 μ-loop2 Inv-loop3 μ-loop3 Inv-loop μ-loop
 first-requires c κs = search needs
 
--- src/lib.rt:553:9
-first-requires-2 : tie.Need-first-requires-2 Inv-loop μ-loop
+-- src/lib.rt:582:9
+first-requires-2 : tie.Need-first-requires-2 Inv-loop2 μ-loop2 Inv-loop3 μ-loop3 Inv-loop μ-loop
 first-requires-2 c κs = search needs
 
--- src/lib.rt:557:5
-loop-holds : tie.Need-loop-holds Inv-loop μ-loop
-loop-holds c = scanning-first _ _ _ _ _ (c .before .before .before .if1 .left) (c .before .before .table .ensures) (c .before .first .ensures) (c .first2 .ensures)
+-- src/lib.rt:586:5
+loop-holds : tie.Need-loop-holds Inv-loop2 μ-loop2 Inv-loop3 μ-loop3 Inv-loop μ-loop
+loop-holds c = passing-first _ _ _ _ _ (c .before .before .before .if1 .left) (c .before .before .table .ensures) (c .before .first .ensures) (c .first2 .ensures)
 
--- src/lib.rt:558:15
-next-item-requires : tie.Need-next-item-requires Inv-loop μ-loop
+-- src/lib.rt:587:15
+next-item-requires : tie.Need-next-item-requires Inv-loop2 μ-loop2 Inv-loop3 μ-loop3 Inv-loop μ-loop
 next-item-requires c κs = search needs
 
--- src/lib.rt:561:30
-enum-told : tie.Need-enum-told Inv-loop μ-loop
+-- src/lib.rt:590:30
+enum-told : tie.Need-enum-told Inv-loop2 μ-loop2 Inv-loop3 μ-loop3 Inv-loop μ-loop
 enum-told c = search needs
 
--- src/lib.rt:560:17
-returns-2 : tie.Need-returns-2 Inv-loop μ-loop
-returns-2 c = scanned-end (c .before .before .before .loop .inv) (c .before .before .next-item .ensures) (c .enum-told .given .1)
+-- src/lib.rt:589:17
+returns-2 : tie.Need-returns-2 Inv-loop2 μ-loop2 Inv-loop3 μ-loop3 Inv-loop μ-loop
+returns-2 c = scanned-end (c .before .before .before .loop .inv .pass) (c .before .before .next-item .ensures) (c .enum-told .given .1)
 
--- src/lib.rt:566:27
-enum-known-x : tie.Need-enum-known-x Inv-loop μ-loop
+-- src/lib.rt:595:27
+enum-known-x : tie.Need-enum-known-x Inv-loop2 μ-loop2 Inv-loop3 μ-loop3 Inv-loop μ-loop
 enum-known-x c = search needs
 
--- src/lib.rt:567:17
-refused-scan-requires-2 : tie.Need-refused-scan-requires-2 Inv-loop μ-loop
+-- src/lib.rt:596:17
+refused-scan-requires-2 : tie.Need-refused-scan-requires-2 Inv-loop2 μ-loop2 Inv-loop3 μ-loop3 Inv-loop μ-loop
 refused-scan-requires-2 c κs = search needs
 
--- src/lib.rt:567:17
-returns-3 : tie.Need-returns-3 Inv-loop μ-loop
-returns-3 c = c .refused-scan2 .ensures ∙ scanned-fault (c .before .before .before .before .before .loop .inv) _ (c .before .before .before .before .next-item .ensures) (c .before .before .x .given .1)
+-- src/lib.rt:596:17
+returns-3 : tie.Need-returns-3 Inv-loop2 μ-loop2 Inv-loop3 μ-loop3 Inv-loop μ-loop
+returns-3 c = c .refused-scan2 .ensures ∙ scanned-fault (c .before .before .before .before .before .loop .inv .pass) _ (c .before .before .before .before .next-item .ensures) (c .before .before .x .given .1)
 
--- src/lib.rt:569:25
-enum-known-item : tie.Need-enum-known-item Inv-loop μ-loop
+-- src/lib.rt:598:25
+enum-known-item : tie.Need-enum-known-item Inv-loop2 μ-loop2 Inv-loop3 μ-loop3 Inv-loop μ-loop
 enum-known-item c = search needs
 
--- src/lib.rt:571:23
-item-effect-requires : tie.Need-item-effect-requires Inv-loop μ-loop
+-- src/lib.rt:600:21
+item-effect-requires : tie.Need-item-effect-requires Inv-loop2 μ-loop2 Inv-loop3 μ-loop3 Inv-loop μ-loop
 item-effect-requires c κs = search needs
 
-enum-told-2 : tie.Need-enum-told-2 Inv-loop μ-loop
+-- src/lib.rt:602:21
+reach-requires : tie.Need-reach-requires Inv-loop2 μ-loop2 Inv-loop3 μ-loop3 Inv-loop μ-loop
+reach-requires c κs = search needs
+
+-- src/lib.rt:603:17
+loop2-holds : tie.Need-loop2-holds Inv-loop2 μ-loop2 Inv-loop3 μ-loop3 Inv-loop μ-loop
+loop2-holds c = (rw (c .reach .ensures) (reach-few _ _), filling-none (c .before .before .before .before .before .before .before .loop .inv .records))
+
+-- src/lib.rt:604:21
+mul-table : tie.Need-mul-table Inv-loop2 μ-loop2 Inv-loop3 μ-loop3 Inv-loop μ-loop
+mul-table c = omega (arith, c .before .loop2 .inv .0)
+
+-- src/lib.rt:604:21
+array-set-from-table : tie.Need-array-set-from-table Inv-loop2 μ-loop2 Inv-loop3 μ-loop3 Inv-loop μ-loop
+array-set-from-table c = omega (arith, c .before .loop2 .inv .0)
+
+-- src/lib.rt:605:21
+add-own : tie.Need-add-own Inv-loop2 μ-loop2 Inv-loop3 μ-loop3 Inv-loop μ-loop
+add-own c = omega (arith, c .before .loop2 .inv .0)
+
+-- src/lib.rt:603:17
+loop2-less : tie.Need-loop2-less Inv-loop2 μ-loop2 Inv-loop3 μ-loop3 Inv-loop μ-loop
+loop2-less c = omega arith
+
+-- src/lib.rt:603:17
+loop2-again : tie.Need-loop2-again Inv-loop2 μ-loop2 Inv-loop3 μ-loop3 Inv-loop μ-loop
+loop2-again c = (c .before .loop2 .inv .0, filling-more (c .before .loop2 .inv .1) (omega (arith, c .before .loop2 .inv .0, c .loop2-test .taken)))
+
+enum-told-2 : tie.Need-enum-told-2 Inv-loop2 μ-loop2 Inv-loop3 μ-loop3 Inv-loop μ-loop
 enum-told-2 c = search needs
 
--- src/lib.rt:557:5
-loop-less : tie.Need-loop-less Inv-loop μ-loop
-loop-less c = omega (arith, next-later _ _ (c .before .before .before .before .before .before .next-item .ensures) (c .before .before .before .before .item .given .1))
+-- src/lib.rt:586:5
+loop-less : tie.Need-loop-less Inv-loop2 μ-loop2 Inv-loop3 μ-loop3 Inv-loop μ-loop
+loop-less c = omega (arith, next-later _ _ (c .before .before .before .before .before .before .before .before .before .before .next-item .ensures) (c .before .before .before .before .before .before .before .before .item .given .1))
 
--- src/lib.rt:557:5
-loop-again : tie.Need-loop-again Inv-loop μ-loop
-unfolding carried
-loop-again c = scanning-goes (c .before .before .before .before .before .before .before .loop .inv) (c .before .before .before .before .before .before .next-item .ensures) (c .before .before .before .before .item .given .1) (c .before .before .before .before .before .before .before .loop .inv .counted) (c .before .before .before .before .before .before .before .loop .inv .full) (carried-by _ _ _ (c .before .before .item-effect .ensures) (c .enum-told2 .given .1))
+-- src/lib.rt:586:5
+loop-again : tie.Need-loop-again Inv-loop2 μ-loop2 Inv-loop3 μ-loop3 Inv-loop μ-loop
+loop-again c = passing-goes (passing-filled (c .before .before .before .before .before .before .before .before .before .before .before .loop .inv) (c .before .before .before .loop2 .inv .1)) (c .before .before .before .before .before .before .before .before .before .before .next-item .ensures) (c .before .before .before .before .before .before .before .before .item .given .1) (c .before .before .before .loop2 .inv .1 .records) (c .before .before .before .before .before .before .before .before .before .before .before .loop .inv .pass .counted) (does-nothing (c .before .before .before .loop2 .inv .1 .records) _ _ _ _ (c .before .before .before .before .before .before .item-effect .ensures) (c .enum-told2 .given .1))
 
--- src/lib.rt:573:35
-enum-known-x-2 : tie.Need-enum-known-x-2 Inv-loop μ-loop
-enum-known-x-2 c = search needs
+-- src/lib.rt:609:35
+enum-known-effect : tie.Need-enum-known-effect Inv-loop2 μ-loop2 Inv-loop3 μ-loop3 Inv-loop μ-loop
+enum-known-effect c = search needs
 
--- src/lib.rt:557:5
-loop-less-2 : tie.Need-loop-less-2 Inv-loop μ-loop
-loop-less-2 c = omega (arith, next-later _ _ (c .before .before .before .before .before .before .before .next-item .ensures) (c .before .before .before .before .before .item .given .1))
+-- src/lib.rt:610:25
+with-order-requires : tie.Need-with-order-requires Inv-loop2 μ-loop2 Inv-loop3 μ-loop3 Inv-loop μ-loop
+with-order-requires c κs = search needs
 
--- src/lib.rt:557:5
-loop-again-2 : tie.Need-loop-again-2 Inv-loop μ-loop
-unfolding carried
-loop-again-2 c = scanning-goes (c .before .before .before .before .before .before .before .before .loop .inv) (c .before .before .before .before .before .before .before .next-item .ensures) (c .before .before .before .before .before .item .given .1) (effect-found _ _ _ (c .before .before .before .before .before .before .before .before .loop .inv .counted) (c .before .before .before .item-effect .ensures) (c .before .x2 .given .1)) (c .before .before .before .before .before .before .before .before .loop .inv .full) (carried-by _ _ _ (c .before .before .before .item-effect .ensures) (c .before .x2 .given .1))
+-- src/lib.rt:586:5
+loop-less-2 : tie.Need-loop-less-2 Inv-loop2 μ-loop2 Inv-loop3 μ-loop3 Inv-loop μ-loop
+loop-less-2 c = omega (arith, next-later _ _ (c .before .before .before .before .before .before .before .before .before .before .before .before .next-item .ensures) (c .before .before .before .before .before .before .before .before .before .before .item .given .1))
 
--- src/lib.rt:576:35
-enum-known-x-3 : tie.Need-enum-known-x-3 Inv-loop μ-loop
-enum-known-x-3 c = search needs
+-- src/lib.rt:586:5
+loop-again-2 : tie.Need-loop-again-2 Inv-loop2 μ-loop2 Inv-loop3 μ-loop3 Inv-loop μ-loop
+loop-again-2 c = passing-goes (passing-filled (c .before .before .before .before .before .before .before .before .before .before .before .before .before .loop .inv) (c .before .before .before .before .before .loop2 .inv .1)) (c .before .before .before .before .before .before .before .before .before .before .before .before .next-item .ensures) (c .before .before .before .before .before .before .before .before .before .before .item .given .1) (c .before .before .before .before .before .loop2 .inv .1 .records) (subst (λ (x : Standing). x .counted ≤ channelLimit) (sym (c .with-order .ensures)) (c .before .before .before .before .before .before .before .before .before .before .before .before .before .loop .inv .pass .counted)) (does-order (c .before .before .before .before .before .loop2 .inv .1 .records) _ _ _ _ (c .before .before .before .before .before .before .before .before .item-effect .ensures) (c .before .before .effect .given .1) (c .with-order .ensures))
 
--- src/lib.rt:557:5
-loop-less-3 : tie.Need-loop-less-3 Inv-loop μ-loop
-loop-less-3 c = omega (arith, next-later _ _ (c .before .before .before .before .before .before .before .before .next-item .ensures) (c .before .before .before .before .before .before .item .given .1))
+-- src/lib.rt:612:35
+enum-known-effect-2 : tie.Need-enum-known-effect-2 Inv-loop2 μ-loop2 Inv-loop3 μ-loop3 Inv-loop μ-loop
+enum-known-effect-2 c = search needs
 
--- src/lib.rt:557:5
-loop-again-3 : tie.Need-loop-again-3 Inv-loop μ-loop
-unfolding carried
-loop-again-3 c = scanning-goes (c .before .before .before .before .before .before .before .before .before .loop .inv) (c .before .before .before .before .before .before .before .before .next-item .ensures) (c .before .before .before .before .before .before .item .given .1) (effect-found _ _ _ (c .before .before .before .before .before .before .before .before .before .loop .inv .counted) (c .before .before .before .before .item-effect .ensures) (c .before .before .x3 .given .1)) (length-replicate {A = Settings} 256 (c .before .before .x3 .given .0 .0 .root)) (carried-by _ _ _ (c .before .before .before .before .item-effect .ensures) (c .before .before .x3 .given .1))
+-- src/lib.rt:614:25
+with-count-requires : tie.Need-with-count-requires Inv-loop2 μ-loop2 Inv-loop3 μ-loop3 Inv-loop μ-loop
+with-count-requires c κs = search needs
 
--- src/lib.rt:581:33
-enum-known-change : tie.Need-enum-known-change Inv-loop μ-loop
-enum-known-change c = search needs
+-- src/lib.rt:586:5
+loop-less-3 : tie.Need-loop-less-3 Inv-loop2 μ-loop2 Inv-loop3 μ-loop3 Inv-loop μ-loop
+loop-less-3 c = omega (arith, next-later _ _ (c .before .before .before .before .before .before .before .before .before .before .before .before .next-item .ensures) (c .before .before .before .before .before .before .before .before .before .before .item .given .1))
 
--- src/lib.rt:583:43
-apply-requires : tie.Need-apply-requires Inv-loop μ-loop
+-- src/lib.rt:586:5
+loop-again-3 : tie.Need-loop-again-3 Inv-loop2 μ-loop2 Inv-loop3 μ-loop3 Inv-loop μ-loop
+loop-again-3 c = passing-goes (passing-filled (c .before .before .before .before .before .before .before .before .before .before .before .before .before .loop .inv) (c .before .before .before .before .before .loop2 .inv .1)) (c .before .before .before .before .before .before .before .before .before .before .before .before .next-item .ensures) (c .before .before .before .before .before .before .before .before .before .before .item .given .1) (record { low = omega arith; full = (c .before .before .before .before .before .loop2 .inv .1 .records) .full }) (subst (λ (x : Standing). x .counted ≤ channelLimit) (sym (c .with-count .ensures)) (count-found _ _ _ (c .before .before .before .before .before .before .before .before .item-effect .ensures) (c .before .before .effect2 .given .1))) (does-count (c .before .before .before .before .before .loop2 .inv .1 .records) _ _ _ _ (c .before .before .before .before .before .before .before .before .item-effect .ensures) (c .before .before .effect2 .given .1) (c .with-count .ensures))
+
+-- src/lib.rt:616:39
+enum-known-effect-3 : tie.Need-enum-known-effect-3 Inv-loop2 μ-loop2 Inv-loop3 μ-loop3 Inv-loop μ-loop
+enum-known-effect-3 c = search needs
+
+-- src/lib.rt:617:25
+with-sequences-requires : tie.Need-with-sequences-requires Inv-loop2 μ-loop2 Inv-loop3 μ-loop3 Inv-loop μ-loop
+with-sequences-requires c κs = search needs
+
+-- src/lib.rt:586:5
+loop-less-4 : tie.Need-loop-less-4 Inv-loop2 μ-loop2 Inv-loop3 μ-loop3 Inv-loop μ-loop
+loop-less-4 c = omega (arith, next-later _ _ (c .before .before .before .before .before .before .before .before .before .before .before .before .next-item .ensures) (c .before .before .before .before .before .before .before .before .before .before .item .given .1))
+
+-- src/lib.rt:586:5
+loop-again-4 : tie.Need-loop-again-4 Inv-loop2 μ-loop2 Inv-loop3 μ-loop3 Inv-loop μ-loop
+loop-again-4 c = passing-goes (passing-filled (c .before .before .before .before .before .before .before .before .before .before .before .before .before .loop .inv) (c .before .before .before .before .before .loop2 .inv .1)) (c .before .before .before .before .before .before .before .before .before .before .before .before .next-item .ensures) (c .before .before .before .before .before .before .before .before .before .before .item .given .1) (c .before .before .before .before .before .loop2 .inv .1 .records) (subst (λ (x : Standing). x .counted ≤ channelLimit) (sym (c .with-sequences .ensures)) (c .before .before .before .before .before .before .before .before .before .before .before .before .before .loop .inv .pass .counted)) (does-sequences (c .before .before .before .before .before .loop2 .inv .1 .records) _ _ _ _ (c .before .before .before .before .before .before .before .before .item-effect .ensures) (c .before .before .effect3 .given .1) (c .with-sequences .ensures))
+
+-- src/lib.rt:619:35
+enum-known-effect-4 : tie.Need-enum-known-effect-4 Inv-loop2 μ-loop2 Inv-loop3 μ-loop3 Inv-loop μ-loop
+enum-known-effect-4 c = search needs
+
+-- src/lib.rt:620:25
+with-start-requires : tie.Need-with-start-requires Inv-loop2 μ-loop2 Inv-loop3 μ-loop3 Inv-loop μ-loop
+with-start-requires c κs = search needs
+
+-- src/lib.rt:586:5
+loop-less-5 : tie.Need-loop-less-5 Inv-loop2 μ-loop2 Inv-loop3 μ-loop3 Inv-loop μ-loop
+loop-less-5 c = omega (arith, next-later _ _ (c .before .before .before .before .before .before .before .before .before .before .before .before .next-item .ensures) (c .before .before .before .before .before .before .before .before .before .before .item .given .1))
+
+-- src/lib.rt:586:5
+in64s : (c : tie.After-with-start Inv-loop2 μ-loop2 Inv-loop3 μ-loop3 Inv-loop μ-loop) → SFits w64 (c .before .before .effect4 .given .0 .0)
+in64s c = search needs
+
+loop-again-5 : tie.Need-loop-again-5 Inv-loop2 μ-loop2 Inv-loop3 μ-loop3 Inv-loop μ-loop
+loop-again-5 c = passing-goes (passing-filled (c .before .before .before .before .before .before .before .before .before .before .before .before .before .loop .inv) (c .before .before .before .before .before .loop2 .inv .1)) (c .before .before .before .before .before .before .before .before .before .before .before .before .next-item .ensures) (c .before .before .before .before .before .before .before .before .before .before .item .given .1) (c .before .before .before .before .before .loop2 .inv .1 .records) (subst (λ (x : Standing). x .counted ≤ channelLimit) (sym (c .with-start .ensures)) (c .before .before .before .before .before .before .before .before .before .before .before .before .before .loop .inv .pass .counted)) (does-start (c .before .before .before .before .before .loop2 .inv .1 .records) _ _ _ _ (c .before .before .before .before .before .before .before .before .item-effect .ensures) (c .before .before .effect4 .given .1) (c .with-start .ensures ∙ ap (λ (z : ℤ). withStart z (c .before .before .before .before .before .before .before .before .before .before .before .before .before .loop .st)) (toZ-ofZ (in64s c))))
+
+-- src/lib.rt:622:33
+enum-known-effect-5 : tie.Need-enum-known-effect-5 Inv-loop2 μ-loop2 Inv-loop3 μ-loop3 Inv-loop μ-loop
+enum-known-effect-5 c = search needs
+
+-- src/lib.rt:624:25
+loop3-holds : tie.Need-loop3-holds Inv-loop2 μ-loop2 Inv-loop3 μ-loop3 Inv-loop μ-loop
+loop3-holds c = ((c .before .before .before .before .loop2 .inv .1 .records) .low, (c .before .before .before .before .loop2 .inv .1 .records) .full, omega arith, refl)
+
+-- src/lib.rt:625:56
+mul-apply : tie.Need-mul-apply Inv-loop2 μ-loop2 Inv-loop3 μ-loop3 Inv-loop μ-loop
+mul-apply c = omega (arith, c .before .loop3 .inv .0)
+
+-- src/lib.rt:625:56
+array-copy-out-apply : tie.Need-array-copy-out-apply Inv-loop2 μ-loop2 Inv-loop3 μ-loop3 Inv-loop μ-loop
+array-copy-out-apply c = omega (arith, c .before .loop3 .inv .0)
+
+-- src/lib.rt:625:40
+apply-requires : tie.Need-apply-requires Inv-loop2 μ-loop2 Inv-loop3 μ-loop3 Inv-loop μ-loop
 apply-requires c κs = search needs
 
--- src/lib.rt:583:25
-with-root-requires : tie.Need-with-root-requires Inv-loop μ-loop
-with-root-requires c κs = search needs
+-- src/lib.rt:625:29
+mul-table-2 : tie.Need-mul-table-2 Inv-loop2 μ-loop2 Inv-loop3 μ-loop3 Inv-loop μ-loop
+mul-table-2 c = omega (arith, c .before .before .before .loop3 .inv .0)
 
--- src/lib.rt:584:29
-apply-all-requires : tie.Need-apply-all-requires Inv-loop μ-loop
-apply-all-requires c κs = search needs
+-- src/lib.rt:625:29
+array-set-from-table-2 : tie.Need-array-set-from-table-2 Inv-loop2 μ-loop2 Inv-loop3 μ-loop3 Inv-loop μ-loop
+array-set-from-table-2 c = omega (arith, c .before .before .before .loop3 .inv .0)
 
--- src/lib.rt:557:5
-loop-less-4 : tie.Need-loop-less-4 Inv-loop μ-loop
-loop-less-4 c = omega (arith, next-later _ _ (c .before .before .before .before .before .before .before .before .before .before .before .next-item .ensures) (c .before .before .before .before .before .before .before .before .before .item .given .1))
+-- src/lib.rt:626:29
+add-i : tie.Need-add-i Inv-loop2 μ-loop2 Inv-loop3 μ-loop3 Inv-loop μ-loop
+add-i c = omega (arith, c .before .before .before .loop3 .inv .0)
 
--- src/lib.rt:557:5
-loop-again-4 : tie.Need-loop-again-4 Inv-loop μ-loop
-unfolding carried
-loop-again-4 c = scanning-goes (c .before .before .before .before .before .before .before .before .before .before .before .before .loop .inv) (c .before .before .before .before .before .before .before .before .before .before .before .next-item .ensures) (c .before .before .before .before .before .before .before .before .before .item .given .1) (subst (λ (x : Standing). x .counted ≤ channelLimit) (sym (c .before .with-root .ensures)) (c .before .before .before .before .before .before .before .before .before .before .before .before .loop .inv .counted)) (all-long _ _ _ (c .apply-all .ensures) ∙ c .before .before .before .before .before .before .before .before .before .before .before .before .loop .inv .full) (carried-by _ _ _ (c .before .before .before .before .before .before .before .item-effect .ensures) (c .before .before .before .before .before .change .given .1) ∙ goes-same (c .before .with-root .ensures ∙ ap (λ (r : Settings). withRoot r (c .before .before .before .before .before .before .before .before .before .before .before .before .loop .st)) (c .before .before .apply .ensures)) (c .apply-all .ensures))
+-- src/lib.rt:624:25
+loop3-less : tie.Need-loop3-less Inv-loop2 μ-loop2 Inv-loop3 μ-loop3 Inv-loop μ-loop
+loop3-less c = omega arith
 
--- src/lib.rt:587:33
-enum-known-channel : tie.Need-enum-known-channel Inv-loop μ-loop
-enum-known-channel c = search needs
+-- src/lib.rt:624:25
+loop3-again : tie.Need-loop3-again Inv-loop2 μ-loop2 Inv-loop3 μ-loop3 Inv-loop μ-loop
+loop3-again c = (c .before .before .before .loop3 .inv .0, c .before .before .before .loop3 .inv .1, omega (arith, c .before .before .loop3-test .taken), mapped-put (applied (c .before .before .before .before .before .effect5 .given .0 .0)) zeroSettings 256 _ (c .before .before .before .before .before .before .before .before .loop2 .table) _ _ (c .before .before .before .loop3 .inv .1) (omega (arith, c .before .before .before .loop3 .inv .0, c .before .before .loop3-test .taken)) (c .before .before .before .loop3 .inv .3) (c .apply .ensures))
 
--- src/lib.rt:588:33
-cast-k : tie.Need-cast-k Inv-loop μ-loop
-cast-k c = search needs
-
--- src/lib.rt:590:56
-mul-apply : tie.Need-mul-apply Inv-loop μ-loop
-mul-apply c = search needs
-
--- src/lib.rt:590:56
-array-copy-out-apply : tie.Need-array-copy-out-apply Inv-loop μ-loop
-array-copy-out-apply c = search needs
-
--- src/lib.rt:590:40
-apply-requires-2 : tie.Need-apply-requires-2 Inv-loop μ-loop
+-- src/lib.rt:628:43
+apply-requires-2 : tie.Need-apply-requires-2 Inv-loop2 μ-loop2 Inv-loop3 μ-loop3 Inv-loop μ-loop
 apply-requires-2 c κs = search needs
 
--- src/lib.rt:590:29
-mul-table : tie.Need-mul-table Inv-loop μ-loop
-mul-table c = search needs
+-- src/lib.rt:628:25
+with-root-requires : tie.Need-with-root-requires Inv-loop2 μ-loop2 Inv-loop3 μ-loop3 Inv-loop μ-loop
+with-root-requires c κs = search needs
 
--- src/lib.rt:590:29
-array-set-from-table : tie.Need-array-set-from-table Inv-loop μ-loop
-array-set-from-table c = search needs
+-- src/lib.rt:586:5
+loop-less-6 : tie.Need-loop-less-6 Inv-loop2 μ-loop2 Inv-loop3 μ-loop3 Inv-loop μ-loop
+loop-less-6 c = omega (arith, next-later _ _ (c .before .before .before .before .before .before .before .before .before .before .before .before .before .before .before .next-item .ensures) (c .before .before .before .before .before .before .before .before .before .before .before .before .before .item .given .1))
 
--- src/lib.rt:557:5
-loop-less-5 : tie.Need-loop-less-5 Inv-loop μ-loop
-loop-less-5 c = omega (arith, next-later _ _ (c .before .before .before .before .before .before .before .before .before .before .next-item .ensures) (c .before .before .before .before .before .before .before .before .item .given .1))
+-- src/lib.rt:586:5
+loop-again-6 : tie.Need-loop-again-6 Inv-loop2 μ-loop2 Inv-loop3 μ-loop3 Inv-loop μ-loop
+loop-again-6 c = passing-goes (passing-filled (c .before .before .before .before .before .before .before .before .before .before .before .before .before .before .before .before .loop .inv) (c .before .before .before .before .before .before .before .before .loop2 .inv .1)) (c .before .before .before .before .before .before .before .before .before .before .before .before .before .before .before .next-item .ensures) (c .before .before .before .before .before .before .before .before .before .before .before .before .before .item .given .1) (records-mapped (c .before .before .before .before .before .before .before .before .loop2 .inv .1 .records) (c .before .before .before .before .before .effect5 .given .0 .0) (c .before .before .before .loop3 .i) (c .before .before .before .loop3 .inv .3)) (subst (λ (x : Standing). x .counted ≤ channelLimit) (sym (c .with-root .ensures)) (c .before .before .before .before .before .before .before .before .before .before .before .before .before .before .before .before .loop .inv .pass .counted)) (does-all (c .before .before .before .before .before .before .before .before .loop2 .inv .1 .records) _ _ _ _ (c .before .before .before .before .before .before .before .before .before .before .before .item-effect .ensures) (c .before .before .before .before .before .effect5 .given .1) (c .before .apply2 .ensures) (c .with-root .ensures) (mapped-own (c .before .before .before .before .before .before .before .before .loop2 .inv .1 .records) (c .before .before .before .before .before .effect5 .given .0 .0) (c .before .before .before .loop3 .i) (c .before .before .before .loop3 .inv .3) (c .before .before .before .loop3 .inv .2) (c .before .before .loop3-test .left)))
 
--- src/lib.rt:557:5
-loop-again-5 : tie.Need-loop-again-5 Inv-loop μ-loop
-unfolding carried
-loop-again-5 c = scanning-goes (c .before .before .before .before .before .before .before .before .before .before .before .loop .inv) (c .before .before .before .before .before .before .before .before .before .before .next-item .ensures) (c .before .before .before .before .before .before .before .before .item .given .1) (c .before .before .before .before .before .before .before .before .before .before .before .loop .inv .counted) (length-set (c .before .before .before .before .before .before .before .before .before .before .before .loop .table) (c .before .before .before .before .channel .given .0 .0) (c .apply2 .result) ∙ c .before .before .before .before .before .before .before .before .before .before .before .loop .inv .full) (carried-by _ _ _ (c .before .before .before .before .before .before .item-effect .ensures) (c .before .before .before .before .channel .given .1) ∙ goes-same refl (one-stored _ _ (applied (c .before .before .before .before .channel .given .0 .1 .0)) _ (c .apply2 .ensures)))
+-- src/lib.rt:630:33
+enum-known-effect-6 : tie.Need-enum-known-effect-6 Inv-loop2 μ-loop2 Inv-loop3 μ-loop3 Inv-loop μ-loop
+enum-known-effect-6 c = search needs
 
--- src/lib.rt:557:5
-loop-less-6 : tie.Need-loop-less-6 Inv-loop μ-loop
-loop-less-6 c = omega (arith, next-later _ _ (c .before .before .before .before .before .before .before .before .next-item .ensures) (c .before .before .before .before .before .before .item .given .1))
+-- src/lib.rt:631:33
+cast-k : tie.Need-cast-k Inv-loop2 μ-loop2 Inv-loop3 μ-loop3 Inv-loop μ-loop
+cast-k c = search needs
 
--- src/lib.rt:557:5
-loop-again-6 : tie.Need-loop-again-6 Inv-loop μ-loop
-unfolding carried
-loop-again-6 c = scanning-goes (c .before .before .before .before .before .before .before .before .before .loop .inv) (c .before .before .before .before .before .before .before .before .next-item .ensures) (c .before .before .before .before .before .before .item .given .1) (c .before .before .before .before .before .before .before .before .before .loop .inv .counted) (c .before .before .before .before .before .before .before .before .before .loop .inv .full) (carried-by _ _ _ (c .before .before .before .before .item-effect .ensures) (c .before .before .channel .given .1) ∙ goes-same refl (one-outside (c .before .before .before .before .before .before .before .before .before .loop .table) _ (applied (c .before .before .channel .given .0 .1 .0)) (omega (arith, c .before .before .before .before .before .before .before .before .before .loop .inv .full, c .if2 .left))))
+-- src/lib.rt:633:56
+mul-apply-2 : tie.Need-mul-apply-2 Inv-loop2 μ-loop2 Inv-loop3 μ-loop3 Inv-loop μ-loop
+mul-apply-2 c = search needs
 
--- src/lib.rt:593:37
-enum-known-start : tie.Need-enum-known-start Inv-loop μ-loop
-enum-known-start c = search needs
+-- src/lib.rt:633:56
+array-copy-out-apply-2 : tie.Need-array-copy-out-apply-2 Inv-loop2 μ-loop2 Inv-loop3 μ-loop3 Inv-loop μ-loop
+array-copy-out-apply-2 c = search needs
 
--- src/lib.rt:594:29
-channels-of-requires : tie.Need-channels-of-requires Inv-loop μ-loop
+-- src/lib.rt:633:40
+apply-requires-3 : tie.Need-apply-requires-3 Inv-loop2 μ-loop2 Inv-loop3 μ-loop3 Inv-loop μ-loop
+apply-requires-3 c κs = search needs
+
+-- src/lib.rt:633:29
+mul-table-3 : tie.Need-mul-table-3 Inv-loop2 μ-loop2 Inv-loop3 μ-loop3 Inv-loop μ-loop
+mul-table-3 c = search needs
+
+-- src/lib.rt:633:29
+array-set-from-table-3 : tie.Need-array-set-from-table-3 Inv-loop2 μ-loop2 Inv-loop3 μ-loop3 Inv-loop μ-loop
+array-set-from-table-3 c = search needs
+
+-- src/lib.rt:586:5
+loop-less-7 : tie.Need-loop-less-7 Inv-loop2 μ-loop2 Inv-loop3 μ-loop3 Inv-loop μ-loop
+loop-less-7 c = omega (arith, next-later _ _ (c .before .before .before .before .before .before .before .before .before .before .before .before .before .before .next-item .ensures) (c .before .before .before .before .before .before .before .before .before .before .before .before .item .given .1))
+
+-- src/lib.rt:586:5
+loop-again-7 : tie.Need-loop-again-7 Inv-loop2 μ-loop2 Inv-loop3 μ-loop3 Inv-loop μ-loop
+loop-again-7 c = passing-goes (passing-filled (c .before .before .before .before .before .before .before .before .before .before .before .before .before .before .before .loop .inv) (c .before .before .before .before .before .before .before .loop2 .inv .1)) (c .before .before .before .before .before .before .before .before .before .before .before .before .before .before .next-item .ensures) (c .before .before .before .before .before .before .before .before .before .before .before .before .item .given .1) (records-set (c .before .before .before .before .before .before .before .loop2 .inv .1 .records) _ _) (c .before .before .before .before .before .before .before .before .before .before .before .before .before .before .before .loop .inv .pass .counted) (does-one (c .before .before .before .before .before .before .before .loop2 .inv .1 .records) _ _ _ _ (c .before .before .before .before .before .before .before .before .before .before .item-effect .ensures) (c .before .before .before .before .effect6 .given .1) (reached-one _ (c .before .before .before .before .before .before .before .before .reach .ensures) (c .before .before .before .before .effect6 .given .1) (c .before .before .before .before .before .before .loop2-test .left) (c .before .before .if2 .taken)) (c .apply3 .ensures))
+
+-- src/lib.rt:586:5
+loop-less-8 : tie.Need-loop-less-8 Inv-loop2 μ-loop2 Inv-loop3 μ-loop3 Inv-loop μ-loop
+loop-less-8 c = omega (arith, next-later _ _ (c .before .before .before .before .before .before .before .before .before .before .before .before .next-item .ensures) (c .before .before .before .before .before .before .before .before .before .before .item .given .1))
+
+-- src/lib.rt:586:5
+loop-again-8 : tie.Need-loop-again-8 Inv-loop2 μ-loop2 Inv-loop3 μ-loop3 Inv-loop μ-loop
+loop-again-8 c = passing-goes (passing-filled (c .before .before .before .before .before .before .before .before .before .before .before .before .before .loop .inv) (c .before .before .before .before .before .loop2 .inv .1)) (c .before .before .before .before .before .before .before .before .before .before .before .before .next-item .ensures) (c .before .before .before .before .before .before .before .before .before .before .item .given .1) (c .before .before .before .before .before .loop2 .inv .1 .records) (c .before .before .before .before .before .before .before .before .before .before .before .before .before .loop .inv .pass .counted) (does-outside (c .before .before .before .before .before .loop2 .inv .1 .records) _ _ _ _ (c .before .before .before .before .before .before .before .before .item-effect .ensures) (c .before .before .effect6 .given .1) (c .if2 .left))
+
+-- src/lib.rt:636:37
+enum-known-effect-7 : tie.Need-enum-known-effect-7 Inv-loop2 μ-loop2 Inv-loop3 μ-loop3 Inv-loop μ-loop
+enum-known-effect-7 c = search needs
+
+-- src/lib.rt:637:29
+channels-of-requires : tie.Need-channels-of-requires Inv-loop2 μ-loop2 Inv-loop3 μ-loop3 Inv-loop μ-loop
 channels-of-requires c κs = search needs
 
--- src/lib.rt:595:29
-measure-requires : tie.Need-measure-requires Inv-loop μ-loop
+-- src/lib.rt:638:29
+measure-requires : tie.Need-measure-requires Inv-loop2 μ-loop2 Inv-loop3 μ-loop3 Inv-loop μ-loop
 measure-requires c κs = search needs
 
--- src/lib.rt:596:31
-frame-of-requires : tie.Need-frame-of-requires Inv-loop μ-loop
+-- src/lib.rt:639:31
+frame-of-requires : tie.Need-frame-of-requires Inv-loop2 μ-loop2 Inv-loop3 μ-loop3 Inv-loop μ-loop
 frame-of-requires c κs = search needs
 
--- src/lib.rt:597:45
-enum-known-number : tie.Need-enum-known-number Inv-loop μ-loop
+-- src/lib.rt:640:45
+enum-known-number : tie.Need-enum-known-number Inv-loop2 μ-loop2 Inv-loop3 μ-loop3 Inv-loop μ-loop
 enum-known-number c = search needs
 
--- src/lib.rt:600:44
-place-of-requires : tie.Need-place-of-requires Inv-loop μ-loop
+-- src/lib.rt:643:44
+place-of-requires : tie.Need-place-of-requires Inv-loop2 μ-loop2 Inv-loop3 μ-loop3 Inv-loop μ-loop
 place-of-requires c κs = search needs
 
--- src/lib.rt:598:33
-refused-scan-requires-3 : tie.Need-refused-scan-requires-3 Inv-loop μ-loop
+-- src/lib.rt:641:33
+refused-scan-requires-3 : tie.Need-refused-scan-requires-3 Inv-loop2 μ-loop2 Inv-loop3 μ-loop3 Inv-loop μ-loop
 refused-scan-requires-3 c κs = search needs
 
--- src/lib.rt:598:33
-returns-4 : tie.Need-returns-4 Inv-loop μ-loop
+-- src/lib.rt:641:33
+returns-4 : tie.Need-returns-4 Inv-loop2 μ-loop2 Inv-loop3 μ-loop3 Inv-loop μ-loop
 unfolding withFrame
-returns-4 c = c .refused-scan3 .ensures ∙ scanned-refuses (c .before .before .before .before .before .before .before .before .before .before .before .before .before .before .before .before .loop .inv) _ _ (c .before .before .before .before .before .before .before .before .before .before .before .before .before .before .before .next-item .ensures) (c .before .before .before .before .before .before .before .before .before .before .before .before .before .item .given .1) (c .before .place-of .ensures) (frame-carried (c .before .before .before .before .before .before .before .before .before .before .before .before .before .before .before .before .loop .inv) (c .before .before .before .before .before .before .before .channels-of .result) (c .before .before .before .before .before .before .measure .result) (c .before .before .before .before .before .before .before .channels-of .ensures) (c .before .before .before .before .before .before .measure .ensures) _ _ _ (c .before .before .before .before .before .before .before .before .before .before .before .item-effect .ensures) (c .before .before .before .before .before .before .before .before .before .start .given .1) (c .before .before .before .before .before .frame-of .ensures) (c .before .before .before .number .given .1))
+returns-4 c = c .refused-scan3 .ensures ∙ scanned-refuses ((passing-filled (c .before .before .before .before .before .before .before .before .before .before .before .before .before .before .before .before .before .before .before .before .loop .inv) (c .before .before .before .before .before .before .before .before .before .before .before .before .loop2 .inv .1)) .pass) _ _ (c .before .before .before .before .before .before .before .before .before .before .before .before .before .before .before .before .before .before .before .next-item .ensures) (c .before .before .before .before .before .before .before .before .before .before .before .before .before .before .before .before .before .item .given .1) (c .before .place-of .ensures) (passing-carried (passing-filled (c .before .before .before .before .before .before .before .before .before .before .before .before .before .before .before .before .before .before .before .before .loop .inv) (c .before .before .before .before .before .before .before .before .before .before .before .before .loop2 .inv .1)) (c .before .before .before .before .before .before .before .channels-of .result) (c .before .before .before .before .before .before .measure .result) (c .before .before .before .before .before .before .before .channels-of .ensures) (c .before .before .before .before .before .before .measure .ensures) (reached-frame _ (c .before .before .before .before .before .before .before .before .before .before .before .before .before .reach .ensures) (c .before .before .before .before .before .before .before .before .before .effect7 .given .1) (c .before .before .before .before .before .before .before .before .before .before .before .loop2-test .left) (c .before .before .before .before .before .before .before .before .before .before .before .before .before .before .before .before .before .before .before .before .loop .inv .pass .counted) (c .before .before .before .before .before .before .before .channels-of .ensures)) _ _ _ (c .before .before .before .before .before .before .before .before .before .before .before .before .before .before .before .item-effect .ensures) (c .before .before .before .before .before .before .before .before .before .effect7 .given .1) (c .before .before .before .before .before .frame-of .ensures) (c .before .before .before .number .given .1))
 
--- src/lib.rt:603:43
-enum-known-sequences : tie.Need-enum-known-sequences Inv-loop μ-loop
+-- src/lib.rt:646:43
+enum-known-sequences : tie.Need-enum-known-sequences Inv-loop2 μ-loop2 Inv-loop3 μ-loop3 Inv-loop μ-loop
 enum-known-sequences c = search needs
 
--- src/lib.rt:604:37
-index-requires : tie.Need-index-requires Inv-loop μ-loop
+-- src/lib.rt:647:37
+index-requires : tie.Need-index-requires Inv-loop2 μ-loop2 Inv-loop3 μ-loop3 Inv-loop μ-loop
 index-requires c κs = search needs
 
--- src/lib.rt:605:76
-mul-seen : tie.Need-mul-seen Inv-loop μ-loop
+-- src/lib.rt:648:76
+mul-seen : tie.Need-mul-seen Inv-loop2 μ-loop2 Inv-loop3 μ-loop3 Inv-loop μ-loop
 mul-seen c = search needs
 
--- src/lib.rt:605:76
-array-copy-out-seen : tie.Need-array-copy-out-seen Inv-loop μ-loop
+-- src/lib.rt:648:76
+array-copy-out-seen : tie.Need-array-copy-out-seen Inv-loop2 μ-loop2 Inv-loop3 μ-loop3 Inv-loop μ-loop
 array-copy-out-seen c = search needs
 
--- src/lib.rt:605:37
-seen-requires : tie.Need-seen-requires Inv-loop μ-loop
+-- src/lib.rt:648:37
+seen-requires : tie.Need-seen-requires Inv-loop2 μ-loop2 Inv-loop3 μ-loop3 Inv-loop μ-loop
 seen-requires c κs = search needs
 
--- src/lib.rt:616:33
-keep-requires : tie.Need-keep-requires Inv-loop μ-loop
+-- src/lib.rt:659:33
+keep-requires : tie.Need-keep-requires Inv-loop2 μ-loop2 Inv-loop3 μ-loop3 Inv-loop μ-loop
 keep-requires c κs = search needs
 
--- src/lib.rt:618:71
-cast-frame-size : tie.Need-cast-frame-size Inv-loop μ-loop
+-- src/lib.rt:661:71
+cast-frame-size : tie.Need-cast-frame-size Inv-loop2 μ-loop2 Inv-loop3 μ-loop3 Inv-loop μ-loop
 cast-frame-size c = search needs
 
--- src/lib.rt:618:71
-mul-frame-size : tie.Need-mul-frame-size Inv-loop μ-loop
-mul-frame-size c = omega (arith, framed-found (c .before .before .before .before .before .before .before .before .before .before .before .before .before .before .before .before .before .before .before .before .before .before .loop .frames) (c .before .before .before .before .before .before .before .before .before .before .before .before .before .before .before .before .before .before .before .before .before .before .loop .st) (c .before .before .before .before .before .before .before .before .before .before .before .before .measure .result .agree) (c .before .before .before .before .before .before .before .before .before .before .before .before .measure .result .octets) (c .before .before .before .before .before .before .before .before .before .before .before .before .before .before .before .start .given .0 .1 .0) (c .before .before .before .before .before .before .before .before .before .before .before .frame-of .ensures) (c .before .before .before .before .before .before .before .before .before .sequences .given .1))
+-- src/lib.rt:661:71
+mul-frame-size : tie.Need-mul-frame-size Inv-loop2 μ-loop2 Inv-loop3 μ-loop3 Inv-loop μ-loop
+mul-frame-size c = omega (arith, framed-found (c .before .before .before .before .before .before .before .before .before .before .before .before .before .before .before .before .before .before .before .before .before .before .before .before .before .before .loop .frames) (c .before .before .before .before .before .before .before .before .before .before .before .before .before .before .before .before .before .before .before .before .before .before .before .before .before .before .loop .st) (c .before .before .before .before .before .before .before .before .before .before .before .before .measure .result .agree) (c .before .before .before .before .before .before .before .before .before .before .before .before .measure .result .octets) (c .before .before .before .before .before .before .before .before .before .before .before .before .before .before .before .effect7 .given .0 .1 .0) (c .before .before .before .before .before .before .before .before .before .before .before .frame-of .ensures) (c .before .before .before .before .before .before .before .before .before .sequences .given .1))
 
--- src/lib.rt:618:39
-frame-size-requires : tie.Need-frame-size-requires Inv-loop μ-loop
-frame-size-requires c κs = (groups-small (c .before .before .before .before .before .before .before .before .before .before .before .before .before .before .before .before .before .before .before .before .before .before .loop .inv) (c .before .before .before .before .before .before .before .before .before .before .before .before .before .channels-of .result) (c .before .before .before .before .before .before .before .before .before .before .before .before .measure .result) (c .before .before .before .before .before .before .before .before .before .before .before .before .before .channels-of .ensures) (c .before .before .before .before .before .before .before .before .before .before .before .before .measure .ensures), omega (arith, framed-found (c .before .before .before .before .before .before .before .before .before .before .before .before .before .before .before .before .before .before .before .before .before .before .loop .frames) (c .before .before .before .before .before .before .before .before .before .before .before .before .before .before .before .before .before .before .before .before .before .before .loop .st) (c .before .before .before .before .before .before .before .before .before .before .before .before .measure .result .agree) (c .before .before .before .before .before .before .before .before .before .before .before .before .measure .result .octets) (c .before .before .before .before .before .before .before .before .before .before .before .before .before .before .before .start .given .0 .1 .0) (c .before .before .before .before .before .before .before .before .before .before .before .frame-of .ensures) (c .before .before .before .before .before .before .before .before .before .sequences .given .1)))
+-- src/lib.rt:661:39
+frame-size-requires : tie.Need-frame-size-requires Inv-loop2 μ-loop2 Inv-loop3 μ-loop3 Inv-loop μ-loop
+frame-size-requires c κs = (passing-groups (passing-filled (c .before .before .before .before .before .before .before .before .before .before .before .before .before .before .before .before .before .before .before .before .before .before .before .before .before .before .loop .inv) (c .before .before .before .before .before .before .before .before .before .before .before .before .before .before .before .before .before .before .loop2 .inv .1)) (c .before .before .before .before .before .before .before .before .before .before .before .before .before .channels-of .result) (c .before .before .before .before .before .before .before .before .before .before .before .before .measure .result) (c .before .before .before .before .before .before .before .before .before .before .before .before .before .channels-of .ensures) (c .before .before .before .before .before .before .before .before .before .before .before .before .measure .ensures) (reached-frame _ (c .before .before .before .before .before .before .before .before .before .before .before .before .before .before .before .before .before .before .before .reach .ensures) (c .before .before .before .before .before .before .before .before .before .before .before .before .before .before .before .effect7 .given .1) (c .before .before .before .before .before .before .before .before .before .before .before .before .before .before .before .before .before .loop2-test .left) (c .before .before .before .before .before .before .before .before .before .before .before .before .before .before .before .before .before .before .before .before .before .before .before .before .before .before .loop .inv .pass .counted) (c .before .before .before .before .before .before .before .before .before .before .before .before .before .channels-of .ensures)), omega (arith, framed-found (c .before .before .before .before .before .before .before .before .before .before .before .before .before .before .before .before .before .before .before .before .before .before .before .before .before .before .loop .frames) (c .before .before .before .before .before .before .before .before .before .before .before .before .before .before .before .before .before .before .before .before .before .before .before .before .before .before .loop .st) (c .before .before .before .before .before .before .before .before .before .before .before .before .measure .result .agree) (c .before .before .before .before .before .before .before .before .before .before .before .before .measure .result .octets) (c .before .before .before .before .before .before .before .before .before .before .before .before .before .before .before .effect7 .given .0 .1 .0) (c .before .before .before .before .before .before .before .before .before .before .before .frame-of .ensures) (c .before .before .before .before .before .before .before .before .before .sequences .given .1)))
 
--- src/lib.rt:617:40
-add-size : tie.Need-add-size Inv-loop μ-loop
-add-size c = omega (arith, c .before .before .before .before .before .before .before .before .before .before .before .before .before .before .before .before .before .before .before .before .before .before .before .loop .inv .room, c .before .before .before .before .before .before .before .before .before .before .before .before .before .before .before .before .before .before .before .before .before .before .before .loop .inv .limit, c .frame-size .ensures .1)
+-- src/lib.rt:660:40
+add-size : tie.Need-add-size Inv-loop2 μ-loop2 Inv-loop3 μ-loop3 Inv-loop μ-loop
+add-size c = omega (arith, c .before .before .before .before .before .before .before .before .before .before .before .before .before .before .before .before .before .before .before .before .before .before .before .before .before .before .before .loop .inv .pass .room, c .before .before .before .before .before .before .before .before .before .before .before .before .before .before .before .before .before .before .before .before .before .before .before .before .before .before .before .loop .inv .pass .limit, c .frame-size .ensures .1)
 
--- src/lib.rt:620:42
-add-frames : tie.Need-add-frames Inv-loop μ-loop
-add-frames c = omega (arith, c .before .before .before .before .before .before .before .before .before .before .before .before .before .before .before .before .before .before .before .before .before .before .before .loop .inv .limit)
+-- src/lib.rt:663:42
+add-frames : tie.Need-add-frames Inv-loop2 μ-loop2 Inv-loop3 μ-loop3 Inv-loop μ-loop
+add-frames c = omega (arith, c .before .before .before .before .before .before .before .before .before .before .before .before .before .before .before .before .before .before .before .before .before .before .before .before .before .before .before .loop .inv .pass .limit)
 
--- src/lib.rt:557:5
-loop-less-7 : tie.Need-loop-less-7 Inv-loop μ-loop
-loop-less-7 c = omega (arith, next-later _ _ (c .before .before .before .before .before .before .before .before .before .before .before .before .before .before .before .before .before .before .before .before .before .before .next-item .ensures) (c .before .before .before .before .before .before .before .before .before .before .before .before .before .before .before .before .before .before .before .before .item .given .1))
+-- src/lib.rt:586:5
+loop-less-9 : tie.Need-loop-less-9 Inv-loop2 μ-loop2 Inv-loop3 μ-loop3 Inv-loop μ-loop
+loop-less-9 c = omega (arith, next-later _ _ (c .before .before .before .before .before .before .before .before .before .before .before .before .before .before .before .before .before .before .before .before .before .before .before .before .before .before .next-item .ensures) (c .before .before .before .before .before .before .before .before .before .before .before .before .before .before .before .before .before .before .before .before .before .before .before .before .item .given .1))
 
-in64 : (c : tie.After-frame-size Inv-loop μ-loop) → SFits w64 (c .before .before .before .before .before .before .before .before .before .before .before .before .before .before .before .before .before .before .before .before .before .before .before .loop .st .start)
+-- src/lib.rt:586:5
+in64 : (c : tie.After-frame-size Inv-loop2 μ-loop2 Inv-loop3 μ-loop3 Inv-loop μ-loop) → SFits w64 (c .before .before .before .before .before .before .before .before .before .before .before .before .before .before .before .before .before .before .before .before .before .before .before .before .before .before .before .loop .st .start)
 in64 c = search needs
 
--- src/lib.rt:557:5
-loop-again-7 : tie.Need-loop-again-7 Inv-loop μ-loop
-loop-again-7 c = scanning-frame (c .before .before .before .before .before .before .before .before .before .before .before .before .before .before .before .before .before .before .before .before .before .before .before .loop .inv) (c .before .before .before .before .before .before .before .before .before .before .before .before .before .before .channels-of .result) (c .before .before .before .before .before .before .before .before .before .before .before .before .before .measure .result) (c .before .before .before .before .before .before .before .before .before .before .before .before .before .before .channels-of .ensures) (c .before .before .before .before .before .before .before .before .before .before .before .before .before .measure .ensures) (c .before .before .before .before .before .before .before .before .before .before .before .before .before .before .before .before .before .before .before .before .before .before .next-item .ensures) (c .before .before .before .before .before .before .before .before .before .before .before .before .before .before .before .before .before .before .before .before .item .given .1) (c .before .before .before .before .before .before .before .before .before .before .before .before .before .before .before .before .before .before .item-effect .ensures) (c .before .before .before .before .before .before .before .before .before .before .before .before .before .before .before .before .start .given .1) (c .before .before .before .before .before .before .before .before .before .before .before .before .frame-of .ensures) (c .before .before .before .before .before .before .before .before .before .before .sequences .given .1) (c .before .before .before .before .before .seen .ensures ∙ ap (λ (k : ℕ). pick (ltb (c .before .before .before .before .before .before .before .before .before .before .before .before .before .before .before .before .before .before .before .before .before .before .before .before .before .before .before .before .before .args .asked .channel) (c .before .before .before .before .before .before .before .before .before .before .before .before .before .before .channels-of .result)) (getD (c .before .before .before .before .before .before .before .before .before .before .before .before .before .before .before .before .before .before .before .before .before .before .before .loop .table) k zeroSettings) defaultSettings) (c .before .before .before .before .before .before .before .before .index .ensures)) (view-read (record { start = c .before .before .before .before .before .before .before .before .before .before .before .before .before .before .before .before .before .before .before .before .before .before .before .loop .st .start; channels = c .before .before .before .before .before .before .before .before .before .before .before .before .before .before .channels-of .result; sequences = c .before .before .before .before .before .before .before .before .before .before .sequences .given .0 .0; little = c .before .before .before .before .before .before .before .before .before .before .before .before .before .before .before .before .before .before .before .before .before .before .before .loop .st .little; place = c .before .before .before .before .before .before .before .before .before .before .before .before .before .before .before .before .start .given .0 .0; octets = c .before .before .before .before .before .before .before .before .before .before .before .before .before .measure .result .octets; below = c .before .before .before .before .before .before .before .before .before .before .before .before .before .measure .result .below; settings = c .before .before .before .before .before .seen .result }) (toZ-ofZ (in64 c))) (c .before .before .keep .ensures) (c .frame-size .ensures)
+loop-again-9 : tie.Need-loop-again-9 Inv-loop2 μ-loop2 Inv-loop3 μ-loop3 Inv-loop μ-loop
+loop-again-9 c = passing-frame (passing-filled (c .before .before .before .before .before .before .before .before .before .before .before .before .before .before .before .before .before .before .before .before .before .before .before .before .before .before .before .loop .inv) (c .before .before .before .before .before .before .before .before .before .before .before .before .before .before .before .before .before .before .before .loop2 .inv .1)) (c .before .before .before .before .before .before .before .before .before .before .before .before .before .before .channels-of .result) (c .before .before .before .before .before .before .before .before .before .before .before .before .before .measure .result) (c .before .before .before .before .before .before .before .before .before .before .before .before .before .before .channels-of .ensures) (c .before .before .before .before .before .before .before .before .before .before .before .before .before .measure .ensures) (reached-frame _ (c .before .before .before .before .before .before .before .before .before .before .before .before .before .before .before .before .before .before .before .before .reach .ensures) (c .before .before .before .before .before .before .before .before .before .before .before .before .before .before .before .before .effect7 .given .1) (c .before .before .before .before .before .before .before .before .before .before .before .before .before .before .before .before .before .before .loop2-test .left) (c .before .before .before .before .before .before .before .before .before .before .before .before .before .before .before .before .before .before .before .before .before .before .before .before .before .before .before .loop .inv .pass .counted) (c .before .before .before .before .before .before .before .before .before .before .before .before .before .before .channels-of .ensures)) (c .before .before .before .before .before .before .before .before .before .before .before .before .before .before .before .before .before .before .before .before .before .before .before .before .before .before .next-item .ensures) (c .before .before .before .before .before .before .before .before .before .before .before .before .before .before .before .before .before .before .before .before .before .before .before .before .item .given .1) (c .before .before .before .before .before .before .before .before .before .before .before .before .before .before .before .before .before .before .before .before .before .before .item-effect .ensures) (c .before .before .before .before .before .before .before .before .before .before .before .before .before .before .before .before .effect7 .given .1) (c .before .before .before .before .before .before .before .before .before .before .before .before .frame-of .ensures) (c .before .before .before .before .before .before .before .before .before .before .sequences .given .1) (c .before .before .before .before .before .seen .ensures ∙ ap (λ (k : ℕ). pick (ltb (c .before .before .before .before .before .before .before .before .before .before .before .before .before .before .before .before .before .before .before .before .before .before .before .before .before .before .before .before .before .before .before .before .before .args .asked .channel) (c .before .before .before .before .before .before .before .before .before .before .before .before .before .before .channels-of .result)) (getD (c .before .before .before .before .before .before .before .before .before .before .before .before .before .before .before .before .before .before .before .loop2 .table) k zeroSettings) defaultSettings) (c .before .before .before .before .before .before .before .before .index .ensures)) (view-read (record { start = c .before .before .before .before .before .before .before .before .before .before .before .before .before .before .before .before .before .before .before .before .before .before .before .before .before .before .before .loop .st .start; channels = c .before .before .before .before .before .before .before .before .before .before .before .before .before .before .channels-of .result; sequences = c .before .before .before .before .before .before .before .before .before .before .sequences .given .0 .0; little = c .before .before .before .before .before .before .before .before .before .before .before .before .before .before .before .before .before .before .before .before .before .before .before .before .before .before .before .loop .st .little; place = c .before .before .before .before .before .before .before .before .before .before .before .before .before .before .before .before .effect7 .given .0 .0; octets = c .before .before .before .before .before .before .before .before .before .before .before .before .before .measure .result .octets; below = c .before .before .before .before .before .before .before .before .before .before .before .before .before .measure .result .below; settings = c .before .before .before .before .before .seen .result }) (toZ-ofZ (in64 c))) (c .before .before .keep .ensures) (c .frame-size .ensures)
 
--- src/lib.rt:624:37
-enum-known-number-2 : tie.Need-enum-known-number-2 Inv-loop μ-loop
-enum-known-number-2 c = search needs
+-- src/lib.rt:667:37
+enum-known-effect-8 : tie.Need-enum-known-effect-8 Inv-loop2 μ-loop2 Inv-loop3 μ-loop3 Inv-loop μ-loop
+enum-known-effect-8 c = search needs
 
--- src/lib.rt:627:36
-place-of-requires-2 : tie.Need-place-of-requires-2 Inv-loop μ-loop
+-- src/lib.rt:670:36
+place-of-requires-2 : tie.Need-place-of-requires-2 Inv-loop2 μ-loop2 Inv-loop3 μ-loop3 Inv-loop μ-loop
 place-of-requires-2 c κs = search needs
 
--- src/lib.rt:625:25
-refused-scan-requires-4 : tie.Need-refused-scan-requires-4 Inv-loop μ-loop
+-- src/lib.rt:668:25
+refused-scan-requires-4 : tie.Need-refused-scan-requires-4 Inv-loop2 μ-loop2 Inv-loop3 μ-loop3 Inv-loop μ-loop
 refused-scan-requires-4 c κs = search needs
 
--- src/lib.rt:625:25
-returns-5 : tie.Need-returns-5 Inv-loop μ-loop
+-- src/lib.rt:668:25
+returns-5 : tie.Need-returns-5 Inv-loop2 μ-loop2 Inv-loop3 μ-loop3 Inv-loop μ-loop
 unfolding carried
-returns-5 c = c .refused-scan4 .ensures ∙ scanned-refuses (c .before .before .before .before .before .before .before .before .before .before .loop .inv) _ _ (c .before .before .before .before .before .before .before .before .before .next-item .ensures) (c .before .before .before .before .before .before .before .item .given .1) (c .before .place-of2 .ensures) (carried-by _ _ _ (c .before .before .before .before .before .item-effect .ensures) (c .before .before .before .number2 .given .1))
+returns-5 c = c .refused-scan4 .ensures ∙ scanned-refuses ((passing-filled (c .before .before .before .before .before .before .before .before .before .before .before .before .before .before .loop .inv) (c .before .before .before .before .before .before .loop2 .inv .1)) .pass) _ _ (c .before .before .before .before .before .before .before .before .before .before .before .before .before .next-item .ensures) (c .before .before .before .before .before .before .before .before .before .before .before .item .given .1) (c .before .place-of2 .ensures) (carried-by _ _ _ (c .before .before .before .before .before .before .before .before .before .item-effect .ensures) (c .before .before .before .effect8 .given .1))
 
 pub scan-file-spec : {M : Type 1} → statement M
 scan-file-spec =
     tie.close
     (tie.spec
+    Inv-loop2
+    μ-loop2
+    Inv-loop3
+    μ-loop3
     Inv-loop
     μ-loop
     refused-scan-requires
@@ -334,33 +453,58 @@ scan-file-spec =
     returns-3
     enum-known-item
     item-effect-requires
+    reach-requires
+    loop2-holds
+    mul-table
+    array-set-from-table
+    add-own
+    loop2-less
+    loop2-again
     enum-told-2
     loop-less
     loop-again
-    enum-known-x-2
+    enum-known-effect
+    with-order-requires
     loop-less-2
     loop-again-2
-    enum-known-x-3
+    enum-known-effect-2
+    with-count-requires
     loop-less-3
     loop-again-3
-    enum-known-change
-    apply-requires
-    with-root-requires
-    apply-all-requires
+    enum-known-effect-3
+    with-sequences-requires
     loop-less-4
     loop-again-4
-    enum-known-channel
-    cast-k
-    mul-apply
-    array-copy-out-apply
-    apply-requires-2
-    mul-table
-    array-set-from-table
+    enum-known-effect-4
+    with-start-requires
     loop-less-5
     loop-again-5
+    enum-known-effect-5
+    loop3-holds
+    mul-apply
+    array-copy-out-apply
+    apply-requires
+    mul-table-2
+    array-set-from-table-2
+    add-i
+    loop3-less
+    loop3-again
+    apply-requires-2
+    with-root-requires
     loop-less-6
     loop-again-6
-    enum-known-start
+    enum-known-effect-6
+    cast-k
+    mul-apply-2
+    array-copy-out-apply-2
+    apply-requires-3
+    mul-table-3
+    array-set-from-table-3
+    loop-less-7
+    loop-again-7
+    loop-less-8
+    loop-again-8
+    enum-known-effect-7
     channels-of-requires
     measure-requires
     frame-of-requires
@@ -379,9 +523,9 @@ scan-file-spec =
     frame-size-requires
     add-size
     add-frames
-    loop-less-7
-    loop-again-7
-    enum-known-number-2
+    loop-less-9
+    loop-again-9
+    enum-known-effect-8
     place-of-requires-2
     refused-scan-requires-4
     returns-5)
