@@ -305,7 +305,7 @@ fn write_frames(s: &[u8], out: &mut [u8]) -> usize
                 return at;
             }
             Next::Found(item, next) => {
-                c = next;
+                c = next.renewed();
                 let effect = reader::item_effect(s, st, item);
                 let root = st.root;
                 let n = reader::reach(effect, st.counted);

@@ -336,6 +336,29 @@ impl Cursor {
             within: Within::Root,
         }
     }
+
+    // The same cursor, put together from its parts. A pass that keeps it so need not wait, as a copy of the whole must, until
+    // parts that were just stored can be read together.
+    pub fn renewed(self) -> Cursor
+        ensures { λ r. ⌜ r ≡ self ⌝ }
+    {
+        let at = self.at;
+        let within = self.within;
+        match within {
+            Within::Root => Cursor {
+                at,
+                within: Within::Root,
+            },
+            Within::Definite { channel, end } => Cursor {
+                at,
+                within: Within::Definite { channel, end },
+            },
+            Within::Open { channel, place } => Cursor {
+                at,
+                within: Within::Open { channel, place },
+            },
+        }
+    }
 }
 
 // A definite group is left at its end.

@@ -596,7 +596,7 @@ pub fn scan_file(s: &[u8], asked: Asked) -> Scan
                 return refused_scan(x);
             }
             Next::Found(item, next) => {
-                c = next;
+                c = next.renewed();
                 let effect = item_effect(s, st, item);
                 let root = st.root;
                 let n = reach(effect, st.counted);
