@@ -23,12 +23,12 @@ use Rattle.settings.specs.declared.Settings.{Settings}
 use Rattle.settings.specs.Settings.{channelLimit, defaultTable}
 use Rattle.settings.specs.Define.{tagged}
 use Rattle.layout.specs.Frame.{Frame, sequenceOctets, allAgree}
-use Rattle.reader.specs.declared.Standing.{Standing}
-use Rattle.reader.specs.declared.Framed.the-variants.{Taken}
-use Rattle.reader.specs.Standing.{rootEffect, withContinued}
-use Rattle.reader.specs.Framing.{octetsLimit, framesLimit, channelsOf, pointerAfter, framedAs}
+use Rattle.effects.specs.declared.Standing.{Standing}
+use Rattle.effects.specs.declared.Framed.the-variants.{Taken}
+use Rattle.effects.specs.Standing.{rootEffect, withContinued}
+use Rattle.effects.specs.Framing.{octetsLimit, framesLimit, channelsOf, pointerAfter, framedAs}
 use Rattle.reader.specs.Verdict.{State, state, goes, frameChannels, withFrame, carried}
-use Rattle.reader.proofs.Framings.{pointer-small, framed-taken}
+use Rattle.effects.proofs.Framings.{pointer-small, framed-taken}
 use Rattle.canonical.specs.Recording.{Recorded}
 use Rattle.canonical.specs.Canonical.{item, numberItem, groupOctets, groupsOctets, sequencesItem, unsignedOf, waveformOf, frameOctets}
 use Rattle.canonical.proofs.Good.{AllSettled, GoodRecorded}

@@ -15,7 +15,7 @@ use Rattle.settings.specs.declared.Settings.{Settings}
 use Rattle.settings.specs.Settings.{defaultTable}
 use Rattle.settings.specs.Define.{tagged}
 use Rattle.layout.specs.Frame.{Frame}
-use Rattle.reader.specs.Framing.{octetsLimit, framesLimit}
+use Rattle.effects.specs.Framing.{octetsLimit, framesLimit}
 use Rattle.reader.specs.Verdict.{State, state, firstState, Verdict, accepted, carried, verdict}
 use Rattle.runs.specs.Length.{shortest}
 use Rattle.canonical.specs.Recording.{Recorded, recording}

@@ -27,9 +27,9 @@ use Rattle.settings.specs.declared.Defined.the-variants.{Changed}
 use Rattle.settings.specs.Settings.{zeroSettings, applied}
 use Rattle.settings.specs.Define.{tagged, defined}
 use Rattle.layout.specs.Frame.{Frame}
-use Rattle.reader.specs.declared.Standing.{Standing}
-use Rattle.reader.specs.Standing.{effectOf, plainEffect, rootEffect, memberEffect, oneEffect, groupEffect}
-use Rattle.reader.specs.Framing.{octetsLimit}
+use Rattle.effects.specs.declared.Standing.{Standing}
+use Rattle.effects.specs.Standing.{effectOf, plainEffect, rootEffect, memberEffect, oneEffect, groupEffect}
+use Rattle.effects.specs.Framing.{octetsLimit}
 use Rattle.reader.specs.Verdict.{State, state, Verdict, accepted, goes, oneChanged, carried, placeAt, afterItem, interpret}
 use Rattle.canonical.specs.Canonical.{item}
 use Rattle.canonical.proofs.Known.{usual, group, startAt, ahead, Inside, rest-known, value-known, next-plain, next-group, inside-first, next-member, member-rest, inside-next, next-left}

@@ -37,19 +37,19 @@ use Rattle.layout.specs.Frame.{Frame, sequenceOctets}
 use Rattle.layout.specs.declared.Layout.{Layout}
 use Rattle.layout.specs.Measure.{layoutOf}
 use Rattle.layout.specs.Size.{groupsSize, frameSize}
-use Rattle.reader.specs.declared.Standing.{Standing}
-use Rattle.reader.specs.declared.Effect.{Effect}
-use Rattle.reader.specs.declared.Framed.{Framed}
-use Rattle.reader.specs.declared.Framed.the-variants.{Taken}
-use Rattle.reader.specs.Standing.{firstStanding, effectOf, valueAt}
-use Rattle.reader.specs.Framing.{octetsLimit, channelsOf, framedAs}
+use Rattle.effects.specs.declared.Standing.{Standing}
+use Rattle.effects.specs.declared.Effect.{Effect}
+use Rattle.effects.specs.declared.Framed.{Framed}
+use Rattle.effects.specs.declared.Framed.the-variants.{Taken}
+use Rattle.effects.specs.Standing.{firstStanding, effectOf, valueAt}
+use Rattle.effects.specs.Framing.{octetsLimit, channelsOf, framedAs}
 use Rattle.reader.specs.Verdict.{State, state, firstState, Outcome, goes, refuses, frameChannels, frameAt, withFrame, carried, placeAt, Verdict, accepted, refused, interpret, verdict}
 use Rattle.reader.specs.Answer.{zeroFrame, sizeOf, sizes, scannedIn, scanOf}
 use Rattle.reader.specs.declared.Asked.{Asked}
 use Rattle.reader.specs.declared.Checked.{Checked}
 use Rattle.reader.specs.declared.Scan.{Scan}
 use Rattle.reader.proofs.Keeps.{meaning, Kept, Keeps, frames-kept, accepted-by, interpret-goes, interpret-refuses, interpret-finished, interpret-fault, firstCursor}
-use Rattle.reader.proofs.Framings.{pointer-small}
+use Rattle.effects.proofs.Framings.{pointer-small}
 use Rattle.settings.proofs.Shown.{shown, shown-none}
 use Rattle.reader.proofs.Scans.{channels-few, framed-found, shownBy, Records, Filling, shown-full, frame-shown}
 use Rattle.reader.proofs.Ordered.{Lies, accepted-lies, accepted-small}

@@ -9,7 +9,7 @@ use Rattle.octets.specs.Pick.{pick, both}
 use Rattle.items.specs.Refusals.{bufferShort}
 use Rattle.items.specs.Walk.{refusal}
 use Rattle.layout.specs.Frame.{Frame}
-use Rattle.reader.specs.Framing.{octetsLimit}
+use Rattle.effects.specs.Framing.{octetsLimit}
 use Rattle.reader.specs.Answer.{sizes}
 use Rattle.reader.specs.Verdict.{Verdict, accepted, refused, verdict}
 use Rattle.canonical.specs.declared.Written.{Written}

@@ -19,14 +19,14 @@ ghost use Rattle.canonical.specs.Recording.{settled};
 ghost use Rattle.canonical.specs.Canonical.{channelOctets, scaleItem, groupItems, groupOctets, groupsOctets, sequencesItem};
 ghost use Rattle.canonical.specs.Write.{canonicalOf, Ready, writtenOf, leftOf};
 ghost use Rattle.canonical.specs.Parts.{unsignedBy, firstItems, scaleItems, lastItems, headItems, samplesTurned, frameParts};
+use effects::Effect;
+use effects::Framed;
+use effects::Standing;
 use items::Cursor;
 use items::Next;
 use items::Refusal;
 use reader::Asked;
 use reader::Checked;
-use reader::Effect;
-use reader::Framed;
-use reader::Standing;
 use settings::Scale;
 use settings::Settings;
 
@@ -306,9 +306,9 @@ fn write_frames(s: &[u8], out: &mut [u8]) -> usize
             }
             Next::Found(item, next) => {
                 c = next.renewed();
-                let effect = reader::item_effect(s, st, item);
+                let effect = effects::item_effect(s, st, item);
                 let root = st.root;
-                let n = reader::reach(effect, st.counted);
+                let n = effects::reach(effect, st.counted);
                 while own < n {
                     table[own] = root;
                     own += 1;
@@ -343,9 +343,9 @@ fn write_frames(s: &[u8], out: &mut [u8]) -> usize
                         }
                     }
                     Effect::Frame { start, len } => {
-                        let count = reader::channels_of(st.counted);
+                        let count = effects::channels_of(st.counted);
                         let l = layout::measure(table, count, 0);
-                        match reader::frame_of(frames, st, l.agree, l.octets, len) {
+                        match effects::frame_of(frames, st, l.agree, l.octets, len) {
                             Framed::Refused(_) => {
                                 return at;
                             }

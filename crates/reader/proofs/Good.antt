@@ -28,9 +28,9 @@ use Rattle.settings.specs.declared.Change.{Change}
 use Rattle.settings.specs.Settings.{blockLimit, lastKind, lastIntervalUnit, lastResolutionUnit, defaultSettings}
 use Rattle.settings.specs.Define.{bitsLength, lengthFits, scaleOf, bitsOf, changeOf, scaleFits, inRange}
 use Rattle.layout.specs.Frame.{Frame, sequenceOctets, channelAgrees, allAgree}
-use Rattle.reader.specs.declared.Standing.{Standing}
-use Rattle.reader.specs.Standing.{valueAt}
-use Rattle.reader.specs.Framing.{channelsOf}
+use Rattle.effects.specs.declared.Standing.{Standing}
+use Rattle.effects.specs.Standing.{valueAt}
+use Rattle.effects.specs.Framing.{channelsOf}
 use Rattle.reader.specs.Verdict.{State, firstState, frameChannels, frameAt, accepted, verdict}
 use Rattle.reader.specs.Answer.{zeroFrame}
 use Rattle.reader.proofs.Keeps.{Keeps, accepted-kept}

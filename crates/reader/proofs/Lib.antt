@@ -1,4 +1,3 @@
-pub mod Framings
 pub mod Keeps
 pub mod Steps
 pub mod Every

@@ -25,7 +25,7 @@ use Rattle.settings.specs.declared.Change.{Change}
 use Rattle.settings.specs.Settings.{blockLimit, lastKind, defaultSettings}
 use Rattle.settings.specs.Define.{inRange}
 use Rattle.layout.specs.Frame.{blockOctets, sequenceOctets}
-use Rattle.reader.specs.Framing.{octetsLimit, channelsOf}
+use Rattle.effects.specs.Framing.{octetsLimit, channelsOf}
 use Rattle.reader.specs.Verdict.{State, firstState, frameChannels, refused, interpret, verdict}
 use Rattle.reader.proofs.Keeps.{Keeps, verdict-law, firstCursor, items-first}
 use Rattle.reader.proofs.Steps.{meaning-steps, meaning-refused}

@@ -38,19 +38,19 @@ use Rattle.layout.specs.Frame.{Frame, sequenceOctets, octetsBelow, allAgree, ch
 use Rattle.layout.specs.Size.{frameSize, groupsSize}
 use Rattle.layout.specs.Measure.{layoutOf}
 use Rattle.layout.proofs.Laws.{groups-few}
-use Rattle.reader.specs.declared.Standing.{Standing}
-use Rattle.reader.specs.declared.Effect.{Effect}
-use Rattle.reader.specs.declared.Framed.{Framed}
-use Rattle.reader.specs.declared.Framed.the-variants.{Taken}
+use Rattle.effects.specs.declared.Standing.{Standing}
+use Rattle.effects.specs.declared.Effect.{Effect}
+use Rattle.effects.specs.declared.Framed.{Framed}
+use Rattle.effects.specs.declared.Framed.the-variants.{Taken}
 use Rattle.reader.specs.declared.Asked.{Asked}
 use Rattle.reader.specs.declared.View.{View}
 use Rattle.reader.specs.declared.Found.{Found}
 use Rattle.reader.specs.declared.Found.the-variants.{Nothing}
 use Rattle.reader.specs.declared.Checked.{Checked}
 use Rattle.reader.specs.declared.Scan.{Scan}
-use Rattle.reader.specs.Standing.{firstStanding, withOrder, withCount, withSequences, withStart, withRoot, withContinued, valueAt, effectOf}
-use Rattle.reader.specs.Reach.{reachOf}
-use Rattle.reader.specs.Framing.{octetsLimit, framesLimit, channelsOf, sequencesOf, pointerFits, pointerAfter, framedAs}
+use Rattle.effects.specs.Standing.{firstStanding, withOrder, withCount, withSequences, withStart, withRoot, withContinued, valueAt, effectOf}
+use Rattle.effects.specs.Reach.{reachOf}
+use Rattle.effects.specs.Framing.{octetsLimit, framesLimit, channelsOf, sequencesOf, pointerFits, pointerAfter, framedAs}
 use Rattle.reader.specs.Verdict.{State, state, firstState, Outcome, goes, refuses, oneChanged, frameChannels, frameAt, withFrame, carried, placeAt, Verdict, accepted, refused, afterItem, interpret, verdict}
 use Rattle.reader.proofs.Keeps.{interpret-goes, interpret-refuses}
 use Rattle.reader.specs.Answer.{zeroFrame, viewOf, foundIn, sizeOf, sizes, refusedScan, scannedIn, scanOf}
@@ -389,6 +389,10 @@ module _ {own : ℕ} {table : List Settings} (k : Records own table) where
       (λ t. simp t)
 
 -- ---- the pass over the records
+
+-- An item is found with the cursor behind it, however that is kept.
+pub found-as : {n : Next} {i : Item} {d d' : Cursor} → n ≡ FoundItem i d → d' ≡ d → n ≡ FoundItem i d'
+found-as {i = i} e f = e ∙ ap (FoundItem i) (sym f)
 
 -- What is known where the pass stands before the item at a cursor.
 pub record Passing (s : List ℕ) (q : Asked) (table : List Settings) (own : ℕ) (c : Cursor) (st : Standing) (frames : ℕ) (found : Found) (size : ℕ) : Type 0 where

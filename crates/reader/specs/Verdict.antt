@@ -10,14 +10,14 @@ use Rattle.items.specs.Refusals.{fileLimit}
 use Rattle.items.specs.Walk.{Items, item, finished, fault, itemsOf, refusal}
 use Rattle.settings.specs.declared.Settings.{Settings}
 use Rattle.settings.specs.Settings.{channelLimit, defaultTable, zeroSettings, applied, allApplied}
-use Rattle.reader.specs.declared.Standing.{Standing}
-use Rattle.reader.specs.declared.Effect.{Effect}
-use Rattle.reader.specs.declared.Framed.{Framed}
+use Rattle.effects.specs.declared.Standing.{Standing}
+use Rattle.effects.specs.declared.Effect.{Effect}
+use Rattle.effects.specs.declared.Framed.{Framed}
 use Rattle.reader.specs.declared.Checked.{Checked}
 use Rattle.reader.specs.declared.Checked.the-variants.{Frames}
-use Rattle.reader.specs.Standing.{firstStanding, withOrder, withCount, withSequences, withStart, withRoot, valueAt, effectOf}
+use Rattle.effects.specs.Standing.{firstStanding, withOrder, withCount, withSequences, withStart, withRoot, valueAt, effectOf}
 use Rattle.layout.specs.Frame.{Frame, sequenceOctets, allAgree}
-use Rattle.reader.specs.Framing.{octetsLimit, channelsOf, framedAs}
+use Rattle.effects.specs.Framing.{octetsLimit, channelsOf, framedAs}
 
 -- What stands between two items: what stands outside the channels' own records, those records, and the frames met so far.
 pub record State : Type 0 where

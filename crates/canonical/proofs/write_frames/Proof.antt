@@ -9,34 +9,35 @@ use mir.Syntax.{w64}
 use mir.Val.{SFits}
 use mir.Facts.{toZ-ofZ}
 use Rattle.items.proofs.Walks.{next-later}
-use Rattle.runs.proofs.Stores.{put-long}
 use Rattle.settings.specs.Settings.{channelLimit, zeroSettings, applied}
 use Rattle.settings.proofs.Mapped.{mapped, mapped-put}
-use Rattle.reader.specs.declared.Standing.{Standing}
-use Rattle.reader.specs.Standing.{withStart}
+use Rattle.effects.specs.declared.Standing.{Standing}
+use Rattle.effects.specs.Standing.{withStart}
+use Rattle.runs.proofs.Stores.{put-long}
 use Rattle.reader.specs.Verdict.{carried, withFrame}
 use Rattle.reader.proofs.Steps.{count-found}
-use Rattle.reader.proofs.Scans.{Filling, filling-none, filling-more, reach-few, reached-one, reached-frame, records-set, records-mapped, mapped-own, does-nothing, does-order, does-count, does-sequences, does-start, does-all, does-one, does-outside, carried-by, framed-found}
+use Rattle.reader.proofs.Scans.{Filling, filling-none, filling-more, reach-few, reached-one, reached-frame, records-set, records-mapped, mapped-own, does-nothing, does-order, does-count, does-sequences, does-start, does-all, does-one, does-outside, carried-by, found-as, framed-found}
 use Rattle.canonical.proofs.Writing.{Going, head-put, going-first, going-filled, going-goes, going-carried, going-ready, going-room, going-frame, written-end, never-fault, never-refuses}
 use Rattle.canonical.proofs.write_frames.Statement.{statement}
 use Rattle.canonical.proofs.write_frames.Tie as tie
 use Rattle.canonical.proofs.write_frames.Reads as reads
 use Rattle.canonical.proofs.write_frames.Lts as lts
 use Rattle.canonical.proofs.put_frame.Reads as put-frame-reads
+use Rattle.effects.proofs.Standing.first.Reads as Standing-first-reads
+use Rattle.effects.proofs.Standing.with_count.Reads as with-count-reads
+use Rattle.effects.proofs.Standing.with_order.Reads as with-order-reads
+use Rattle.effects.proofs.Standing.with_root.Reads as with-root-reads
+use Rattle.effects.proofs.Standing.with_sequences.Reads as with-sequences-reads
+use Rattle.effects.proofs.Standing.with_start.Reads as with-start-reads
+use Rattle.effects.proofs.channels_of.Reads as channels-of-reads
+use Rattle.effects.proofs.frame_of.Reads as frame-of-reads
+use Rattle.effects.proofs.item_effect.Reads as item-effect-reads
+use Rattle.effects.proofs.reach.Reads as reach-reads
 use Rattle.items.proofs.Cursor.first.Reads as Cursor-first-reads
+use Rattle.items.proofs.Cursor.renewed.Reads as renewed-reads
 use Rattle.items.proofs.next_item.Reads as next-item-reads
 use Rattle.layout.proofs.measure.Reads as measure-reads
 use Rattle.octets.proofs.part.Reads as part-reads
-use Rattle.reader.proofs.Standing.first.Reads as Standing-first-reads
-use Rattle.reader.proofs.Standing.with_count.Reads as with-count-reads
-use Rattle.reader.proofs.Standing.with_order.Reads as with-order-reads
-use Rattle.reader.proofs.Standing.with_root.Reads as with-root-reads
-use Rattle.reader.proofs.Standing.with_sequences.Reads as with-sequences-reads
-use Rattle.reader.proofs.Standing.with_start.Reads as with-start-reads
-use Rattle.reader.proofs.channels_of.Reads as channels-of-reads
-use Rattle.reader.proofs.frame_of.Reads as frame-of-reads
-use Rattle.reader.proofs.item_effect.Reads as item-effect-reads
-use Rattle.reader.proofs.reach.Reads as reach-reads
 use Rattle.runs.proofs.put_octet.Reads as put-octet-reads
 use Rattle.runs.proofs.put_two.Reads as put-two-reads
 use Rattle.settings.proofs.Settings.table.Reads as table-reads
@@ -116,6 +117,10 @@ returns-2 c = absurd (never-fault (c .before .before .before .loop .inv .pass) _
 enum-known-item : tie.Need-enum-known-item Inv-loop2 μ-loop2 Inv-loop3 μ-loop3 Inv-loop μ-loop
 enum-known-item c = search needs
 
+-- src/lib.rt:308:17
+renewed-requires : tie.Need-renewed-requires Inv-loop2 μ-loop2 Inv-loop3 μ-loop3 Inv-loop μ-loop
+renewed-requires c κs = search needs
+
 -- src/lib.rt:309:21
 item-effect-requires : tie.Need-item-effect-requires Inv-loop2 μ-loop2 Inv-loop3 μ-loop3 Inv-loop μ-loop
 item-effect-requires c κs = search needs
@@ -126,7 +131,7 @@ reach-requires c κs = search needs
 
 -- src/lib.rt:312:17
 loop2-holds : tie.Need-loop2-holds Inv-loop2 μ-loop2 Inv-loop3 μ-loop3 Inv-loop μ-loop
-loop2-holds c = (rw (c .reach .ensures) (reach-few _ _), filling-none (c .before .before .before .before .before .before .before .loop .inv .records))
+loop2-holds c = (rw (c .reach .ensures) (reach-few _ _), filling-none (c .before .before .before .before .before .before .before .before .loop .inv .records))
 
 -- src/lib.rt:313:21
 mul-table : tie.Need-mul-table Inv-loop2 μ-loop2 Inv-loop3 μ-loop3 Inv-loop μ-loop
@@ -153,11 +158,11 @@ enum-told-3 c = search needs
 
 -- src/lib.rt:299:5
 loop-less : tie.Need-loop-less Inv-loop2 μ-loop2 Inv-loop3 μ-loop3 Inv-loop μ-loop
-loop-less c = omega (arith, next-later _ _ (c .before .before .before .before .before .before .before .before .before .before .next-item .ensures) (c .before .before .before .before .before .before .before .before .item .given .1))
+loop-less c = omega (arith, next-later _ _ (c .before .before .before .before .before .before .before .before .before .before .before .next-item .ensures) (found-as (c .before .before .before .before .before .before .before .before .before .item .given .1) (c .before .before .before .before .before .before .before .renewed .ensures)))
 
 -- src/lib.rt:299:5
 loop-again : tie.Need-loop-again Inv-loop2 μ-loop2 Inv-loop3 μ-loop3 Inv-loop μ-loop
-loop-again c = going-goes (going-filled (c .before .before .before .before .before .before .before .before .before .before .before .loop .inv) (c .before .before .before .loop2 .inv .1)) (c .before .before .before .before .before .before .before .before .before .before .next-item .ensures) (c .before .before .before .before .before .before .before .before .item .given .1) (c .before .before .before .loop2 .inv .1 .records) (c .before .before .before .before .before .before .before .before .before .before .before .loop .inv .pass .counted) (does-nothing (c .before .before .before .loop2 .inv .1 .records) _ _ _ _ (c .before .before .before .before .before .before .item-effect .ensures) (c .enum-told3 .given .1))
+loop-again c = going-goes (going-filled (c .before .before .before .before .before .before .before .before .before .before .before .before .loop .inv) (c .before .before .before .loop2 .inv .1)) (c .before .before .before .before .before .before .before .before .before .before .before .next-item .ensures) (found-as (c .before .before .before .before .before .before .before .before .before .item .given .1) (c .before .before .before .before .before .before .before .renewed .ensures)) (c .before .before .before .loop2 .inv .1 .records) (c .before .before .before .before .before .before .before .before .before .before .before .before .loop .inv .pass .counted) (does-nothing (c .before .before .before .loop2 .inv .1 .records) _ _ _ _ (c .before .before .before .before .before .before .item-effect .ensures) (c .enum-told3 .given .1))
 
 -- src/lib.rt:318:35
 enum-known-effect : tie.Need-enum-known-effect Inv-loop2 μ-loop2 Inv-loop3 μ-loop3 Inv-loop μ-loop
@@ -169,11 +174,11 @@ with-order-requires c κs = search needs
 
 -- src/lib.rt:299:5
 loop-less-2 : tie.Need-loop-less-2 Inv-loop2 μ-loop2 Inv-loop3 μ-loop3 Inv-loop μ-loop
-loop-less-2 c = omega (arith, next-later _ _ (c .before .before .before .before .before .before .before .before .before .before .before .before .next-item .ensures) (c .before .before .before .before .before .before .before .before .before .before .item .given .1))
+loop-less-2 c = omega (arith, next-later _ _ (c .before .before .before .before .before .before .before .before .before .before .before .before .before .next-item .ensures) (found-as (c .before .before .before .before .before .before .before .before .before .before .before .item .given .1) (c .before .before .before .before .before .before .before .before .before .renewed .ensures)))
 
 -- src/lib.rt:299:5
 loop-again-2 : tie.Need-loop-again-2 Inv-loop2 μ-loop2 Inv-loop3 μ-loop3 Inv-loop μ-loop
-loop-again-2 c = going-goes (going-filled (c .before .before .before .before .before .before .before .before .before .before .before .before .before .loop .inv) (c .before .before .before .before .before .loop2 .inv .1)) (c .before .before .before .before .before .before .before .before .before .before .before .before .next-item .ensures) (c .before .before .before .before .before .before .before .before .before .before .item .given .1) (c .before .before .before .before .before .loop2 .inv .1 .records) (subst (λ (x : Standing). x .counted ≤ channelLimit) (sym (c .with-order .ensures)) (c .before .before .before .before .before .before .before .before .before .before .before .before .before .loop .inv .pass .counted)) (does-order (c .before .before .before .before .before .loop2 .inv .1 .records) _ _ _ _ (c .before .before .before .before .before .before .before .before .item-effect .ensures) (c .before .before .effect .given .1) (c .with-order .ensures))
+loop-again-2 c = going-goes (going-filled (c .before .before .before .before .before .before .before .before .before .before .before .before .before .before .loop .inv) (c .before .before .before .before .before .loop2 .inv .1)) (c .before .before .before .before .before .before .before .before .before .before .before .before .before .next-item .ensures) (found-as (c .before .before .before .before .before .before .before .before .before .before .before .item .given .1) (c .before .before .before .before .before .before .before .before .before .renewed .ensures)) (c .before .before .before .before .before .loop2 .inv .1 .records) (subst (λ (x : Standing). x .counted ≤ channelLimit) (sym (c .with-order .ensures)) (c .before .before .before .before .before .before .before .before .before .before .before .before .before .before .loop .inv .pass .counted)) (does-order (c .before .before .before .before .before .loop2 .inv .1 .records) _ _ _ _ (c .before .before .before .before .before .before .before .before .item-effect .ensures) (c .before .before .effect .given .1) (c .with-order .ensures))
 
 -- src/lib.rt:321:35
 enum-known-effect-2 : tie.Need-enum-known-effect-2 Inv-loop2 μ-loop2 Inv-loop3 μ-loop3 Inv-loop μ-loop
@@ -185,11 +190,11 @@ with-count-requires c κs = search needs
 
 -- src/lib.rt:299:5
 loop-less-3 : tie.Need-loop-less-3 Inv-loop2 μ-loop2 Inv-loop3 μ-loop3 Inv-loop μ-loop
-loop-less-3 c = omega (arith, next-later _ _ (c .before .before .before .before .before .before .before .before .before .before .before .before .next-item .ensures) (c .before .before .before .before .before .before .before .before .before .before .item .given .1))
+loop-less-3 c = omega (arith, next-later _ _ (c .before .before .before .before .before .before .before .before .before .before .before .before .before .next-item .ensures) (found-as (c .before .before .before .before .before .before .before .before .before .before .before .item .given .1) (c .before .before .before .before .before .before .before .before .before .renewed .ensures)))
 
 -- src/lib.rt:299:5
 loop-again-3 : tie.Need-loop-again-3 Inv-loop2 μ-loop2 Inv-loop3 μ-loop3 Inv-loop μ-loop
-loop-again-3 c = going-goes (going-filled (c .before .before .before .before .before .before .before .before .before .before .before .before .before .loop .inv) (c .before .before .before .before .before .loop2 .inv .1)) (c .before .before .before .before .before .before .before .before .before .before .before .before .next-item .ensures) (c .before .before .before .before .before .before .before .before .before .before .item .given .1) (record { low = omega arith; full = (c .before .before .before .before .before .loop2 .inv .1 .records) .full }) (subst (λ (x : Standing). x .counted ≤ channelLimit) (sym (c .with-count .ensures)) (count-found _ _ _ (c .before .before .before .before .before .before .before .before .item-effect .ensures) (c .before .before .effect2 .given .1))) (does-count (c .before .before .before .before .before .loop2 .inv .1 .records) _ _ _ _ (c .before .before .before .before .before .before .before .before .item-effect .ensures) (c .before .before .effect2 .given .1) (c .with-count .ensures))
+loop-again-3 c = going-goes (going-filled (c .before .before .before .before .before .before .before .before .before .before .before .before .before .before .loop .inv) (c .before .before .before .before .before .loop2 .inv .1)) (c .before .before .before .before .before .before .before .before .before .before .before .before .before .next-item .ensures) (found-as (c .before .before .before .before .before .before .before .before .before .before .before .item .given .1) (c .before .before .before .before .before .before .before .before .before .renewed .ensures)) (record { low = omega arith; full = (c .before .before .before .before .before .loop2 .inv .1 .records) .full }) (subst (λ (x : Standing). x .counted ≤ channelLimit) (sym (c .with-count .ensures)) (count-found _ _ _ (c .before .before .before .before .before .before .before .before .item-effect .ensures) (c .before .before .effect2 .given .1))) (does-count (c .before .before .before .before .before .loop2 .inv .1 .records) _ _ _ _ (c .before .before .before .before .before .before .before .before .item-effect .ensures) (c .before .before .effect2 .given .1) (c .with-count .ensures))
 
 -- src/lib.rt:325:39
 enum-known-effect-3 : tie.Need-enum-known-effect-3 Inv-loop2 μ-loop2 Inv-loop3 μ-loop3 Inv-loop μ-loop
@@ -201,11 +206,11 @@ with-sequences-requires c κs = search needs
 
 -- src/lib.rt:299:5
 loop-less-4 : tie.Need-loop-less-4 Inv-loop2 μ-loop2 Inv-loop3 μ-loop3 Inv-loop μ-loop
-loop-less-4 c = omega (arith, next-later _ _ (c .before .before .before .before .before .before .before .before .before .before .before .before .next-item .ensures) (c .before .before .before .before .before .before .before .before .before .before .item .given .1))
+loop-less-4 c = omega (arith, next-later _ _ (c .before .before .before .before .before .before .before .before .before .before .before .before .before .next-item .ensures) (found-as (c .before .before .before .before .before .before .before .before .before .before .before .item .given .1) (c .before .before .before .before .before .before .before .before .before .renewed .ensures)))
 
 -- src/lib.rt:299:5
 loop-again-4 : tie.Need-loop-again-4 Inv-loop2 μ-loop2 Inv-loop3 μ-loop3 Inv-loop μ-loop
-loop-again-4 c = going-goes (going-filled (c .before .before .before .before .before .before .before .before .before .before .before .before .before .loop .inv) (c .before .before .before .before .before .loop2 .inv .1)) (c .before .before .before .before .before .before .before .before .before .before .before .before .next-item .ensures) (c .before .before .before .before .before .before .before .before .before .before .item .given .1) (c .before .before .before .before .before .loop2 .inv .1 .records) (subst (λ (x : Standing). x .counted ≤ channelLimit) (sym (c .with-sequences .ensures)) (c .before .before .before .before .before .before .before .before .before .before .before .before .before .loop .inv .pass .counted)) (does-sequences (c .before .before .before .before .before .loop2 .inv .1 .records) _ _ _ _ (c .before .before .before .before .before .before .before .before .item-effect .ensures) (c .before .before .effect3 .given .1) (c .with-sequences .ensures))
+loop-again-4 c = going-goes (going-filled (c .before .before .before .before .before .before .before .before .before .before .before .before .before .before .loop .inv) (c .before .before .before .before .before .loop2 .inv .1)) (c .before .before .before .before .before .before .before .before .before .before .before .before .before .next-item .ensures) (found-as (c .before .before .before .before .before .before .before .before .before .before .before .item .given .1) (c .before .before .before .before .before .before .before .before .before .renewed .ensures)) (c .before .before .before .before .before .loop2 .inv .1 .records) (subst (λ (x : Standing). x .counted ≤ channelLimit) (sym (c .with-sequences .ensures)) (c .before .before .before .before .before .before .before .before .before .before .before .before .before .before .loop .inv .pass .counted)) (does-sequences (c .before .before .before .before .before .loop2 .inv .1 .records) _ _ _ _ (c .before .before .before .before .before .before .before .before .item-effect .ensures) (c .before .before .effect3 .given .1) (c .with-sequences .ensures))
 
 -- src/lib.rt:328:35
 enum-known-effect-4 : tie.Need-enum-known-effect-4 Inv-loop2 μ-loop2 Inv-loop3 μ-loop3 Inv-loop μ-loop
@@ -217,14 +222,14 @@ with-start-requires c κs = search needs
 
 -- src/lib.rt:299:5
 loop-less-5 : tie.Need-loop-less-5 Inv-loop2 μ-loop2 Inv-loop3 μ-loop3 Inv-loop μ-loop
-loop-less-5 c = omega (arith, next-later _ _ (c .before .before .before .before .before .before .before .before .before .before .before .before .next-item .ensures) (c .before .before .before .before .before .before .before .before .before .before .item .given .1))
+loop-less-5 c = omega (arith, next-later _ _ (c .before .before .before .before .before .before .before .before .before .before .before .before .before .next-item .ensures) (found-as (c .before .before .before .before .before .before .before .before .before .before .before .item .given .1) (c .before .before .before .before .before .before .before .before .before .renewed .ensures)))
 
 -- src/lib.rt:299:5
-in64 : (c : tie.After-with-start Inv-loop2 μ-loop2 Inv-loop3 μ-loop3 Inv-loop μ-loop) → SFits w64 (c .before .before .effect4 .given .0 .0)
-in64 c = search needs
+start-fits : (c : tie.After-with-start Inv-loop2 μ-loop2 Inv-loop3 μ-loop3 Inv-loop μ-loop) → SFits w64 (c .before .before .effect4 .given .0 .0)
+start-fits c = search needs
 
 loop-again-5 : tie.Need-loop-again-5 Inv-loop2 μ-loop2 Inv-loop3 μ-loop3 Inv-loop μ-loop
-loop-again-5 c = going-goes (going-filled (c .before .before .before .before .before .before .before .before .before .before .before .before .before .loop .inv) (c .before .before .before .before .before .loop2 .inv .1)) (c .before .before .before .before .before .before .before .before .before .before .before .before .next-item .ensures) (c .before .before .before .before .before .before .before .before .before .before .item .given .1) (c .before .before .before .before .before .loop2 .inv .1 .records) (subst (λ (x : Standing). x .counted ≤ channelLimit) (sym (c .with-start .ensures)) (c .before .before .before .before .before .before .before .before .before .before .before .before .before .loop .inv .pass .counted)) (does-start (c .before .before .before .before .before .loop2 .inv .1 .records) _ _ _ _ (c .before .before .before .before .before .before .before .before .item-effect .ensures) (c .before .before .effect4 .given .1) (c .with-start .ensures ∙ ap (λ (z : ℤ). withStart z (c .before .before .before .before .before .before .before .before .before .before .before .before .before .loop .st)) (toZ-ofZ (in64 c))))
+loop-again-5 c = going-goes (going-filled (c .before .before .before .before .before .before .before .before .before .before .before .before .before .before .loop .inv) (c .before .before .before .before .before .loop2 .inv .1)) (c .before .before .before .before .before .before .before .before .before .before .before .before .before .next-item .ensures) (found-as (c .before .before .before .before .before .before .before .before .before .before .before .item .given .1) (c .before .before .before .before .before .before .before .before .before .renewed .ensures)) (c .before .before .before .before .before .loop2 .inv .1 .records) (subst (λ (x : Standing). x .counted ≤ channelLimit) (sym (c .with-start .ensures)) (c .before .before .before .before .before .before .before .before .before .before .before .before .before .before .loop .inv .pass .counted)) (does-start (c .before .before .before .before .before .loop2 .inv .1 .records) _ _ _ _ (c .before .before .before .before .before .before .before .before .item-effect .ensures) (c .before .before .effect4 .given .1) (c .with-start .ensures ∙ ap (λ (z : ℤ). withStart z (c .before .before .before .before .before .before .before .before .before .before .before .before .before .before .loop .st)) (toZ-ofZ (start-fits c))))
 
 -- src/lib.rt:331:33
 enum-known-effect-5 : tie.Need-enum-known-effect-5 Inv-loop2 μ-loop2 Inv-loop3 μ-loop3 Inv-loop μ-loop
@@ -276,11 +281,11 @@ with-root-requires c κs = search needs
 
 -- src/lib.rt:299:5
 loop-less-6 : tie.Need-loop-less-6 Inv-loop2 μ-loop2 Inv-loop3 μ-loop3 Inv-loop μ-loop
-loop-less-6 c = omega (arith, next-later _ _ (c .before .before .before .before .before .before .before .before .before .before .before .before .before .before .before .next-item .ensures) (c .before .before .before .before .before .before .before .before .before .before .before .before .before .item .given .1))
+loop-less-6 c = omega (arith, next-later _ _ (c .before .before .before .before .before .before .before .before .before .before .before .before .before .before .before .before .next-item .ensures) (found-as (c .before .before .before .before .before .before .before .before .before .before .before .before .before .before .item .given .1) (c .before .before .before .before .before .before .before .before .before .before .before .before .renewed .ensures)))
 
 -- src/lib.rt:299:5
 loop-again-6 : tie.Need-loop-again-6 Inv-loop2 μ-loop2 Inv-loop3 μ-loop3 Inv-loop μ-loop
-loop-again-6 c = going-goes (going-filled (c .before .before .before .before .before .before .before .before .before .before .before .before .before .before .before .before .loop .inv) (c .before .before .before .before .before .before .before .before .loop2 .inv .1)) (c .before .before .before .before .before .before .before .before .before .before .before .before .before .before .before .next-item .ensures) (c .before .before .before .before .before .before .before .before .before .before .before .before .before .item .given .1) (records-mapped (c .before .before .before .before .before .before .before .before .loop2 .inv .1 .records) (c .before .before .before .before .before .effect5 .given .0 .0) (c .before .before .before .loop3 .i) (c .before .before .before .loop3 .inv .3)) (subst (λ (x : Standing). x .counted ≤ channelLimit) (sym (c .with-root .ensures)) (c .before .before .before .before .before .before .before .before .before .before .before .before .before .before .before .before .loop .inv .pass .counted)) (does-all (c .before .before .before .before .before .before .before .before .loop2 .inv .1 .records) _ _ _ _ (c .before .before .before .before .before .before .before .before .before .before .before .item-effect .ensures) (c .before .before .before .before .before .effect5 .given .1) (c .before .apply2 .ensures) (c .with-root .ensures) (mapped-own (c .before .before .before .before .before .before .before .before .loop2 .inv .1 .records) (c .before .before .before .before .before .effect5 .given .0 .0) (c .before .before .before .loop3 .i) (c .before .before .before .loop3 .inv .3) (c .before .before .before .loop3 .inv .2) (c .before .before .loop3-test .left)))
+loop-again-6 c = going-goes (going-filled (c .before .before .before .before .before .before .before .before .before .before .before .before .before .before .before .before .before .loop .inv) (c .before .before .before .before .before .before .before .before .loop2 .inv .1)) (c .before .before .before .before .before .before .before .before .before .before .before .before .before .before .before .before .next-item .ensures) (found-as (c .before .before .before .before .before .before .before .before .before .before .before .before .before .before .item .given .1) (c .before .before .before .before .before .before .before .before .before .before .before .before .renewed .ensures)) (records-mapped (c .before .before .before .before .before .before .before .before .loop2 .inv .1 .records) (c .before .before .before .before .before .effect5 .given .0 .0) (c .before .before .before .loop3 .i) (c .before .before .before .loop3 .inv .3)) (subst (λ (x : Standing). x .counted ≤ channelLimit) (sym (c .with-root .ensures)) (c .before .before .before .before .before .before .before .before .before .before .before .before .before .before .before .before .before .loop .inv .pass .counted)) (does-all (c .before .before .before .before .before .before .before .before .loop2 .inv .1 .records) _ _ _ _ (c .before .before .before .before .before .before .before .before .before .before .before .item-effect .ensures) (c .before .before .before .before .before .effect5 .given .1) (c .before .apply2 .ensures) (c .with-root .ensures) (mapped-own (c .before .before .before .before .before .before .before .before .loop2 .inv .1 .records) (c .before .before .before .before .before .effect5 .given .0 .0) (c .before .before .before .loop3 .i) (c .before .before .before .loop3 .inv .3) (c .before .before .before .loop3 .inv .2) (c .before .before .loop3-test .left)))
 
 -- src/lib.rt:339:33
 enum-known-effect-6 : tie.Need-enum-known-effect-6 Inv-loop2 μ-loop2 Inv-loop3 μ-loop3 Inv-loop μ-loop
@@ -312,19 +317,19 @@ array-set-from-table-3 c = search needs
 
 -- src/lib.rt:299:5
 loop-less-7 : tie.Need-loop-less-7 Inv-loop2 μ-loop2 Inv-loop3 μ-loop3 Inv-loop μ-loop
-loop-less-7 c = omega (arith, next-later _ _ (c .before .before .before .before .before .before .before .before .before .before .before .before .before .before .next-item .ensures) (c .before .before .before .before .before .before .before .before .before .before .before .before .item .given .1))
+loop-less-7 c = omega (arith, next-later _ _ (c .before .before .before .before .before .before .before .before .before .before .before .before .before .before .before .next-item .ensures) (found-as (c .before .before .before .before .before .before .before .before .before .before .before .before .before .item .given .1) (c .before .before .before .before .before .before .before .before .before .before .before .renewed .ensures)))
 
 -- src/lib.rt:299:5
 loop-again-7 : tie.Need-loop-again-7 Inv-loop2 μ-loop2 Inv-loop3 μ-loop3 Inv-loop μ-loop
-loop-again-7 c = going-goes (going-filled (c .before .before .before .before .before .before .before .before .before .before .before .before .before .before .before .loop .inv) (c .before .before .before .before .before .before .before .loop2 .inv .1)) (c .before .before .before .before .before .before .before .before .before .before .before .before .before .before .next-item .ensures) (c .before .before .before .before .before .before .before .before .before .before .before .before .item .given .1) (records-set (c .before .before .before .before .before .before .before .loop2 .inv .1 .records) _ _) (c .before .before .before .before .before .before .before .before .before .before .before .before .before .before .before .loop .inv .pass .counted) (does-one (c .before .before .before .before .before .before .before .loop2 .inv .1 .records) _ _ _ _ (c .before .before .before .before .before .before .before .before .before .before .item-effect .ensures) (c .before .before .before .before .effect6 .given .1) (reached-one _ (c .before .before .before .before .before .before .before .before .reach .ensures) (c .before .before .before .before .effect6 .given .1) (c .before .before .before .before .before .before .loop2-test .left) (c .before .before .if1 .taken)) (c .apply3 .ensures))
+loop-again-7 c = going-goes (going-filled (c .before .before .before .before .before .before .before .before .before .before .before .before .before .before .before .before .loop .inv) (c .before .before .before .before .before .before .before .loop2 .inv .1)) (c .before .before .before .before .before .before .before .before .before .before .before .before .before .before .before .next-item .ensures) (found-as (c .before .before .before .before .before .before .before .before .before .before .before .before .before .item .given .1) (c .before .before .before .before .before .before .before .before .before .before .before .renewed .ensures)) (records-set (c .before .before .before .before .before .before .before .loop2 .inv .1 .records) _ _) (c .before .before .before .before .before .before .before .before .before .before .before .before .before .before .before .before .loop .inv .pass .counted) (does-one (c .before .before .before .before .before .before .before .loop2 .inv .1 .records) _ _ _ _ (c .before .before .before .before .before .before .before .before .before .before .item-effect .ensures) (c .before .before .before .before .effect6 .given .1) (reached-one _ (c .before .before .before .before .before .before .before .before .reach .ensures) (c .before .before .before .before .effect6 .given .1) (c .before .before .before .before .before .before .loop2-test .left) (c .before .before .if1 .taken)) (c .apply3 .ensures))
 
 -- src/lib.rt:299:5
 loop-less-8 : tie.Need-loop-less-8 Inv-loop2 μ-loop2 Inv-loop3 μ-loop3 Inv-loop μ-loop
-loop-less-8 c = omega (arith, next-later _ _ (c .before .before .before .before .before .before .before .before .before .before .before .before .next-item .ensures) (c .before .before .before .before .before .before .before .before .before .before .item .given .1))
+loop-less-8 c = omega (arith, next-later _ _ (c .before .before .before .before .before .before .before .before .before .before .before .before .before .next-item .ensures) (found-as (c .before .before .before .before .before .before .before .before .before .before .before .item .given .1) (c .before .before .before .before .before .before .before .before .before .renewed .ensures)))
 
 -- src/lib.rt:299:5
 loop-again-8 : tie.Need-loop-again-8 Inv-loop2 μ-loop2 Inv-loop3 μ-loop3 Inv-loop μ-loop
-loop-again-8 c = going-goes (going-filled (c .before .before .before .before .before .before .before .before .before .before .before .before .before .loop .inv) (c .before .before .before .before .before .loop2 .inv .1)) (c .before .before .before .before .before .before .before .before .before .before .before .before .next-item .ensures) (c .before .before .before .before .before .before .before .before .before .before .item .given .1) (c .before .before .before .before .before .loop2 .inv .1 .records) (c .before .before .before .before .before .before .before .before .before .before .before .before .before .loop .inv .pass .counted) (does-outside (c .before .before .before .before .before .loop2 .inv .1 .records) _ _ _ _ (c .before .before .before .before .before .before .before .before .item-effect .ensures) (c .before .before .effect6 .given .1) (c .if1 .left))
+loop-again-8 c = going-goes (going-filled (c .before .before .before .before .before .before .before .before .before .before .before .before .before .before .loop .inv) (c .before .before .before .before .before .loop2 .inv .1)) (c .before .before .before .before .before .before .before .before .before .before .before .before .before .next-item .ensures) (found-as (c .before .before .before .before .before .before .before .before .before .before .before .item .given .1) (c .before .before .before .before .before .before .before .before .before .renewed .ensures)) (c .before .before .before .before .before .loop2 .inv .1 .records) (c .before .before .before .before .before .before .before .before .before .before .before .before .before .before .loop .inv .pass .counted) (does-outside (c .before .before .before .before .before .loop2 .inv .1 .records) _ _ _ _ (c .before .before .before .before .before .before .before .before .item-effect .ensures) (c .before .before .effect6 .given .1) (c .if1 .left))
 
 -- src/lib.rt:345:37
 enum-known-effect-7 : tie.Need-enum-known-effect-7 Inv-loop2 μ-loop2 Inv-loop3 μ-loop3 Inv-loop μ-loop
@@ -348,12 +353,12 @@ enum-told-4 c = search needs
 
 -- src/lib.rt:350:33
 same-length-3 : tie.Need-same-length-3 Inv-loop2 μ-loop2 Inv-loop3 μ-loop3 Inv-loop μ-loop
-same-length-3 c = put-long (c .before .before .before .before .before .before .before .before .before .before .before .before .before .before .before .before .before .loop .inv .pass .put) ∙ put-long (head-put (c .before .before .before .before .before .before .before .before .before .before .before .before .before .before .before .before .before .before .before .before .before .before .before .before .before .before .before .before .before .before .before .pre) (c .before .before .before .before .before .before .before .before .before .before .before .before .before .before .before .before .before .before .before .before .before .before .before .before .before .before .before .put-two .ensures) (c .before .before .before .before .before .before .before .before .before .before .before .before .before .before .before .before .before .before .before .before .before .before .before .put-octet .ensures))
+same-length-3 c = put-long (c .before .before .before .before .before .before .before .before .before .before .before .before .before .before .before .before .before .before .loop .inv .pass .put) ∙ put-long (head-put (c .before .before .before .before .before .before .before .before .before .before .before .before .before .before .before .before .before .before .before .before .before .before .before .before .before .before .before .before .before .before .before .before .pre) (c .before .before .before .before .before .before .before .before .before .before .before .before .before .before .before .before .before .before .before .before .before .before .before .before .before .before .before .before .put-two .ensures) (c .before .before .before .before .before .before .before .before .before .before .before .before .before .before .before .before .before .before .before .before .before .before .before .before .put-octet .ensures))
 
 -- src/lib.rt:350:33
 returns-3 : tie.Need-returns-3 Inv-loop2 μ-loop2 Inv-loop3 μ-loop3 Inv-loop μ-loop
 unfolding withFrame
-returns-3 c = absurd (never-refuses ((going-filled (c .before .before .before .before .before .before .before .before .before .before .before .before .before .before .before .before .before .loop .inv) (c .before .before .before .before .before .before .before .before .before .loop2 .inv .1)) .pass) _ (c .before .before .before .before .before .before .before .before .before .before .before .before .before .before .before .before .next-item .ensures) (c .before .before .before .before .before .before .before .before .before .before .before .before .before .before .item .given .1) (going-carried (going-filled (c .before .before .before .before .before .before .before .before .before .before .before .before .before .before .before .before .before .loop .inv) (c .before .before .before .before .before .before .before .before .before .loop2 .inv .1)) (c .before .before .before .before .channels-of .result) (c .before .before .before .measure .result) (c .before .before .before .before .channels-of .ensures) (c .before .before .before .measure .ensures) (reached-frame _ (c .before .before .before .before .before .before .before .before .before .before .reach .ensures) (c .before .before .before .before .before .before .effect7 .given .1) (c .before .before .before .before .before .before .before .before .loop2-test .left) (c .before .before .before .before .before .before .before .before .before .before .before .before .before .before .before .before .before .loop .inv .pass .counted) (c .before .before .before .before .channels-of .ensures)) _ _ _ (c .before .before .before .before .before .before .before .before .before .before .before .before .item-effect .ensures) (c .before .before .before .before .before .before .effect7 .given .1) (c .before .before .frame-of .ensures) (c .enum-told4 .given .1)))
+returns-3 c = absurd (never-refuses ((going-filled (c .before .before .before .before .before .before .before .before .before .before .before .before .before .before .before .before .before .before .loop .inv) (c .before .before .before .before .before .before .before .before .before .loop2 .inv .1)) .pass) _ (c .before .before .before .before .before .before .before .before .before .before .before .before .before .before .before .before .before .next-item .ensures) (found-as (c .before .before .before .before .before .before .before .before .before .before .before .before .before .before .before .item .given .1) (c .before .before .before .before .before .before .before .before .before .before .before .before .before .renewed .ensures)) (going-carried (going-filled (c .before .before .before .before .before .before .before .before .before .before .before .before .before .before .before .before .before .before .loop .inv) (c .before .before .before .before .before .before .before .before .before .loop2 .inv .1)) (c .before .before .before .before .channels-of .result) (c .before .before .before .measure .result) (c .before .before .before .before .channels-of .ensures) (c .before .before .before .measure .ensures) (reached-frame _ (c .before .before .before .before .before .before .before .before .before .before .reach .ensures) (c .before .before .before .before .before .before .effect7 .given .1) (c .before .before .before .before .before .before .before .before .loop2-test .left) (c .before .before .before .before .before .before .before .before .before .before .before .before .before .before .before .before .before .before .loop .inv .pass .counted) (c .before .before .before .before .channels-of .ensures)) _ _ _ (c .before .before .before .before .before .before .before .before .before .before .before .before .item-effect .ensures) (c .before .before .before .before .before .before .effect7 .given .1) (c .before .before .frame-of .ensures) (c .enum-told4 .given .1)))
 
 -- src/lib.rt:352:43
 enum-known-sequences : tie.Need-enum-known-sequences Inv-loop2 μ-loop2 Inv-loop3 μ-loop3 Inv-loop μ-loop
@@ -369,23 +374,23 @@ cast-n c = search needs
 
 -- src/lib.rt:354:41
 mul-n : tie.Need-mul-n Inv-loop2 μ-loop2 Inv-loop3 μ-loop3 Inv-loop μ-loop
-mul-n c = omega (arith, framed-found (c .before .before .before .before .before .before .before .before .before .before .before .before .before .before .before .before .before .before .before .loop .frames) (c .before .before .before .before .before .before .before .before .before .before .before .before .before .before .before .before .before .before .before .loop .st) (c .before .before .before .before .before .measure .result .agree) (c .before .before .before .before .before .measure .result .octets) (c .before .before .before .before .before .before .before .before .effect7 .given .0 .1 .0) (c .before .before .before .before .frame-of .ensures) (c .before .before .sequences .given .1))
+mul-n c = omega (arith, framed-found (c .before .before .before .before .before .before .before .before .before .before .before .before .before .before .before .before .before .before .before .before .loop .frames) (c .before .before .before .before .before .before .before .before .before .before .before .before .before .before .before .before .before .before .before .before .loop .st) (c .before .before .before .before .before .measure .result .agree) (c .before .before .before .before .before .measure .result .octets) (c .before .before .before .before .before .before .before .before .effect7 .given .0 .1 .0) (c .before .before .before .before .frame-of .ensures) (c .before .before .sequences .given .1))
 
 -- src/lib.rt:355:33
 put-frame-requires : tie.Need-put-frame-requires Inv-loop2 μ-loop2 Inv-loop3 μ-loop3 Inv-loop μ-loop
-put-frame-requires c κs = (going-ready (going-filled (c .before .before .before .before .before .before .before .before .before .before .before .before .before .before .before .before .before .before .before .before .loop .inv) (c .before .before .before .before .before .before .before .before .before .before .before .before .loop2 .inv .1)) (c .before .before .before .before .before .before .before .channels-of .result) (c .before .before .before .before .before .before .measure .result) (c .before .before .before .before .before .before .before .channels-of .ensures) (c .before .before .before .before .before .before .measure .ensures) (reached-frame _ (c .before .before .before .before .before .before .before .before .before .before .before .before .before .reach .ensures) (c .before .before .before .before .before .before .before .before .before .effect7 .given .1) (c .before .before .before .before .before .before .before .before .before .before .before .loop2-test .left) (c .before .before .before .before .before .before .before .before .before .before .before .before .before .before .before .before .before .before .before .before .loop .inv .pass .counted) (c .before .before .before .before .before .before .before .channels-of .ensures)) (c .before .before .before .before .before .before .before .before .before .before .before .before .before .before .before .before .before .before .before .next-item .ensures) (c .before .before .before .before .before .before .before .before .before .before .before .before .before .before .before .before .before .item .given .1) (c .before .before .before .before .before .before .before .before .before .before .before .before .before .before .before .item-effect .ensures) (c .before .before .before .before .before .before .before .before .before .effect7 .given .1) (c .before .before .before .before .before .frame-of .ensures) (c .before .before .before .sequences .given .1), going-room (going-filled (c .before .before .before .before .before .before .before .before .before .before .before .before .before .before .before .before .before .before .before .before .loop .inv) (c .before .before .before .before .before .before .before .before .before .before .before .before .loop2 .inv .1)) (c .before .before .before .before .before .before .before .channels-of .result) (c .before .before .before .before .before .before .measure .result) (c .before .before .before .before .before .before .before .channels-of .ensures) (c .before .before .before .before .before .before .measure .ensures) (reached-frame _ (c .before .before .before .before .before .before .before .before .before .before .before .before .before .reach .ensures) (c .before .before .before .before .before .before .before .before .before .effect7 .given .1) (c .before .before .before .before .before .before .before .before .before .before .before .loop2-test .left) (c .before .before .before .before .before .before .before .before .before .before .before .before .before .before .before .before .before .before .before .before .loop .inv .pass .counted) (c .before .before .before .before .before .before .before .channels-of .ensures)) (c .before .before .before .before .before .before .before .before .before .before .before .before .before .before .before .before .before .before .before .next-item .ensures) (c .before .before .before .before .before .before .before .before .before .before .before .before .before .before .before .before .before .item .given .1) (c .before .before .before .before .before .before .before .before .before .before .before .before .before .before .before .item-effect .ensures) (c .before .before .before .before .before .before .before .before .before .effect7 .given .1) (c .before .before .before .before .before .frame-of .ensures) (c .before .before .before .sequences .given .1) (c .before .part .result .now) (c .before .part .ensures))
+put-frame-requires c κs = (going-ready (going-filled (c .before .before .before .before .before .before .before .before .before .before .before .before .before .before .before .before .before .before .before .before .before .loop .inv) (c .before .before .before .before .before .before .before .before .before .before .before .before .loop2 .inv .1)) (c .before .before .before .before .before .before .before .channels-of .result) (c .before .before .before .before .before .before .measure .result) (c .before .before .before .before .before .before .before .channels-of .ensures) (c .before .before .before .before .before .before .measure .ensures) (reached-frame _ (c .before .before .before .before .before .before .before .before .before .before .before .before .before .reach .ensures) (c .before .before .before .before .before .before .before .before .before .effect7 .given .1) (c .before .before .before .before .before .before .before .before .before .before .before .loop2-test .left) (c .before .before .before .before .before .before .before .before .before .before .before .before .before .before .before .before .before .before .before .before .before .loop .inv .pass .counted) (c .before .before .before .before .before .before .before .channels-of .ensures)) (c .before .before .before .before .before .before .before .before .before .before .before .before .before .before .before .before .before .before .before .before .next-item .ensures) (found-as (c .before .before .before .before .before .before .before .before .before .before .before .before .before .before .before .before .before .before .item .given .1) (c .before .before .before .before .before .before .before .before .before .before .before .before .before .before .before .before .renewed .ensures)) (c .before .before .before .before .before .before .before .before .before .before .before .before .before .before .before .item-effect .ensures) (c .before .before .before .before .before .before .before .before .before .effect7 .given .1) (c .before .before .before .before .before .frame-of .ensures) (c .before .before .before .sequences .given .1), going-room (going-filled (c .before .before .before .before .before .before .before .before .before .before .before .before .before .before .before .before .before .before .before .before .before .loop .inv) (c .before .before .before .before .before .before .before .before .before .before .before .before .loop2 .inv .1)) (c .before .before .before .before .before .before .before .channels-of .result) (c .before .before .before .before .before .before .measure .result) (c .before .before .before .before .before .before .before .channels-of .ensures) (c .before .before .before .before .before .before .measure .ensures) (reached-frame _ (c .before .before .before .before .before .before .before .before .before .before .before .before .before .reach .ensures) (c .before .before .before .before .before .before .before .before .before .effect7 .given .1) (c .before .before .before .before .before .before .before .before .before .before .before .loop2-test .left) (c .before .before .before .before .before .before .before .before .before .before .before .before .before .before .before .before .before .before .before .before .before .loop .inv .pass .counted) (c .before .before .before .before .before .before .before .channels-of .ensures)) (c .before .before .before .before .before .before .before .before .before .before .before .before .before .before .before .before .before .before .before .before .next-item .ensures) (found-as (c .before .before .before .before .before .before .before .before .before .before .before .before .before .before .before .before .before .before .item .given .1) (c .before .before .before .before .before .before .before .before .before .before .before .before .before .before .before .before .renewed .ensures)) (c .before .before .before .before .before .before .before .before .before .before .before .before .before .before .before .item-effect .ensures) (c .before .before .before .before .before .before .before .before .before .effect7 .given .1) (c .before .before .before .before .before .frame-of .ensures) (c .before .before .before .sequences .given .1) (c .before .part .result .now) (c .before .part .ensures))
 
 -- src/lib.rt:357:42
 add-frames : tie.Need-add-frames Inv-loop2 μ-loop2 Inv-loop3 μ-loop3 Inv-loop μ-loop
-add-frames c = omega (arith, framed-found (c .before .before .before .before .before .before .before .before .before .before .before .before .before .before .before .before .before .before .before .before .before .before .before .loop .frames) (c .before .before .before .before .before .before .before .before .before .before .before .before .before .before .before .before .before .before .before .before .before .before .before .loop .st) (c .before .before .before .before .before .before .before .before .before .measure .result .agree) (c .before .before .before .before .before .before .before .before .before .measure .result .octets) (c .before .before .before .before .before .before .before .before .before .before .before .before .effect7 .given .0 .1 .0) (c .before .before .before .before .before .before .before .before .frame-of .ensures) (c .before .before .before .before .before .before .sequences .given .1))
+add-frames c = omega (arith, framed-found (c .before .before .before .before .before .before .before .before .before .before .before .before .before .before .before .before .before .before .before .before .before .before .before .before .loop .frames) (c .before .before .before .before .before .before .before .before .before .before .before .before .before .before .before .before .before .before .before .before .before .before .before .before .loop .st) (c .before .before .before .before .before .before .before .before .before .measure .result .agree) (c .before .before .before .before .before .before .before .before .before .measure .result .octets) (c .before .before .before .before .before .before .before .before .before .before .before .before .effect7 .given .0 .1 .0) (c .before .before .before .before .before .before .before .before .frame-of .ensures) (c .before .before .before .before .before .before .sequences .given .1))
 
 -- src/lib.rt:299:5
 loop-less-9 : tie.Need-loop-less-9 Inv-loop2 μ-loop2 Inv-loop3 μ-loop3 Inv-loop μ-loop
-loop-less-9 c = omega (arith, next-later _ _ (c .before .before .before .before .before .before .before .before .before .before .before .before .before .before .before .before .before .before .before .before .before .before .next-item .ensures) (c .before .before .before .before .before .before .before .before .before .before .before .before .before .before .before .before .before .before .before .before .item .given .1))
+loop-less-9 c = omega (arith, next-later _ _ (c .before .before .before .before .before .before .before .before .before .before .before .before .before .before .before .before .before .before .before .before .before .before .before .next-item .ensures) (found-as (c .before .before .before .before .before .before .before .before .before .before .before .before .before .before .before .before .before .before .before .before .before .item .given .1) (c .before .before .before .before .before .before .before .before .before .before .before .before .before .before .before .before .before .before .before .renewed .ensures)))
 
 -- src/lib.rt:299:5
 loop-again-9 : tie.Need-loop-again-9 Inv-loop2 μ-loop2 Inv-loop3 μ-loop3 Inv-loop μ-loop
-loop-again-9 c = going-frame (going-filled (c .before .before .before .before .before .before .before .before .before .before .before .before .before .before .before .before .before .before .before .before .before .before .before .loop .inv) (c .before .before .before .before .before .before .before .before .before .before .before .before .before .before .before .loop2 .inv .1)) (c .before .before .before .before .before .before .before .before .before .before .channels-of .result) (c .before .before .before .before .before .before .before .before .before .measure .result) (c .before .before .before .before .before .before .before .before .before .before .channels-of .ensures) (c .before .before .before .before .before .before .before .before .before .measure .ensures) (reached-frame _ (c .before .before .before .before .before .before .before .before .before .before .before .before .before .before .before .before .reach .ensures) (c .before .before .before .before .before .before .before .before .before .before .before .before .effect7 .given .1) (c .before .before .before .before .before .before .before .before .before .before .before .before .before .before .loop2-test .left) (c .before .before .before .before .before .before .before .before .before .before .before .before .before .before .before .before .before .before .before .before .before .before .before .loop .inv .pass .counted) (c .before .before .before .before .before .before .before .before .before .before .channels-of .ensures)) (c .before .before .before .before .before .before .before .before .before .before .before .before .before .before .before .before .before .before .before .before .before .before .next-item .ensures) (c .before .before .before .before .before .before .before .before .before .before .before .before .before .before .before .before .before .before .before .before .item .given .1) (c .before .before .before .before .before .before .before .before .before .before .before .before .before .before .before .before .before .before .item-effect .ensures) (c .before .before .before .before .before .before .before .before .before .before .before .before .effect7 .given .1) (c .before .before .before .before .before .before .before .before .frame-of .ensures) (c .before .before .before .before .before .before .sequences .given .1) (λ (k : ℕ). omega (arith, c .before .before .before .before .before .before .before .before .before .before .before .before .before .before .before .before .before .before .before .before .before .before .before .before .before .before .before .before .before .before .before .before .before .before .before .before .shared-slice-known .given k)) (c .before .before .before .before .part .ensures) (c .before .before .put-frame .ensures)
+loop-again-9 c = going-frame (going-filled (c .before .before .before .before .before .before .before .before .before .before .before .before .before .before .before .before .before .before .before .before .before .before .before .before .loop .inv) (c .before .before .before .before .before .before .before .before .before .before .before .before .before .before .before .loop2 .inv .1)) (c .before .before .before .before .before .before .before .before .before .before .channels-of .result) (c .before .before .before .before .before .before .before .before .before .measure .result) (c .before .before .before .before .before .before .before .before .before .before .channels-of .ensures) (c .before .before .before .before .before .before .before .before .before .measure .ensures) (reached-frame _ (c .before .before .before .before .before .before .before .before .before .before .before .before .before .before .before .before .reach .ensures) (c .before .before .before .before .before .before .before .before .before .before .before .before .effect7 .given .1) (c .before .before .before .before .before .before .before .before .before .before .before .before .before .before .loop2-test .left) (c .before .before .before .before .before .before .before .before .before .before .before .before .before .before .before .before .before .before .before .before .before .before .before .before .loop .inv .pass .counted) (c .before .before .before .before .before .before .before .before .before .before .channels-of .ensures)) (c .before .before .before .before .before .before .before .before .before .before .before .before .before .before .before .before .before .before .before .before .before .before .before .next-item .ensures) (found-as (c .before .before .before .before .before .before .before .before .before .before .before .before .before .before .before .before .before .before .before .before .before .item .given .1) (c .before .before .before .before .before .before .before .before .before .before .before .before .before .before .before .before .before .before .before .renewed .ensures)) (c .before .before .before .before .before .before .before .before .before .before .before .before .before .before .before .before .before .before .item-effect .ensures) (c .before .before .before .before .before .before .before .before .before .before .before .before .effect7 .given .1) (c .before .before .before .before .before .before .before .before .frame-of .ensures) (c .before .before .before .before .before .before .sequences .given .1) (λ (k : ℕ). omega (arith, c .before .before .before .before .before .before .before .before .before .before .before .before .before .before .before .before .before .before .before .before .before .before .before .before .before .before .before .before .before .before .before .before .before .before .before .before .before .shared-slice-known .given k)) (c .before .before .before .before .part .ensures) (c .before .before .put-frame .ensures)
 
 -- src/lib.rt:362:25
 enum-told-5 : tie.Need-enum-told-5 Inv-loop2 μ-loop2 Inv-loop3 μ-loop3 Inv-loop μ-loop
@@ -393,12 +398,12 @@ enum-told-5 c = search needs
 
 -- src/lib.rt:362:25
 same-length-4 : tie.Need-same-length-4 Inv-loop2 μ-loop2 Inv-loop3 μ-loop3 Inv-loop μ-loop
-same-length-4 c = put-long (c .before .before .before .before .before .before .before .before .before .before .before .loop .inv .pass .put) ∙ put-long (head-put (c .before .before .before .before .before .before .before .before .before .before .before .before .before .before .before .before .before .before .before .before .before .before .before .before .before .pre) (c .before .before .before .before .before .before .before .before .before .before .before .before .before .before .before .before .before .before .before .before .before .put-two .ensures) (c .before .before .before .before .before .before .before .before .before .before .before .before .before .before .before .before .before .put-octet .ensures))
+same-length-4 c = put-long (c .before .before .before .before .before .before .before .before .before .before .before .before .loop .inv .pass .put) ∙ put-long (head-put (c .before .before .before .before .before .before .before .before .before .before .before .before .before .before .before .before .before .before .before .before .before .before .before .before .before .before .pre) (c .before .before .before .before .before .before .before .before .before .before .before .before .before .before .before .before .before .before .before .before .before .before .put-two .ensures) (c .before .before .before .before .before .before .before .before .before .before .before .before .before .before .before .before .before .before .put-octet .ensures))
 
 -- src/lib.rt:362:25
 returns-4 : tie.Need-returns-4 Inv-loop2 μ-loop2 Inv-loop3 μ-loop3 Inv-loop μ-loop
 unfolding carried
-returns-4 c = absurd (never-refuses ((going-filled (c .before .before .before .before .before .before .before .before .before .before .before .loop .inv) (c .before .before .before .loop2 .inv .1)) .pass) _ (c .before .before .before .before .before .before .before .before .before .before .next-item .ensures) (c .before .before .before .before .before .before .before .before .item .given .1) (carried-by _ _ _ (c .before .before .before .before .before .before .item-effect .ensures) (c .enum-told5 .given .1)))
+returns-4 c = absurd (never-refuses ((going-filled (c .before .before .before .before .before .before .before .before .before .before .before .before .loop .inv) (c .before .before .before .loop2 .inv .1)) .pass) _ (c .before .before .before .before .before .before .before .before .before .before .before .next-item .ensures) (found-as (c .before .before .before .before .before .before .before .before .before .item .given .1) (c .before .before .before .before .before .before .before .renewed .ensures)) (carried-by _ _ _ (c .before .before .before .before .before .before .item-effect .ensures) (c .enum-told5 .given .1)))
 
 pub write-frames-spec : {M : Type 1} → statement M
 write-frames-spec =
@@ -424,6 +429,7 @@ write-frames-spec =
     same-length-2
     returns-2
     enum-known-item
+    renewed-requires
     item-effect-requires
     reach-requires
     loop2-holds

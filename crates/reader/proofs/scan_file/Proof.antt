@@ -1,44 +1,46 @@
 -- Each turn is a law of the pass: what is left of the file, from the cursor behind the item and with what stands then, gives the verdict.
-use lib.Dec.{ltb}
-use lib.IntN.{ℤ}
-use lib.ListN.{getD, length}
-use Rattle.octets.specs.Pick.{pick}
-use Rattle.settings.specs.Settings.{defaultSettings, zeroSettings, channelLimit, applied}
-use Rattle.settings.proofs.Mapped.{mapped, mapped-put}
 use mathlib.Core.Path.{subst, _≡_, refl, sym, ap, _∙_}
-use Prim.Native.Nat.{_≤_, ℕ, _-_, _+_}
+use native.Mathlib.Omega.{arith}
+use borrow.Author.Needs.{needs}
+use Prim.Native.Nat.{ℕ, _≤_, _+_, _-_}
+use lib.IntN.{ℤ}
+use lib.ListN.{length, getD}
 use mir.Syntax.{w64}
 use mir.Val.{SFits}
 use mir.Facts.{toZ-ofZ}
-use Rattle.reader.proofs.Scans.{Filling, filling-none, filling-more, reach-few, reached-one, reached-frame, records-set, records-mapped, mapped-own, does-nothing, does-order, does-count, does-sequences, does-start, does-all, does-one, does-outside, carried-by, Passing, passing-first, passing-filled, passing-goes, passing-carried, passing-groups, passing-frame, scanned-large, scanned-end, scanned-fault, scanned-refuses, framed-found, view-read}
-use Rattle.reader.proofs.Steps.{count-found}
-use native.Mathlib.Omega.{arith}
-use borrow.Author.Needs.{needs}
 use Rattle.items.proofs.Walks.{next-later}
-use Rattle.reader.specs.declared.Standing.{Standing}
-use Rattle.reader.specs.Standing.{withStart}
+use Rattle.settings.specs.Settings.{channelLimit, zeroSettings, applied}
+use Rattle.settings.proofs.Mapped.{mapped, mapped-put}
+use Rattle.effects.specs.declared.Standing.{Standing}
+use Rattle.effects.specs.Standing.{withStart}
+use lib.Dec.{ltb}
+use Rattle.octets.specs.Pick.{pick}
+use Rattle.settings.specs.Settings.{defaultSettings}
 use Rattle.reader.specs.Verdict.{carried, withFrame}
+use Rattle.reader.proofs.Steps.{count-found}
+use Rattle.reader.proofs.Scans.{Filling, filling-none, filling-more, reach-few, reached-one, reached-frame, records-set, records-mapped, mapped-own, does-nothing, does-order, does-count, does-sequences, does-start, does-all, does-one, does-outside, carried-by, found-as, framed-found, Passing, passing-first, passing-filled, passing-goes, passing-carried, passing-groups, passing-frame, scanned-large, scanned-end, scanned-fault, scanned-refuses, view-read}
 use Rattle.reader.proofs.scan_file.Statement.{statement}
 use Rattle.reader.proofs.scan_file.Tie as tie
 use Rattle.reader.proofs.scan_file.Reads as reads
 use Rattle.reader.proofs.scan_file.Lts as lts
+use Rattle.effects.proofs.Standing.first.Reads as Standing-first-reads
+use Rattle.effects.proofs.Standing.with_count.Reads as with-count-reads
+use Rattle.effects.proofs.Standing.with_order.Reads as with-order-reads
+use Rattle.effects.proofs.Standing.with_root.Reads as with-root-reads
+use Rattle.effects.proofs.Standing.with_sequences.Reads as with-sequences-reads
+use Rattle.effects.proofs.Standing.with_start.Reads as with-start-reads
+use Rattle.effects.proofs.channels_of.Reads as channels-of-reads
+use Rattle.effects.proofs.frame_of.Reads as frame-of-reads
+use Rattle.effects.proofs.item_effect.Reads as item-effect-reads
+use Rattle.effects.proofs.reach.Reads as reach-reads
 use Rattle.items.proofs.Cursor.first.Reads as Cursor-first-reads
+use Rattle.items.proofs.Cursor.renewed.Reads as renewed-reads
 use Rattle.items.proofs.next_item.Reads as next-item-reads
 use Rattle.layout.proofs.measure.Reads as measure-reads
-use Rattle.reader.proofs.Standing.first.Reads as Standing-first-reads
-use Rattle.reader.proofs.Standing.with_count.Reads as with-count-reads
-use Rattle.reader.proofs.Standing.with_order.Reads as with-order-reads
-use Rattle.reader.proofs.Standing.with_root.Reads as with-root-reads
-use Rattle.reader.proofs.Standing.with_sequences.Reads as with-sequences-reads
-use Rattle.reader.proofs.Standing.with_start.Reads as with-start-reads
-use Rattle.reader.proofs.channels_of.Reads as channels-of-reads
-use Rattle.reader.proofs.frame_of.Reads as frame-of-reads
 use Rattle.reader.proofs.frame_size.Reads as frame-size-reads
 use Rattle.reader.proofs.index.Reads as index-reads
-use Rattle.reader.proofs.item_effect.Reads as item-effect-reads
 use Rattle.reader.proofs.keep.Reads as keep-reads
 use Rattle.reader.proofs.place_of.Reads as place-of-reads
-use Rattle.reader.proofs.reach.Reads as reach-reads
 use Rattle.reader.proofs.refused_scan.Reads as refused-scan-reads
 use Rattle.reader.proofs.seen.Reads as seen-reads
 use Rattle.settings.proofs.Settings.table.Reads as table-reads
@@ -62,372 +64,376 @@ Inv-loop s asked table₀ own₀ c₀ st₀ frames₀ found₀ size₀ table own
 abbrev μ-loop : tie.MeasureT-loop
 μ-loop s asked table₀ own₀ c₀ st₀ frames₀ found₀ size₀ table own c st frames found size = length s - c .at
 
--- src/lib.rt:574:9
+-- src/lib.rt:185:9
 refused-scan-requires : tie.Need-refused-scan-requires Inv-loop2 μ-loop2 Inv-loop3 μ-loop3 Inv-loop μ-loop
 refused-scan-requires c κs = search needs
 
--- src/lib.rt:574:9
+-- src/lib.rt:185:9
 returns : tie.Need-returns Inv-loop2 μ-loop2 Inv-loop3 μ-loop3 Inv-loop μ-loop
 returns c = c .refused-scan .ensures ∙ scanned-large _ _ (c .before .if1 .taken)
 
--- src/lib.rt:579:21
+-- src/lib.rt:190:21
 table-requires : tie.Need-table-requires Inv-loop2 μ-loop2 Inv-loop3 μ-loop3 Inv-loop μ-loop
 table-requires c κs = search needs
 
--- src/lib.rt:581:9
+-- src/lib.rt:192:9
 first-requires : tie.Need-first-requires Inv-loop2 μ-loop2 Inv-loop3 μ-loop3 Inv-loop μ-loop
 first-requires c κs = search needs
 
--- src/lib.rt:582:9
+-- src/lib.rt:193:9
 first-requires-2 : tie.Need-first-requires-2 Inv-loop2 μ-loop2 Inv-loop3 μ-loop3 Inv-loop μ-loop
 first-requires-2 c κs = search needs
 
--- src/lib.rt:586:5
+-- src/lib.rt:197:5
 loop-holds : tie.Need-loop-holds Inv-loop2 μ-loop2 Inv-loop3 μ-loop3 Inv-loop μ-loop
 loop-holds c = passing-first _ _ _ _ _ (c .before .before .before .if1 .left) (c .before .before .table .ensures) (c .before .first .ensures) (c .first2 .ensures)
 
--- src/lib.rt:587:15
+-- src/lib.rt:198:15
 next-item-requires : tie.Need-next-item-requires Inv-loop2 μ-loop2 Inv-loop3 μ-loop3 Inv-loop μ-loop
 next-item-requires c κs = search needs
 
--- src/lib.rt:590:30
+-- src/lib.rt:201:30
 enum-told : tie.Need-enum-told Inv-loop2 μ-loop2 Inv-loop3 μ-loop3 Inv-loop μ-loop
 enum-told c = search needs
 
--- src/lib.rt:589:17
+-- src/lib.rt:200:17
 returns-2 : tie.Need-returns-2 Inv-loop2 μ-loop2 Inv-loop3 μ-loop3 Inv-loop μ-loop
 returns-2 c = scanned-end (c .before .before .before .loop .inv .pass) (c .before .before .next-item .ensures) (c .enum-told .given .1)
 
--- src/lib.rt:595:27
+-- src/lib.rt:206:27
 enum-known-x : tie.Need-enum-known-x Inv-loop2 μ-loop2 Inv-loop3 μ-loop3 Inv-loop μ-loop
 enum-known-x c = search needs
 
--- src/lib.rt:596:17
+-- src/lib.rt:207:17
 refused-scan-requires-2 : tie.Need-refused-scan-requires-2 Inv-loop2 μ-loop2 Inv-loop3 μ-loop3 Inv-loop μ-loop
 refused-scan-requires-2 c κs = search needs
 
--- src/lib.rt:596:17
+-- src/lib.rt:207:17
 returns-3 : tie.Need-returns-3 Inv-loop2 μ-loop2 Inv-loop3 μ-loop3 Inv-loop μ-loop
 returns-3 c = c .refused-scan2 .ensures ∙ scanned-fault (c .before .before .before .before .before .loop .inv .pass) _ (c .before .before .before .before .next-item .ensures) (c .before .before .x .given .1)
 
--- src/lib.rt:598:25
+-- src/lib.rt:209:25
 enum-known-item : tie.Need-enum-known-item Inv-loop2 μ-loop2 Inv-loop3 μ-loop3 Inv-loop μ-loop
 enum-known-item c = search needs
 
--- src/lib.rt:600:21
+-- src/lib.rt:210:17
+renewed-requires : tie.Need-renewed-requires Inv-loop2 μ-loop2 Inv-loop3 μ-loop3 Inv-loop μ-loop
+renewed-requires c κs = search needs
+
+-- src/lib.rt:211:21
 item-effect-requires : tie.Need-item-effect-requires Inv-loop2 μ-loop2 Inv-loop3 μ-loop3 Inv-loop μ-loop
 item-effect-requires c κs = search needs
 
--- src/lib.rt:602:21
+-- src/lib.rt:213:21
 reach-requires : tie.Need-reach-requires Inv-loop2 μ-loop2 Inv-loop3 μ-loop3 Inv-loop μ-loop
 reach-requires c κs = search needs
 
--- src/lib.rt:603:17
+-- src/lib.rt:214:17
 loop2-holds : tie.Need-loop2-holds Inv-loop2 μ-loop2 Inv-loop3 μ-loop3 Inv-loop μ-loop
-loop2-holds c = (rw (c .reach .ensures) (reach-few _ _), filling-none (c .before .before .before .before .before .before .before .loop .inv .records))
+loop2-holds c = (rw (c .reach .ensures) (reach-few _ _), filling-none (c .before .before .before .before .before .before .before .before .loop .inv .records))
 
--- src/lib.rt:604:21
+-- src/lib.rt:215:21
 mul-table : tie.Need-mul-table Inv-loop2 μ-loop2 Inv-loop3 μ-loop3 Inv-loop μ-loop
 mul-table c = omega (arith, c .before .loop2 .inv .0)
 
--- src/lib.rt:604:21
+-- src/lib.rt:215:21
 array-set-from-table : tie.Need-array-set-from-table Inv-loop2 μ-loop2 Inv-loop3 μ-loop3 Inv-loop μ-loop
 array-set-from-table c = omega (arith, c .before .loop2 .inv .0)
 
--- src/lib.rt:605:21
+-- src/lib.rt:216:21
 add-own : tie.Need-add-own Inv-loop2 μ-loop2 Inv-loop3 μ-loop3 Inv-loop μ-loop
 add-own c = omega (arith, c .before .loop2 .inv .0)
 
--- src/lib.rt:603:17
+-- src/lib.rt:214:17
 loop2-less : tie.Need-loop2-less Inv-loop2 μ-loop2 Inv-loop3 μ-loop3 Inv-loop μ-loop
 loop2-less c = omega arith
 
--- src/lib.rt:603:17
+-- src/lib.rt:214:17
 loop2-again : tie.Need-loop2-again Inv-loop2 μ-loop2 Inv-loop3 μ-loop3 Inv-loop μ-loop
 loop2-again c = (c .before .loop2 .inv .0, filling-more (c .before .loop2 .inv .1) (omega (arith, c .before .loop2 .inv .0, c .loop2-test .taken)))
 
 enum-told-2 : tie.Need-enum-told-2 Inv-loop2 μ-loop2 Inv-loop3 μ-loop3 Inv-loop μ-loop
 enum-told-2 c = search needs
 
--- src/lib.rt:586:5
+-- src/lib.rt:197:5
 loop-less : tie.Need-loop-less Inv-loop2 μ-loop2 Inv-loop3 μ-loop3 Inv-loop μ-loop
-loop-less c = omega (arith, next-later _ _ (c .before .before .before .before .before .before .before .before .before .before .next-item .ensures) (c .before .before .before .before .before .before .before .before .item .given .1))
+loop-less c = omega (arith, next-later _ _ (c .before .before .before .before .before .before .before .before .before .before .before .next-item .ensures) (found-as (c .before .before .before .before .before .before .before .before .before .item .given .1) (c .before .before .before .before .before .before .before .renewed .ensures)))
 
--- src/lib.rt:586:5
+-- src/lib.rt:197:5
 loop-again : tie.Need-loop-again Inv-loop2 μ-loop2 Inv-loop3 μ-loop3 Inv-loop μ-loop
-loop-again c = passing-goes (passing-filled (c .before .before .before .before .before .before .before .before .before .before .before .loop .inv) (c .before .before .before .loop2 .inv .1)) (c .before .before .before .before .before .before .before .before .before .before .next-item .ensures) (c .before .before .before .before .before .before .before .before .item .given .1) (c .before .before .before .loop2 .inv .1 .records) (c .before .before .before .before .before .before .before .before .before .before .before .loop .inv .pass .counted) (does-nothing (c .before .before .before .loop2 .inv .1 .records) _ _ _ _ (c .before .before .before .before .before .before .item-effect .ensures) (c .enum-told2 .given .1))
+loop-again c = passing-goes (passing-filled (c .before .before .before .before .before .before .before .before .before .before .before .before .loop .inv) (c .before .before .before .loop2 .inv .1)) (c .before .before .before .before .before .before .before .before .before .before .before .next-item .ensures) (found-as (c .before .before .before .before .before .before .before .before .before .item .given .1) (c .before .before .before .before .before .before .before .renewed .ensures)) (c .before .before .before .loop2 .inv .1 .records) (c .before .before .before .before .before .before .before .before .before .before .before .before .loop .inv .pass .counted) (does-nothing (c .before .before .before .loop2 .inv .1 .records) _ _ _ _ (c .before .before .before .before .before .before .item-effect .ensures) (c .enum-told2 .given .1))
 
--- src/lib.rt:609:35
+-- src/lib.rt:220:35
 enum-known-effect : tie.Need-enum-known-effect Inv-loop2 μ-loop2 Inv-loop3 μ-loop3 Inv-loop μ-loop
 enum-known-effect c = search needs
 
--- src/lib.rt:610:25
+-- src/lib.rt:221:25
 with-order-requires : tie.Need-with-order-requires Inv-loop2 μ-loop2 Inv-loop3 μ-loop3 Inv-loop μ-loop
 with-order-requires c κs = search needs
 
--- src/lib.rt:586:5
+-- src/lib.rt:197:5
 loop-less-2 : tie.Need-loop-less-2 Inv-loop2 μ-loop2 Inv-loop3 μ-loop3 Inv-loop μ-loop
-loop-less-2 c = omega (arith, next-later _ _ (c .before .before .before .before .before .before .before .before .before .before .before .before .next-item .ensures) (c .before .before .before .before .before .before .before .before .before .before .item .given .1))
+loop-less-2 c = omega (arith, next-later _ _ (c .before .before .before .before .before .before .before .before .before .before .before .before .before .next-item .ensures) (found-as (c .before .before .before .before .before .before .before .before .before .before .before .item .given .1) (c .before .before .before .before .before .before .before .before .before .renewed .ensures)))
 
--- src/lib.rt:586:5
+-- src/lib.rt:197:5
 loop-again-2 : tie.Need-loop-again-2 Inv-loop2 μ-loop2 Inv-loop3 μ-loop3 Inv-loop μ-loop
-loop-again-2 c = passing-goes (passing-filled (c .before .before .before .before .before .before .before .before .before .before .before .before .before .loop .inv) (c .before .before .before .before .before .loop2 .inv .1)) (c .before .before .before .before .before .before .before .before .before .before .before .before .next-item .ensures) (c .before .before .before .before .before .before .before .before .before .before .item .given .1) (c .before .before .before .before .before .loop2 .inv .1 .records) (subst (λ (x : Standing). x .counted ≤ channelLimit) (sym (c .with-order .ensures)) (c .before .before .before .before .before .before .before .before .before .before .before .before .before .loop .inv .pass .counted)) (does-order (c .before .before .before .before .before .loop2 .inv .1 .records) _ _ _ _ (c .before .before .before .before .before .before .before .before .item-effect .ensures) (c .before .before .effect .given .1) (c .with-order .ensures))
+loop-again-2 c = passing-goes (passing-filled (c .before .before .before .before .before .before .before .before .before .before .before .before .before .before .loop .inv) (c .before .before .before .before .before .loop2 .inv .1)) (c .before .before .before .before .before .before .before .before .before .before .before .before .before .next-item .ensures) (found-as (c .before .before .before .before .before .before .before .before .before .before .before .item .given .1) (c .before .before .before .before .before .before .before .before .before .renewed .ensures)) (c .before .before .before .before .before .loop2 .inv .1 .records) (subst (λ (x : Standing). x .counted ≤ channelLimit) (sym (c .with-order .ensures)) (c .before .before .before .before .before .before .before .before .before .before .before .before .before .before .loop .inv .pass .counted)) (does-order (c .before .before .before .before .before .loop2 .inv .1 .records) _ _ _ _ (c .before .before .before .before .before .before .before .before .item-effect .ensures) (c .before .before .effect .given .1) (c .with-order .ensures))
 
--- src/lib.rt:612:35
+-- src/lib.rt:223:35
 enum-known-effect-2 : tie.Need-enum-known-effect-2 Inv-loop2 μ-loop2 Inv-loop3 μ-loop3 Inv-loop μ-loop
 enum-known-effect-2 c = search needs
 
--- src/lib.rt:614:25
+-- src/lib.rt:225:25
 with-count-requires : tie.Need-with-count-requires Inv-loop2 μ-loop2 Inv-loop3 μ-loop3 Inv-loop μ-loop
 with-count-requires c κs = search needs
 
--- src/lib.rt:586:5
+-- src/lib.rt:197:5
 loop-less-3 : tie.Need-loop-less-3 Inv-loop2 μ-loop2 Inv-loop3 μ-loop3 Inv-loop μ-loop
-loop-less-3 c = omega (arith, next-later _ _ (c .before .before .before .before .before .before .before .before .before .before .before .before .next-item .ensures) (c .before .before .before .before .before .before .before .before .before .before .item .given .1))
+loop-less-3 c = omega (arith, next-later _ _ (c .before .before .before .before .before .before .before .before .before .before .before .before .before .next-item .ensures) (found-as (c .before .before .before .before .before .before .before .before .before .before .before .item .given .1) (c .before .before .before .before .before .before .before .before .before .renewed .ensures)))
 
--- src/lib.rt:586:5
+-- src/lib.rt:197:5
 loop-again-3 : tie.Need-loop-again-3 Inv-loop2 μ-loop2 Inv-loop3 μ-loop3 Inv-loop μ-loop
-loop-again-3 c = passing-goes (passing-filled (c .before .before .before .before .before .before .before .before .before .before .before .before .before .loop .inv) (c .before .before .before .before .before .loop2 .inv .1)) (c .before .before .before .before .before .before .before .before .before .before .before .before .next-item .ensures) (c .before .before .before .before .before .before .before .before .before .before .item .given .1) (record { low = omega arith; full = (c .before .before .before .before .before .loop2 .inv .1 .records) .full }) (subst (λ (x : Standing). x .counted ≤ channelLimit) (sym (c .with-count .ensures)) (count-found _ _ _ (c .before .before .before .before .before .before .before .before .item-effect .ensures) (c .before .before .effect2 .given .1))) (does-count (c .before .before .before .before .before .loop2 .inv .1 .records) _ _ _ _ (c .before .before .before .before .before .before .before .before .item-effect .ensures) (c .before .before .effect2 .given .1) (c .with-count .ensures))
+loop-again-3 c = passing-goes (passing-filled (c .before .before .before .before .before .before .before .before .before .before .before .before .before .before .loop .inv) (c .before .before .before .before .before .loop2 .inv .1)) (c .before .before .before .before .before .before .before .before .before .before .before .before .before .next-item .ensures) (found-as (c .before .before .before .before .before .before .before .before .before .before .before .item .given .1) (c .before .before .before .before .before .before .before .before .before .renewed .ensures)) (record { low = omega arith; full = (c .before .before .before .before .before .loop2 .inv .1 .records) .full }) (subst (λ (x : Standing). x .counted ≤ channelLimit) (sym (c .with-count .ensures)) (count-found _ _ _ (c .before .before .before .before .before .before .before .before .item-effect .ensures) (c .before .before .effect2 .given .1))) (does-count (c .before .before .before .before .before .loop2 .inv .1 .records) _ _ _ _ (c .before .before .before .before .before .before .before .before .item-effect .ensures) (c .before .before .effect2 .given .1) (c .with-count .ensures))
 
--- src/lib.rt:616:39
+-- src/lib.rt:227:39
 enum-known-effect-3 : tie.Need-enum-known-effect-3 Inv-loop2 μ-loop2 Inv-loop3 μ-loop3 Inv-loop μ-loop
 enum-known-effect-3 c = search needs
 
--- src/lib.rt:617:25
+-- src/lib.rt:228:25
 with-sequences-requires : tie.Need-with-sequences-requires Inv-loop2 μ-loop2 Inv-loop3 μ-loop3 Inv-loop μ-loop
 with-sequences-requires c κs = search needs
 
--- src/lib.rt:586:5
+-- src/lib.rt:197:5
 loop-less-4 : tie.Need-loop-less-4 Inv-loop2 μ-loop2 Inv-loop3 μ-loop3 Inv-loop μ-loop
-loop-less-4 c = omega (arith, next-later _ _ (c .before .before .before .before .before .before .before .before .before .before .before .before .next-item .ensures) (c .before .before .before .before .before .before .before .before .before .before .item .given .1))
+loop-less-4 c = omega (arith, next-later _ _ (c .before .before .before .before .before .before .before .before .before .before .before .before .before .next-item .ensures) (found-as (c .before .before .before .before .before .before .before .before .before .before .before .item .given .1) (c .before .before .before .before .before .before .before .before .before .renewed .ensures)))
 
--- src/lib.rt:586:5
+-- src/lib.rt:197:5
 loop-again-4 : tie.Need-loop-again-4 Inv-loop2 μ-loop2 Inv-loop3 μ-loop3 Inv-loop μ-loop
-loop-again-4 c = passing-goes (passing-filled (c .before .before .before .before .before .before .before .before .before .before .before .before .before .loop .inv) (c .before .before .before .before .before .loop2 .inv .1)) (c .before .before .before .before .before .before .before .before .before .before .before .before .next-item .ensures) (c .before .before .before .before .before .before .before .before .before .before .item .given .1) (c .before .before .before .before .before .loop2 .inv .1 .records) (subst (λ (x : Standing). x .counted ≤ channelLimit) (sym (c .with-sequences .ensures)) (c .before .before .before .before .before .before .before .before .before .before .before .before .before .loop .inv .pass .counted)) (does-sequences (c .before .before .before .before .before .loop2 .inv .1 .records) _ _ _ _ (c .before .before .before .before .before .before .before .before .item-effect .ensures) (c .before .before .effect3 .given .1) (c .with-sequences .ensures))
+loop-again-4 c = passing-goes (passing-filled (c .before .before .before .before .before .before .before .before .before .before .before .before .before .before .loop .inv) (c .before .before .before .before .before .loop2 .inv .1)) (c .before .before .before .before .before .before .before .before .before .before .before .before .before .next-item .ensures) (found-as (c .before .before .before .before .before .before .before .before .before .before .before .item .given .1) (c .before .before .before .before .before .before .before .before .before .renewed .ensures)) (c .before .before .before .before .before .loop2 .inv .1 .records) (subst (λ (x : Standing). x .counted ≤ channelLimit) (sym (c .with-sequences .ensures)) (c .before .before .before .before .before .before .before .before .before .before .before .before .before .before .loop .inv .pass .counted)) (does-sequences (c .before .before .before .before .before .loop2 .inv .1 .records) _ _ _ _ (c .before .before .before .before .before .before .before .before .item-effect .ensures) (c .before .before .effect3 .given .1) (c .with-sequences .ensures))
 
--- src/lib.rt:619:35
+-- src/lib.rt:230:35
 enum-known-effect-4 : tie.Need-enum-known-effect-4 Inv-loop2 μ-loop2 Inv-loop3 μ-loop3 Inv-loop μ-loop
 enum-known-effect-4 c = search needs
 
--- src/lib.rt:620:25
+-- src/lib.rt:231:25
 with-start-requires : tie.Need-with-start-requires Inv-loop2 μ-loop2 Inv-loop3 μ-loop3 Inv-loop μ-loop
 with-start-requires c κs = search needs
 
--- src/lib.rt:586:5
+-- src/lib.rt:197:5
 loop-less-5 : tie.Need-loop-less-5 Inv-loop2 μ-loop2 Inv-loop3 μ-loop3 Inv-loop μ-loop
-loop-less-5 c = omega (arith, next-later _ _ (c .before .before .before .before .before .before .before .before .before .before .before .before .next-item .ensures) (c .before .before .before .before .before .before .before .before .before .before .item .given .1))
+loop-less-5 c = omega (arith, next-later _ _ (c .before .before .before .before .before .before .before .before .before .before .before .before .before .next-item .ensures) (found-as (c .before .before .before .before .before .before .before .before .before .before .before .item .given .1) (c .before .before .before .before .before .before .before .before .before .renewed .ensures)))
 
--- src/lib.rt:586:5
-in64s : (c : tie.After-with-start Inv-loop2 μ-loop2 Inv-loop3 μ-loop3 Inv-loop μ-loop) → SFits w64 (c .before .before .effect4 .given .0 .0)
-in64s c = search needs
+-- src/lib.rt:197:5
+start-fits : (c : tie.After-with-start Inv-loop2 μ-loop2 Inv-loop3 μ-loop3 Inv-loop μ-loop) → SFits w64 (c .before .before .effect4 .given .0 .0)
+start-fits c = search needs
 
 loop-again-5 : tie.Need-loop-again-5 Inv-loop2 μ-loop2 Inv-loop3 μ-loop3 Inv-loop μ-loop
-loop-again-5 c = passing-goes (passing-filled (c .before .before .before .before .before .before .before .before .before .before .before .before .before .loop .inv) (c .before .before .before .before .before .loop2 .inv .1)) (c .before .before .before .before .before .before .before .before .before .before .before .before .next-item .ensures) (c .before .before .before .before .before .before .before .before .before .before .item .given .1) (c .before .before .before .before .before .loop2 .inv .1 .records) (subst (λ (x : Standing). x .counted ≤ channelLimit) (sym (c .with-start .ensures)) (c .before .before .before .before .before .before .before .before .before .before .before .before .before .loop .inv .pass .counted)) (does-start (c .before .before .before .before .before .loop2 .inv .1 .records) _ _ _ _ (c .before .before .before .before .before .before .before .before .item-effect .ensures) (c .before .before .effect4 .given .1) (c .with-start .ensures ∙ ap (λ (z : ℤ). withStart z (c .before .before .before .before .before .before .before .before .before .before .before .before .before .loop .st)) (toZ-ofZ (in64s c))))
+loop-again-5 c = passing-goes (passing-filled (c .before .before .before .before .before .before .before .before .before .before .before .before .before .before .loop .inv) (c .before .before .before .before .before .loop2 .inv .1)) (c .before .before .before .before .before .before .before .before .before .before .before .before .before .next-item .ensures) (found-as (c .before .before .before .before .before .before .before .before .before .before .before .item .given .1) (c .before .before .before .before .before .before .before .before .before .renewed .ensures)) (c .before .before .before .before .before .loop2 .inv .1 .records) (subst (λ (x : Standing). x .counted ≤ channelLimit) (sym (c .with-start .ensures)) (c .before .before .before .before .before .before .before .before .before .before .before .before .before .before .loop .inv .pass .counted)) (does-start (c .before .before .before .before .before .loop2 .inv .1 .records) _ _ _ _ (c .before .before .before .before .before .before .before .before .item-effect .ensures) (c .before .before .effect4 .given .1) (c .with-start .ensures ∙ ap (λ (z : ℤ). withStart z (c .before .before .before .before .before .before .before .before .before .before .before .before .before .before .loop .st)) (toZ-ofZ (start-fits c))))
 
--- src/lib.rt:622:33
+-- src/lib.rt:233:33
 enum-known-effect-5 : tie.Need-enum-known-effect-5 Inv-loop2 μ-loop2 Inv-loop3 μ-loop3 Inv-loop μ-loop
 enum-known-effect-5 c = search needs
 
--- src/lib.rt:624:25
+-- src/lib.rt:235:25
 loop3-holds : tie.Need-loop3-holds Inv-loop2 μ-loop2 Inv-loop3 μ-loop3 Inv-loop μ-loop
 loop3-holds c = ((c .before .before .before .before .loop2 .inv .1 .records) .low, (c .before .before .before .before .loop2 .inv .1 .records) .full, omega arith, refl)
 
--- src/lib.rt:625:56
+-- src/lib.rt:236:56
 mul-apply : tie.Need-mul-apply Inv-loop2 μ-loop2 Inv-loop3 μ-loop3 Inv-loop μ-loop
 mul-apply c = omega (arith, c .before .loop3 .inv .0)
 
--- src/lib.rt:625:56
+-- src/lib.rt:236:56
 array-copy-out-apply : tie.Need-array-copy-out-apply Inv-loop2 μ-loop2 Inv-loop3 μ-loop3 Inv-loop μ-loop
 array-copy-out-apply c = omega (arith, c .before .loop3 .inv .0)
 
--- src/lib.rt:625:40
+-- src/lib.rt:236:40
 apply-requires : tie.Need-apply-requires Inv-loop2 μ-loop2 Inv-loop3 μ-loop3 Inv-loop μ-loop
 apply-requires c κs = search needs
 
--- src/lib.rt:625:29
+-- src/lib.rt:236:29
 mul-table-2 : tie.Need-mul-table-2 Inv-loop2 μ-loop2 Inv-loop3 μ-loop3 Inv-loop μ-loop
 mul-table-2 c = omega (arith, c .before .before .before .loop3 .inv .0)
 
--- src/lib.rt:625:29
+-- src/lib.rt:236:29
 array-set-from-table-2 : tie.Need-array-set-from-table-2 Inv-loop2 μ-loop2 Inv-loop3 μ-loop3 Inv-loop μ-loop
 array-set-from-table-2 c = omega (arith, c .before .before .before .loop3 .inv .0)
 
--- src/lib.rt:626:29
+-- src/lib.rt:237:29
 add-i : tie.Need-add-i Inv-loop2 μ-loop2 Inv-loop3 μ-loop3 Inv-loop μ-loop
 add-i c = omega (arith, c .before .before .before .loop3 .inv .0)
 
--- src/lib.rt:624:25
+-- src/lib.rt:235:25
 loop3-less : tie.Need-loop3-less Inv-loop2 μ-loop2 Inv-loop3 μ-loop3 Inv-loop μ-loop
 loop3-less c = omega arith
 
--- src/lib.rt:624:25
+-- src/lib.rt:235:25
 loop3-again : tie.Need-loop3-again Inv-loop2 μ-loop2 Inv-loop3 μ-loop3 Inv-loop μ-loop
 loop3-again c = (c .before .before .before .loop3 .inv .0, c .before .before .before .loop3 .inv .1, omega (arith, c .before .before .loop3-test .taken), mapped-put (applied (c .before .before .before .before .before .effect5 .given .0 .0)) zeroSettings 256 _ (c .before .before .before .before .before .before .before .before .loop2 .table) _ _ (c .before .before .before .loop3 .inv .1) (omega (arith, c .before .before .before .loop3 .inv .0, c .before .before .loop3-test .taken)) (c .before .before .before .loop3 .inv .3) (c .apply .ensures))
 
--- src/lib.rt:628:43
+-- src/lib.rt:239:43
 apply-requires-2 : tie.Need-apply-requires-2 Inv-loop2 μ-loop2 Inv-loop3 μ-loop3 Inv-loop μ-loop
 apply-requires-2 c κs = search needs
 
--- src/lib.rt:628:25
+-- src/lib.rt:239:25
 with-root-requires : tie.Need-with-root-requires Inv-loop2 μ-loop2 Inv-loop3 μ-loop3 Inv-loop μ-loop
 with-root-requires c κs = search needs
 
--- src/lib.rt:586:5
+-- src/lib.rt:197:5
 loop-less-6 : tie.Need-loop-less-6 Inv-loop2 μ-loop2 Inv-loop3 μ-loop3 Inv-loop μ-loop
-loop-less-6 c = omega (arith, next-later _ _ (c .before .before .before .before .before .before .before .before .before .before .before .before .before .before .before .next-item .ensures) (c .before .before .before .before .before .before .before .before .before .before .before .before .before .item .given .1))
+loop-less-6 c = omega (arith, next-later _ _ (c .before .before .before .before .before .before .before .before .before .before .before .before .before .before .before .before .next-item .ensures) (found-as (c .before .before .before .before .before .before .before .before .before .before .before .before .before .before .item .given .1) (c .before .before .before .before .before .before .before .before .before .before .before .before .renewed .ensures)))
 
--- src/lib.rt:586:5
+-- src/lib.rt:197:5
 loop-again-6 : tie.Need-loop-again-6 Inv-loop2 μ-loop2 Inv-loop3 μ-loop3 Inv-loop μ-loop
-loop-again-6 c = passing-goes (passing-filled (c .before .before .before .before .before .before .before .before .before .before .before .before .before .before .before .before .loop .inv) (c .before .before .before .before .before .before .before .before .loop2 .inv .1)) (c .before .before .before .before .before .before .before .before .before .before .before .before .before .before .before .next-item .ensures) (c .before .before .before .before .before .before .before .before .before .before .before .before .before .item .given .1) (records-mapped (c .before .before .before .before .before .before .before .before .loop2 .inv .1 .records) (c .before .before .before .before .before .effect5 .given .0 .0) (c .before .before .before .loop3 .i) (c .before .before .before .loop3 .inv .3)) (subst (λ (x : Standing). x .counted ≤ channelLimit) (sym (c .with-root .ensures)) (c .before .before .before .before .before .before .before .before .before .before .before .before .before .before .before .before .loop .inv .pass .counted)) (does-all (c .before .before .before .before .before .before .before .before .loop2 .inv .1 .records) _ _ _ _ (c .before .before .before .before .before .before .before .before .before .before .before .item-effect .ensures) (c .before .before .before .before .before .effect5 .given .1) (c .before .apply2 .ensures) (c .with-root .ensures) (mapped-own (c .before .before .before .before .before .before .before .before .loop2 .inv .1 .records) (c .before .before .before .before .before .effect5 .given .0 .0) (c .before .before .before .loop3 .i) (c .before .before .before .loop3 .inv .3) (c .before .before .before .loop3 .inv .2) (c .before .before .loop3-test .left)))
+loop-again-6 c = passing-goes (passing-filled (c .before .before .before .before .before .before .before .before .before .before .before .before .before .before .before .before .before .loop .inv) (c .before .before .before .before .before .before .before .before .loop2 .inv .1)) (c .before .before .before .before .before .before .before .before .before .before .before .before .before .before .before .before .next-item .ensures) (found-as (c .before .before .before .before .before .before .before .before .before .before .before .before .before .before .item .given .1) (c .before .before .before .before .before .before .before .before .before .before .before .before .renewed .ensures)) (records-mapped (c .before .before .before .before .before .before .before .before .loop2 .inv .1 .records) (c .before .before .before .before .before .effect5 .given .0 .0) (c .before .before .before .loop3 .i) (c .before .before .before .loop3 .inv .3)) (subst (λ (x : Standing). x .counted ≤ channelLimit) (sym (c .with-root .ensures)) (c .before .before .before .before .before .before .before .before .before .before .before .before .before .before .before .before .before .loop .inv .pass .counted)) (does-all (c .before .before .before .before .before .before .before .before .loop2 .inv .1 .records) _ _ _ _ (c .before .before .before .before .before .before .before .before .before .before .before .item-effect .ensures) (c .before .before .before .before .before .effect5 .given .1) (c .before .apply2 .ensures) (c .with-root .ensures) (mapped-own (c .before .before .before .before .before .before .before .before .loop2 .inv .1 .records) (c .before .before .before .before .before .effect5 .given .0 .0) (c .before .before .before .loop3 .i) (c .before .before .before .loop3 .inv .3) (c .before .before .before .loop3 .inv .2) (c .before .before .loop3-test .left)))
 
--- src/lib.rt:630:33
+-- src/lib.rt:241:33
 enum-known-effect-6 : tie.Need-enum-known-effect-6 Inv-loop2 μ-loop2 Inv-loop3 μ-loop3 Inv-loop μ-loop
 enum-known-effect-6 c = search needs
 
--- src/lib.rt:631:33
+-- src/lib.rt:242:33
 cast-k : tie.Need-cast-k Inv-loop2 μ-loop2 Inv-loop3 μ-loop3 Inv-loop μ-loop
 cast-k c = search needs
 
--- src/lib.rt:633:56
+-- src/lib.rt:244:56
 mul-apply-2 : tie.Need-mul-apply-2 Inv-loop2 μ-loop2 Inv-loop3 μ-loop3 Inv-loop μ-loop
 mul-apply-2 c = search needs
 
--- src/lib.rt:633:56
+-- src/lib.rt:244:56
 array-copy-out-apply-2 : tie.Need-array-copy-out-apply-2 Inv-loop2 μ-loop2 Inv-loop3 μ-loop3 Inv-loop μ-loop
 array-copy-out-apply-2 c = search needs
 
--- src/lib.rt:633:40
+-- src/lib.rt:244:40
 apply-requires-3 : tie.Need-apply-requires-3 Inv-loop2 μ-loop2 Inv-loop3 μ-loop3 Inv-loop μ-loop
 apply-requires-3 c κs = search needs
 
--- src/lib.rt:633:29
+-- src/lib.rt:244:29
 mul-table-3 : tie.Need-mul-table-3 Inv-loop2 μ-loop2 Inv-loop3 μ-loop3 Inv-loop μ-loop
 mul-table-3 c = search needs
 
--- src/lib.rt:633:29
+-- src/lib.rt:244:29
 array-set-from-table-3 : tie.Need-array-set-from-table-3 Inv-loop2 μ-loop2 Inv-loop3 μ-loop3 Inv-loop μ-loop
 array-set-from-table-3 c = search needs
 
--- src/lib.rt:586:5
+-- src/lib.rt:197:5
 loop-less-7 : tie.Need-loop-less-7 Inv-loop2 μ-loop2 Inv-loop3 μ-loop3 Inv-loop μ-loop
-loop-less-7 c = omega (arith, next-later _ _ (c .before .before .before .before .before .before .before .before .before .before .before .before .before .before .next-item .ensures) (c .before .before .before .before .before .before .before .before .before .before .before .before .item .given .1))
+loop-less-7 c = omega (arith, next-later _ _ (c .before .before .before .before .before .before .before .before .before .before .before .before .before .before .before .next-item .ensures) (found-as (c .before .before .before .before .before .before .before .before .before .before .before .before .before .item .given .1) (c .before .before .before .before .before .before .before .before .before .before .before .renewed .ensures)))
 
--- src/lib.rt:586:5
+-- src/lib.rt:197:5
 loop-again-7 : tie.Need-loop-again-7 Inv-loop2 μ-loop2 Inv-loop3 μ-loop3 Inv-loop μ-loop
-loop-again-7 c = passing-goes (passing-filled (c .before .before .before .before .before .before .before .before .before .before .before .before .before .before .before .loop .inv) (c .before .before .before .before .before .before .before .loop2 .inv .1)) (c .before .before .before .before .before .before .before .before .before .before .before .before .before .before .next-item .ensures) (c .before .before .before .before .before .before .before .before .before .before .before .before .item .given .1) (records-set (c .before .before .before .before .before .before .before .loop2 .inv .1 .records) _ _) (c .before .before .before .before .before .before .before .before .before .before .before .before .before .before .before .loop .inv .pass .counted) (does-one (c .before .before .before .before .before .before .before .loop2 .inv .1 .records) _ _ _ _ (c .before .before .before .before .before .before .before .before .before .before .item-effect .ensures) (c .before .before .before .before .effect6 .given .1) (reached-one _ (c .before .before .before .before .before .before .before .before .reach .ensures) (c .before .before .before .before .effect6 .given .1) (c .before .before .before .before .before .before .loop2-test .left) (c .before .before .if2 .taken)) (c .apply3 .ensures))
+loop-again-7 c = passing-goes (passing-filled (c .before .before .before .before .before .before .before .before .before .before .before .before .before .before .before .before .loop .inv) (c .before .before .before .before .before .before .before .loop2 .inv .1)) (c .before .before .before .before .before .before .before .before .before .before .before .before .before .before .before .next-item .ensures) (found-as (c .before .before .before .before .before .before .before .before .before .before .before .before .before .item .given .1) (c .before .before .before .before .before .before .before .before .before .before .before .renewed .ensures)) (records-set (c .before .before .before .before .before .before .before .loop2 .inv .1 .records) _ _) (c .before .before .before .before .before .before .before .before .before .before .before .before .before .before .before .before .loop .inv .pass .counted) (does-one (c .before .before .before .before .before .before .before .loop2 .inv .1 .records) _ _ _ _ (c .before .before .before .before .before .before .before .before .before .before .item-effect .ensures) (c .before .before .before .before .effect6 .given .1) (reached-one _ (c .before .before .before .before .before .before .before .before .reach .ensures) (c .before .before .before .before .effect6 .given .1) (c .before .before .before .before .before .before .loop2-test .left) (c .before .before .if2 .taken)) (c .apply3 .ensures))
 
--- src/lib.rt:586:5
+-- src/lib.rt:197:5
 loop-less-8 : tie.Need-loop-less-8 Inv-loop2 μ-loop2 Inv-loop3 μ-loop3 Inv-loop μ-loop
-loop-less-8 c = omega (arith, next-later _ _ (c .before .before .before .before .before .before .before .before .before .before .before .before .next-item .ensures) (c .before .before .before .before .before .before .before .before .before .before .item .given .1))
+loop-less-8 c = omega (arith, next-later _ _ (c .before .before .before .before .before .before .before .before .before .before .before .before .before .next-item .ensures) (found-as (c .before .before .before .before .before .before .before .before .before .before .before .item .given .1) (c .before .before .before .before .before .before .before .before .before .renewed .ensures)))
 
--- src/lib.rt:586:5
+-- src/lib.rt:197:5
 loop-again-8 : tie.Need-loop-again-8 Inv-loop2 μ-loop2 Inv-loop3 μ-loop3 Inv-loop μ-loop
-loop-again-8 c = passing-goes (passing-filled (c .before .before .before .before .before .before .before .before .before .before .before .before .before .loop .inv) (c .before .before .before .before .before .loop2 .inv .1)) (c .before .before .before .before .before .before .before .before .before .before .before .before .next-item .ensures) (c .before .before .before .before .before .before .before .before .before .before .item .given .1) (c .before .before .before .before .before .loop2 .inv .1 .records) (c .before .before .before .before .before .before .before .before .before .before .before .before .before .loop .inv .pass .counted) (does-outside (c .before .before .before .before .before .loop2 .inv .1 .records) _ _ _ _ (c .before .before .before .before .before .before .before .before .item-effect .ensures) (c .before .before .effect6 .given .1) (c .if2 .left))
+loop-again-8 c = passing-goes (passing-filled (c .before .before .before .before .before .before .before .before .before .before .before .before .before .before .loop .inv) (c .before .before .before .before .before .loop2 .inv .1)) (c .before .before .before .before .before .before .before .before .before .before .before .before .before .next-item .ensures) (found-as (c .before .before .before .before .before .before .before .before .before .before .before .item .given .1) (c .before .before .before .before .before .before .before .before .before .renewed .ensures)) (c .before .before .before .before .before .loop2 .inv .1 .records) (c .before .before .before .before .before .before .before .before .before .before .before .before .before .before .loop .inv .pass .counted) (does-outside (c .before .before .before .before .before .loop2 .inv .1 .records) _ _ _ _ (c .before .before .before .before .before .before .before .before .item-effect .ensures) (c .before .before .effect6 .given .1) (c .if2 .left))
 
--- src/lib.rt:636:37
+-- src/lib.rt:247:37
 enum-known-effect-7 : tie.Need-enum-known-effect-7 Inv-loop2 μ-loop2 Inv-loop3 μ-loop3 Inv-loop μ-loop
 enum-known-effect-7 c = search needs
 
--- src/lib.rt:637:29
+-- src/lib.rt:248:29
 channels-of-requires : tie.Need-channels-of-requires Inv-loop2 μ-loop2 Inv-loop3 μ-loop3 Inv-loop μ-loop
 channels-of-requires c κs = search needs
 
--- src/lib.rt:638:29
+-- src/lib.rt:249:29
 measure-requires : tie.Need-measure-requires Inv-loop2 μ-loop2 Inv-loop3 μ-loop3 Inv-loop μ-loop
 measure-requires c κs = search needs
 
--- src/lib.rt:639:31
+-- src/lib.rt:250:31
 frame-of-requires : tie.Need-frame-of-requires Inv-loop2 μ-loop2 Inv-loop3 μ-loop3 Inv-loop μ-loop
 frame-of-requires c κs = search needs
 
--- src/lib.rt:640:45
+-- src/lib.rt:251:45
 enum-known-number : tie.Need-enum-known-number Inv-loop2 μ-loop2 Inv-loop3 μ-loop3 Inv-loop μ-loop
 enum-known-number c = search needs
 
--- src/lib.rt:643:44
+-- src/lib.rt:254:44
 place-of-requires : tie.Need-place-of-requires Inv-loop2 μ-loop2 Inv-loop3 μ-loop3 Inv-loop μ-loop
 place-of-requires c κs = search needs
 
--- src/lib.rt:641:33
+-- src/lib.rt:252:33
 refused-scan-requires-3 : tie.Need-refused-scan-requires-3 Inv-loop2 μ-loop2 Inv-loop3 μ-loop3 Inv-loop μ-loop
 refused-scan-requires-3 c κs = search needs
 
--- src/lib.rt:641:33
+-- src/lib.rt:252:33
 returns-4 : tie.Need-returns-4 Inv-loop2 μ-loop2 Inv-loop3 μ-loop3 Inv-loop μ-loop
 unfolding withFrame
-returns-4 c = c .refused-scan3 .ensures ∙ scanned-refuses ((passing-filled (c .before .before .before .before .before .before .before .before .before .before .before .before .before .before .before .before .before .before .before .before .loop .inv) (c .before .before .before .before .before .before .before .before .before .before .before .before .loop2 .inv .1)) .pass) _ _ (c .before .before .before .before .before .before .before .before .before .before .before .before .before .before .before .before .before .before .before .next-item .ensures) (c .before .before .before .before .before .before .before .before .before .before .before .before .before .before .before .before .before .item .given .1) (c .before .place-of .ensures) (passing-carried (passing-filled (c .before .before .before .before .before .before .before .before .before .before .before .before .before .before .before .before .before .before .before .before .loop .inv) (c .before .before .before .before .before .before .before .before .before .before .before .before .loop2 .inv .1)) (c .before .before .before .before .before .before .before .channels-of .result) (c .before .before .before .before .before .before .measure .result) (c .before .before .before .before .before .before .before .channels-of .ensures) (c .before .before .before .before .before .before .measure .ensures) (reached-frame _ (c .before .before .before .before .before .before .before .before .before .before .before .before .before .reach .ensures) (c .before .before .before .before .before .before .before .before .before .effect7 .given .1) (c .before .before .before .before .before .before .before .before .before .before .before .loop2-test .left) (c .before .before .before .before .before .before .before .before .before .before .before .before .before .before .before .before .before .before .before .before .loop .inv .pass .counted) (c .before .before .before .before .before .before .before .channels-of .ensures)) _ _ _ (c .before .before .before .before .before .before .before .before .before .before .before .before .before .before .before .item-effect .ensures) (c .before .before .before .before .before .before .before .before .before .effect7 .given .1) (c .before .before .before .before .before .frame-of .ensures) (c .before .before .before .number .given .1))
+returns-4 c = c .refused-scan3 .ensures ∙ scanned-refuses ((passing-filled (c .before .before .before .before .before .before .before .before .before .before .before .before .before .before .before .before .before .before .before .before .before .loop .inv) (c .before .before .before .before .before .before .before .before .before .before .before .before .loop2 .inv .1)) .pass) _ _ (c .before .before .before .before .before .before .before .before .before .before .before .before .before .before .before .before .before .before .before .before .next-item .ensures) (found-as (c .before .before .before .before .before .before .before .before .before .before .before .before .before .before .before .before .before .before .item .given .1) (c .before .before .before .before .before .before .before .before .before .before .before .before .before .before .before .before .renewed .ensures)) (c .before .place-of .ensures) (passing-carried (passing-filled (c .before .before .before .before .before .before .before .before .before .before .before .before .before .before .before .before .before .before .before .before .before .loop .inv) (c .before .before .before .before .before .before .before .before .before .before .before .before .loop2 .inv .1)) (c .before .before .before .before .before .before .before .channels-of .result) (c .before .before .before .before .before .before .measure .result) (c .before .before .before .before .before .before .before .channels-of .ensures) (c .before .before .before .before .before .before .measure .ensures) (reached-frame _ (c .before .before .before .before .before .before .before .before .before .before .before .before .before .reach .ensures) (c .before .before .before .before .before .before .before .before .before .effect7 .given .1) (c .before .before .before .before .before .before .before .before .before .before .before .loop2-test .left) (c .before .before .before .before .before .before .before .before .before .before .before .before .before .before .before .before .before .before .before .before .before .loop .inv .pass .counted) (c .before .before .before .before .before .before .before .channels-of .ensures)) _ _ _ (c .before .before .before .before .before .before .before .before .before .before .before .before .before .before .before .item-effect .ensures) (c .before .before .before .before .before .before .before .before .before .effect7 .given .1) (c .before .before .before .before .before .frame-of .ensures) (c .before .before .before .number .given .1))
 
--- src/lib.rt:646:43
+-- src/lib.rt:257:43
 enum-known-sequences : tie.Need-enum-known-sequences Inv-loop2 μ-loop2 Inv-loop3 μ-loop3 Inv-loop μ-loop
 enum-known-sequences c = search needs
 
--- src/lib.rt:647:37
+-- src/lib.rt:258:37
 index-requires : tie.Need-index-requires Inv-loop2 μ-loop2 Inv-loop3 μ-loop3 Inv-loop μ-loop
 index-requires c κs = search needs
 
--- src/lib.rt:648:76
+-- src/lib.rt:259:76
 mul-seen : tie.Need-mul-seen Inv-loop2 μ-loop2 Inv-loop3 μ-loop3 Inv-loop μ-loop
 mul-seen c = search needs
 
--- src/lib.rt:648:76
+-- src/lib.rt:259:76
 array-copy-out-seen : tie.Need-array-copy-out-seen Inv-loop2 μ-loop2 Inv-loop3 μ-loop3 Inv-loop μ-loop
 array-copy-out-seen c = search needs
 
--- src/lib.rt:648:37
+-- src/lib.rt:259:37
 seen-requires : tie.Need-seen-requires Inv-loop2 μ-loop2 Inv-loop3 μ-loop3 Inv-loop μ-loop
 seen-requires c κs = search needs
 
--- src/lib.rt:659:33
+-- src/lib.rt:270:33
 keep-requires : tie.Need-keep-requires Inv-loop2 μ-loop2 Inv-loop3 μ-loop3 Inv-loop μ-loop
 keep-requires c κs = search needs
 
--- src/lib.rt:661:71
+-- src/lib.rt:272:71
 cast-frame-size : tie.Need-cast-frame-size Inv-loop2 μ-loop2 Inv-loop3 μ-loop3 Inv-loop μ-loop
 cast-frame-size c = search needs
 
--- src/lib.rt:661:71
+-- src/lib.rt:272:71
 mul-frame-size : tie.Need-mul-frame-size Inv-loop2 μ-loop2 Inv-loop3 μ-loop3 Inv-loop μ-loop
-mul-frame-size c = omega (arith, framed-found (c .before .before .before .before .before .before .before .before .before .before .before .before .before .before .before .before .before .before .before .before .before .before .before .before .before .before .loop .frames) (c .before .before .before .before .before .before .before .before .before .before .before .before .before .before .before .before .before .before .before .before .before .before .before .before .before .before .loop .st) (c .before .before .before .before .before .before .before .before .before .before .before .before .measure .result .agree) (c .before .before .before .before .before .before .before .before .before .before .before .before .measure .result .octets) (c .before .before .before .before .before .before .before .before .before .before .before .before .before .before .before .effect7 .given .0 .1 .0) (c .before .before .before .before .before .before .before .before .before .before .before .frame-of .ensures) (c .before .before .before .before .before .before .before .before .before .sequences .given .1))
+mul-frame-size c = omega (arith, framed-found (c .before .before .before .before .before .before .before .before .before .before .before .before .before .before .before .before .before .before .before .before .before .before .before .before .before .before .before .loop .frames) (c .before .before .before .before .before .before .before .before .before .before .before .before .before .before .before .before .before .before .before .before .before .before .before .before .before .before .before .loop .st) (c .before .before .before .before .before .before .before .before .before .before .before .before .measure .result .agree) (c .before .before .before .before .before .before .before .before .before .before .before .before .measure .result .octets) (c .before .before .before .before .before .before .before .before .before .before .before .before .before .before .before .effect7 .given .0 .1 .0) (c .before .before .before .before .before .before .before .before .before .before .before .frame-of .ensures) (c .before .before .before .before .before .before .before .before .before .sequences .given .1))
 
--- src/lib.rt:661:39
+-- src/lib.rt:272:39
 frame-size-requires : tie.Need-frame-size-requires Inv-loop2 μ-loop2 Inv-loop3 μ-loop3 Inv-loop μ-loop
-frame-size-requires c κs = (passing-groups (passing-filled (c .before .before .before .before .before .before .before .before .before .before .before .before .before .before .before .before .before .before .before .before .before .before .before .before .before .before .loop .inv) (c .before .before .before .before .before .before .before .before .before .before .before .before .before .before .before .before .before .before .loop2 .inv .1)) (c .before .before .before .before .before .before .before .before .before .before .before .before .before .channels-of .result) (c .before .before .before .before .before .before .before .before .before .before .before .before .measure .result) (c .before .before .before .before .before .before .before .before .before .before .before .before .before .channels-of .ensures) (c .before .before .before .before .before .before .before .before .before .before .before .before .measure .ensures) (reached-frame _ (c .before .before .before .before .before .before .before .before .before .before .before .before .before .before .before .before .before .before .before .reach .ensures) (c .before .before .before .before .before .before .before .before .before .before .before .before .before .before .before .effect7 .given .1) (c .before .before .before .before .before .before .before .before .before .before .before .before .before .before .before .before .before .loop2-test .left) (c .before .before .before .before .before .before .before .before .before .before .before .before .before .before .before .before .before .before .before .before .before .before .before .before .before .before .loop .inv .pass .counted) (c .before .before .before .before .before .before .before .before .before .before .before .before .before .channels-of .ensures)), omega (arith, framed-found (c .before .before .before .before .before .before .before .before .before .before .before .before .before .before .before .before .before .before .before .before .before .before .before .before .before .before .loop .frames) (c .before .before .before .before .before .before .before .before .before .before .before .before .before .before .before .before .before .before .before .before .before .before .before .before .before .before .loop .st) (c .before .before .before .before .before .before .before .before .before .before .before .before .measure .result .agree) (c .before .before .before .before .before .before .before .before .before .before .before .before .measure .result .octets) (c .before .before .before .before .before .before .before .before .before .before .before .before .before .before .before .effect7 .given .0 .1 .0) (c .before .before .before .before .before .before .before .before .before .before .before .frame-of .ensures) (c .before .before .before .before .before .before .before .before .before .sequences .given .1)))
+frame-size-requires c κs = (passing-groups (passing-filled (c .before .before .before .before .before .before .before .before .before .before .before .before .before .before .before .before .before .before .before .before .before .before .before .before .before .before .before .loop .inv) (c .before .before .before .before .before .before .before .before .before .before .before .before .before .before .before .before .before .before .loop2 .inv .1)) (c .before .before .before .before .before .before .before .before .before .before .before .before .before .channels-of .result) (c .before .before .before .before .before .before .before .before .before .before .before .before .measure .result) (c .before .before .before .before .before .before .before .before .before .before .before .before .before .channels-of .ensures) (c .before .before .before .before .before .before .before .before .before .before .before .before .measure .ensures) (reached-frame _ (c .before .before .before .before .before .before .before .before .before .before .before .before .before .before .before .before .before .before .before .reach .ensures) (c .before .before .before .before .before .before .before .before .before .before .before .before .before .before .before .effect7 .given .1) (c .before .before .before .before .before .before .before .before .before .before .before .before .before .before .before .before .before .loop2-test .left) (c .before .before .before .before .before .before .before .before .before .before .before .before .before .before .before .before .before .before .before .before .before .before .before .before .before .before .before .loop .inv .pass .counted) (c .before .before .before .before .before .before .before .before .before .before .before .before .before .channels-of .ensures)), omega (arith, framed-found (c .before .before .before .before .before .before .before .before .before .before .before .before .before .before .before .before .before .before .before .before .before .before .before .before .before .before .before .loop .frames) (c .before .before .before .before .before .before .before .before .before .before .before .before .before .before .before .before .before .before .before .before .before .before .before .before .before .before .before .loop .st) (c .before .before .before .before .before .before .before .before .before .before .before .before .measure .result .agree) (c .before .before .before .before .before .before .before .before .before .before .before .before .measure .result .octets) (c .before .before .before .before .before .before .before .before .before .before .before .before .before .before .before .effect7 .given .0 .1 .0) (c .before .before .before .before .before .before .before .before .before .before .before .frame-of .ensures) (c .before .before .before .before .before .before .before .before .before .sequences .given .1)))
 
--- src/lib.rt:660:40
+-- src/lib.rt:271:40
 add-size : tie.Need-add-size Inv-loop2 μ-loop2 Inv-loop3 μ-loop3 Inv-loop μ-loop
-add-size c = omega (arith, c .before .before .before .before .before .before .before .before .before .before .before .before .before .before .before .before .before .before .before .before .before .before .before .before .before .before .before .loop .inv .pass .room, c .before .before .before .before .before .before .before .before .before .before .before .before .before .before .before .before .before .before .before .before .before .before .before .before .before .before .before .loop .inv .pass .limit, c .frame-size .ensures .1)
+add-size c = omega (arith, c .before .before .before .before .before .before .before .before .before .before .before .before .before .before .before .before .before .before .before .before .before .before .before .before .before .before .before .before .loop .inv .pass .room, c .before .before .before .before .before .before .before .before .before .before .before .before .before .before .before .before .before .before .before .before .before .before .before .before .before .before .before .before .loop .inv .pass .limit, c .frame-size .ensures .1)
 
--- src/lib.rt:663:42
+-- src/lib.rt:274:42
 add-frames : tie.Need-add-frames Inv-loop2 μ-loop2 Inv-loop3 μ-loop3 Inv-loop μ-loop
-add-frames c = omega (arith, c .before .before .before .before .before .before .before .before .before .before .before .before .before .before .before .before .before .before .before .before .before .before .before .before .before .before .before .loop .inv .pass .limit)
+add-frames c = omega (arith, c .before .before .before .before .before .before .before .before .before .before .before .before .before .before .before .before .before .before .before .before .before .before .before .before .before .before .before .before .loop .inv .pass .limit)
 
--- src/lib.rt:586:5
+-- src/lib.rt:197:5
 loop-less-9 : tie.Need-loop-less-9 Inv-loop2 μ-loop2 Inv-loop3 μ-loop3 Inv-loop μ-loop
-loop-less-9 c = omega (arith, next-later _ _ (c .before .before .before .before .before .before .before .before .before .before .before .before .before .before .before .before .before .before .before .before .before .before .before .before .before .before .next-item .ensures) (c .before .before .before .before .before .before .before .before .before .before .before .before .before .before .before .before .before .before .before .before .before .before .before .before .item .given .1))
+loop-less-9 c = omega (arith, next-later _ _ (c .before .before .before .before .before .before .before .before .before .before .before .before .before .before .before .before .before .before .before .before .before .before .before .before .before .before .before .next-item .ensures) (found-as (c .before .before .before .before .before .before .before .before .before .before .before .before .before .before .before .before .before .before .before .before .before .before .before .before .before .item .given .1) (c .before .before .before .before .before .before .before .before .before .before .before .before .before .before .before .before .before .before .before .before .before .before .before .renewed .ensures)))
 
--- src/lib.rt:586:5
-in64 : (c : tie.After-frame-size Inv-loop2 μ-loop2 Inv-loop3 μ-loop3 Inv-loop μ-loop) → SFits w64 (c .before .before .before .before .before .before .before .before .before .before .before .before .before .before .before .before .before .before .before .before .before .before .before .before .before .before .before .loop .st .start)
-in64 c = search needs
+-- src/lib.rt:197:5
+pointer-fits : (c : tie.After-frame-size Inv-loop2 μ-loop2 Inv-loop3 μ-loop3 Inv-loop μ-loop) → SFits w64 (c .before .before .before .before .before .before .before .before .before .before .before .before .before .before .before .before .before .before .before .before .before .before .before .before .before .before .before .before .loop .st .start)
+pointer-fits c = search needs
 
 loop-again-9 : tie.Need-loop-again-9 Inv-loop2 μ-loop2 Inv-loop3 μ-loop3 Inv-loop μ-loop
-loop-again-9 c = passing-frame (passing-filled (c .before .before .before .before .before .before .before .before .before .before .before .before .before .before .before .before .before .before .before .before .before .before .before .before .before .before .before .loop .inv) (c .before .before .before .before .before .before .before .before .before .before .before .before .before .before .before .before .before .before .before .loop2 .inv .1)) (c .before .before .before .before .before .before .before .before .before .before .before .before .before .before .channels-of .result) (c .before .before .before .before .before .before .before .before .before .before .before .before .before .measure .result) (c .before .before .before .before .before .before .before .before .before .before .before .before .before .before .channels-of .ensures) (c .before .before .before .before .before .before .before .before .before .before .before .before .before .measure .ensures) (reached-frame _ (c .before .before .before .before .before .before .before .before .before .before .before .before .before .before .before .before .before .before .before .before .reach .ensures) (c .before .before .before .before .before .before .before .before .before .before .before .before .before .before .before .before .effect7 .given .1) (c .before .before .before .before .before .before .before .before .before .before .before .before .before .before .before .before .before .before .loop2-test .left) (c .before .before .before .before .before .before .before .before .before .before .before .before .before .before .before .before .before .before .before .before .before .before .before .before .before .before .before .loop .inv .pass .counted) (c .before .before .before .before .before .before .before .before .before .before .before .before .before .before .channels-of .ensures)) (c .before .before .before .before .before .before .before .before .before .before .before .before .before .before .before .before .before .before .before .before .before .before .before .before .before .before .next-item .ensures) (c .before .before .before .before .before .before .before .before .before .before .before .before .before .before .before .before .before .before .before .before .before .before .before .before .item .given .1) (c .before .before .before .before .before .before .before .before .before .before .before .before .before .before .before .before .before .before .before .before .before .before .item-effect .ensures) (c .before .before .before .before .before .before .before .before .before .before .before .before .before .before .before .before .effect7 .given .1) (c .before .before .before .before .before .before .before .before .before .before .before .before .frame-of .ensures) (c .before .before .before .before .before .before .before .before .before .before .sequences .given .1) (c .before .before .before .before .before .seen .ensures ∙ ap (λ (k : ℕ). pick (ltb (c .before .before .before .before .before .before .before .before .before .before .before .before .before .before .before .before .before .before .before .before .before .before .before .before .before .before .before .before .before .before .before .before .before .args .asked .channel) (c .before .before .before .before .before .before .before .before .before .before .before .before .before .before .channels-of .result)) (getD (c .before .before .before .before .before .before .before .before .before .before .before .before .before .before .before .before .before .before .before .loop2 .table) k zeroSettings) defaultSettings) (c .before .before .before .before .before .before .before .before .index .ensures)) (view-read (record { start = c .before .before .before .before .before .before .before .before .before .before .before .before .before .before .before .before .before .before .before .before .before .before .before .before .before .before .before .loop .st .start; channels = c .before .before .before .before .before .before .before .before .before .before .before .before .before .before .channels-of .result; sequences = c .before .before .before .before .before .before .before .before .before .before .sequences .given .0 .0; little = c .before .before .before .before .before .before .before .before .before .before .before .before .before .before .before .before .before .before .before .before .before .before .before .before .before .before .before .loop .st .little; place = c .before .before .before .before .before .before .before .before .before .before .before .before .before .before .before .before .effect7 .given .0 .0; octets = c .before .before .before .before .before .before .before .before .before .before .before .before .before .measure .result .octets; below = c .before .before .before .before .before .before .before .before .before .before .before .before .before .measure .result .below; settings = c .before .before .before .before .before .seen .result }) (toZ-ofZ (in64 c))) (c .before .before .keep .ensures) (c .frame-size .ensures)
+loop-again-9 c = passing-frame (passing-filled (c .before .before .before .before .before .before .before .before .before .before .before .before .before .before .before .before .before .before .before .before .before .before .before .before .before .before .before .before .loop .inv) (c .before .before .before .before .before .before .before .before .before .before .before .before .before .before .before .before .before .before .before .loop2 .inv .1)) (c .before .before .before .before .before .before .before .before .before .before .before .before .before .before .channels-of .result) (c .before .before .before .before .before .before .before .before .before .before .before .before .before .measure .result) (c .before .before .before .before .before .before .before .before .before .before .before .before .before .before .channels-of .ensures) (c .before .before .before .before .before .before .before .before .before .before .before .before .before .measure .ensures) (reached-frame _ (c .before .before .before .before .before .before .before .before .before .before .before .before .before .before .before .before .before .before .before .before .reach .ensures) (c .before .before .before .before .before .before .before .before .before .before .before .before .before .before .before .before .effect7 .given .1) (c .before .before .before .before .before .before .before .before .before .before .before .before .before .before .before .before .before .before .loop2-test .left) (c .before .before .before .before .before .before .before .before .before .before .before .before .before .before .before .before .before .before .before .before .before .before .before .before .before .before .before .before .loop .inv .pass .counted) (c .before .before .before .before .before .before .before .before .before .before .before .before .before .before .channels-of .ensures)) (c .before .before .before .before .before .before .before .before .before .before .before .before .before .before .before .before .before .before .before .before .before .before .before .before .before .before .before .next-item .ensures) (found-as (c .before .before .before .before .before .before .before .before .before .before .before .before .before .before .before .before .before .before .before .before .before .before .before .before .before .item .given .1) (c .before .before .before .before .before .before .before .before .before .before .before .before .before .before .before .before .before .before .before .before .before .before .before .renewed .ensures)) (c .before .before .before .before .before .before .before .before .before .before .before .before .before .before .before .before .before .before .before .before .before .before .item-effect .ensures) (c .before .before .before .before .before .before .before .before .before .before .before .before .before .before .before .before .effect7 .given .1) (c .before .before .before .before .before .before .before .before .before .before .before .before .frame-of .ensures) (c .before .before .before .before .before .before .before .before .before .before .sequences .given .1) (c .before .before .before .before .before .seen .ensures ∙ ap (λ (k : ℕ). pick (ltb (c .before .before .before .before .before .before .before .before .before .before .before .before .before .before .before .before .before .before .before .before .before .before .before .before .before .before .before .before .before .before .before .before .before .before .args .asked .channel) (c .before .before .before .before .before .before .before .before .before .before .before .before .before .before .channels-of .result)) (getD (c .before .before .before .before .before .before .before .before .before .before .before .before .before .before .before .before .before .before .before .loop2 .table) k zeroSettings) defaultSettings) (c .before .before .before .before .before .before .before .before .index .ensures)) (view-read (record { start = c .before .before .before .before .before .before .before .before .before .before .before .before .before .before .before .before .before .before .before .before .before .before .before .before .before .before .before .before .loop .st .start; channels = c .before .before .before .before .before .before .before .before .before .before .before .before .before .before .channels-of .result; sequences = c .before .before .before .before .before .before .before .before .before .before .sequences .given .0 .0; little = c .before .before .before .before .before .before .before .before .before .before .before .before .before .before .before .before .before .before .before .before .before .before .before .before .before .before .before .before .loop .st .little; place = c .before .before .before .before .before .before .before .before .before .before .before .before .before .before .before .before .effect7 .given .0 .0; octets = c .before .before .before .before .before .before .before .before .before .before .before .before .before .measure .result .octets; below = c .before .before .before .before .before .before .before .before .before .before .before .before .before .measure .result .below; settings = c .before .before .before .before .before .seen .result }) (toZ-ofZ (pointer-fits c))) (c .before .before .keep .ensures) (c .frame-size .ensures)
 
--- src/lib.rt:667:37
+-- src/lib.rt:278:37
 enum-known-effect-8 : tie.Need-enum-known-effect-8 Inv-loop2 μ-loop2 Inv-loop3 μ-loop3 Inv-loop μ-loop
 enum-known-effect-8 c = search needs
 
--- src/lib.rt:670:36
+-- src/lib.rt:281:36
 place-of-requires-2 : tie.Need-place-of-requires-2 Inv-loop2 μ-loop2 Inv-loop3 μ-loop3 Inv-loop μ-loop
 place-of-requires-2 c κs = search needs
 
--- src/lib.rt:668:25
+-- src/lib.rt:279:25
 refused-scan-requires-4 : tie.Need-refused-scan-requires-4 Inv-loop2 μ-loop2 Inv-loop3 μ-loop3 Inv-loop μ-loop
 refused-scan-requires-4 c κs = search needs
 
--- src/lib.rt:668:25
+-- src/lib.rt:279:25
 returns-5 : tie.Need-returns-5 Inv-loop2 μ-loop2 Inv-loop3 μ-loop3 Inv-loop μ-loop
 unfolding carried
-returns-5 c = c .refused-scan4 .ensures ∙ scanned-refuses ((passing-filled (c .before .before .before .before .before .before .before .before .before .before .before .before .before .before .loop .inv) (c .before .before .before .before .before .before .loop2 .inv .1)) .pass) _ _ (c .before .before .before .before .before .before .before .before .before .before .before .before .before .next-item .ensures) (c .before .before .before .before .before .before .before .before .before .before .before .item .given .1) (c .before .place-of2 .ensures) (carried-by _ _ _ (c .before .before .before .before .before .before .before .before .before .item-effect .ensures) (c .before .before .before .effect8 .given .1))
+returns-5 c = c .refused-scan4 .ensures ∙ scanned-refuses ((passing-filled (c .before .before .before .before .before .before .before .before .before .before .before .before .before .before .before .loop .inv) (c .before .before .before .before .before .before .loop2 .inv .1)) .pass) _ _ (c .before .before .before .before .before .before .before .before .before .before .before .before .before .before .next-item .ensures) (found-as (c .before .before .before .before .before .before .before .before .before .before .before .before .item .given .1) (c .before .before .before .before .before .before .before .before .before .before .renewed .ensures)) (c .before .place-of2 .ensures) (carried-by _ _ _ (c .before .before .before .before .before .before .before .before .before .item-effect .ensures) (c .before .before .before .effect8 .given .1))
 
 pub scan-file-spec : {M : Type 1} → statement M
 scan-file-spec =
@@ -452,6 +458,7 @@ scan-file-spec =
     refused-scan-requires-2
     returns-3
     enum-known-item
+    renewed-requires
     item-effect-requires
     reach-requires
     loop2-holds

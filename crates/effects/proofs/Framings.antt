@@ -1,0 +1,102 @@
+-- Laws of what a waveform gives.
+--     sequences-..      the ways of the number of sequences, and that it is small
+--     short-..          a waveform shorter than its sequences, by a division
+--     framed-..         the ways of a frame
+-- Assumes nothing.
+use mathlib.Core.Path.{_≡_, refl, sym, ap, _∙_}
+use mathlib.Core.Bool.{Bool, true, false, not, cond}
+use Prim.Native.Nat.{ℕ, suc, _+_, _-_, _*_, _/_, _≤_, _<_}
+use native.Mathlib.Nat.{div-lt-iff-lt-mul, le-mul-of-pos-right, le-trans}
+use native.Mathlib.Omega.{arith}
+use borrow.Author.Tests.{lt-ltb, le-ltb, le-leb, lt-leb, eq-eqb, ne-eqb, leb-true, ltb-true, ltb-false}
+use lib.Dec.{ltb, leb}
+use lib.IntN.{ℤ, pos, negsuc, _+ℤ_}
+use lib.Signed.{leZ, mag}
+use Rattle.octets.specs.Pick.{pick, both}
+use Rattle.items.specs.Refusals.{fileLimit, frameLimit, widthDiffers, pointerRange, waveformShort}
+use Rattle.effects.specs.declared.Standing.{Standing}
+use Rattle.effects.specs.declared.Framed.{Framed}
+use Rattle.effects.specs.declared.Framed.the-variants.{Taken, Refused}
+use Rattle.effects.specs.Standing.{withContinued}
+use Rattle.effects.specs.Framing.{octetsLimit, framesLimit, sequencesOf, pointerFits, pointerAfter, framedAs}
+
+module _ (set long octets : ℕ) where
+  pub sequences-set : (set ≡ 0 → ⊥) → set ≡ sequencesOf set long octets
+  unfolding sequencesOf
+  sequences-set n = simp (ne-eqb set 0 n)
+
+  pub sequences-by : set ≡ 0 → long / octets ≡ sequencesOf set long octets
+  unfolding sequencesOf
+  sequences-by e = simp (eq-eqb set 0 e)
+
+-- Two tests that hold in the same cases are one.
+same-test : {A B : Type 0} (a b : Bool) → (a ≡ true → A) → (a ≡ false → A → ⊥) → (b ≡ true → B) → (b ≡ false → B → ⊥) → (A → B) → (B → A) → a ≡ b
+same-test true true f g h k u v = refl
+same-test true false f g h k u v = absurd (k refl (u (f refl)))
+same-test false true f g h k u v = absurd (g refl (v (h refl)))
+same-test false false f g h k u v = refl
+
+not-lt : (m n : ℕ) → ltb m n ≡ false → m < n → ⊥
+not-lt m n e h = let g = ltb-false m n e in let z : ⊥ = omega arith in z
+
+-- A waveform is shorter than so many sequences where fewer fit in.
+pub short-by : (long sequences octets : ℕ) → 0 < octets → ltb (long / octets) sequences ≡ ltb long (sequences * octets)
+short-by long sequences octets p =
+    let e = div-lt-iff-lt-mul {k = octets} {x = long} {y = sequences} p in
+    same-test (ltb (long / octets) sequences) (ltb long (sequences * octets))
+    (ltb-true (long / octets) sequences) (not-lt (long / octets) sequences)
+    (ltb-true long (sequences * octets)) (not-lt long (sequences * octets))
+    (e .0) (e .1)
+
+-- Signed 32 bits.
+pub pointer-small : (z : ℤ) → pointerFits z ≡ true → mag z < 2147483648
+unfolding pointerFits
+pointer-small (pos n) h = omega (arith, leb-true n 2147483647 h)
+pointer-small (negsuc n) h = by (leb n 2147483647) refl h
+  where
+    by : (b : Bool) → leb n 2147483647 ≡ b → both b true ≡ true → n < 2147483648
+    by true e t = omega (arith, leb-true n 2147483647 e)
+    by false e t = let z : _≡_ {A = ℕ} 0 1 = cc in omega arith
+
+-- A sum with a number from 0 on is small where both are.
+pub sum-small : (z : ℤ) (n k m : ℕ) → mag z < k → n + k ≤ m → mag (z +ℤ pos n) < m
+sum-small (pos a) n k m h l = omega arith
+sum-small (negsuc a) n k m h l = by (ltb n (suc a))
+  where
+    by : (b : Bool) → mag (cond b (negsuc (suc a - suc n)) (pos (n - suc a))) < m
+    by true = omega arith
+    by false = omega arith
+
+-- No more sequences than octets.
+pub sequences-few : (n octets long : ℕ) → 0 < octets → ltb long (n * octets) ≡ false → n ≤ long
+sequences-few n octets long p t = le-trans (le-mul-of-pos-right n p) (ltb-false long (n * octets) t)
+
+module _ (frames : ℕ) (st : Standing) (agree : Bool) (octets long : ℕ) where
+  pub framed-empty : octets ≡ 0 → Refused fileLimit ≡ framedAs frames st agree octets long
+  unfolding framedAs
+  framed-empty z = simp (eq-eqb octets 0 z)
+
+  pub framed-large : (octets ≡ 0 → ⊥) → octetsLimit < long → Refused fileLimit ≡ framedAs frames st agree octets long
+  unfolding framedAs
+  framed-large z h = simp (ne-eqb octets 0 z, lt-ltb octetsLimit long h)
+
+  pub framed-limit : (octets ≡ 0 → ⊥) → long ≤ octetsLimit → framesLimit ≤ frames → Refused frameLimit ≡ framedAs frames st agree octets long
+  unfolding framedAs
+  framed-limit z h k = simp (ne-eqb octets 0 z, le-ltb octetsLimit long h, le-leb framesLimit frames k)
+
+  pub framed-width : (octets ≡ 0 → ⊥) → long ≤ octetsLimit → frames < framesLimit → not agree ≡ true → Refused widthDiffers ≡ framedAs frames st agree octets long
+  unfolding framedAs
+  framed-width z h k a = simp (ne-eqb octets 0 z, le-ltb octetsLimit long h, lt-leb framesLimit frames k, a)
+
+  pub framed-pointer : (octets ≡ 0 → ⊥) → long ≤ octetsLimit → frames < framesLimit → not agree ≡ false → pointerFits (st .start) ≡ false → Refused pointerRange ≡ framedAs frames st agree octets long
+  unfolding framedAs
+  framed-pointer z h k a p = simp (ne-eqb octets 0 z, le-ltb octetsLimit long h, lt-leb framesLimit frames k, a, p)
+
+  module _ (z : octets ≡ 0 → ⊥) (h : long ≤ octetsLimit) (k : frames < framesLimit) (a : not agree ≡ false) (p : pointerFits (st .start) ≡ true) where
+    pub framed-short : (n : ℕ) → n ≡ sequencesOf (st .sequences) long octets → ltb long (n * octets) ≡ true → Refused waveformShort ≡ framedAs frames st agree octets long
+    unfolding framedAs
+    framed-short n e t = simp (ne-eqb octets 0 z, le-ltb octetsLimit long h, lt-leb framesLimit frames k, a, p, ap (λ (m : ℕ). ltb long (m * octets)) (sym e) ∙ t)
+
+    pub framed-taken : (n : ℕ) (y : ℤ) → n ≡ sequencesOf (st .sequences) long octets → ltb long (n * octets) ≡ false → y ≡ pointerAfter st n → Taken n (withContinued y st) ≡ framedAs frames st agree octets long
+    unfolding framedAs
+    framed-taken n y e t q = rw (q, e) (simp (ne-eqb octets 0 z, le-ltb octetsLimit long h, lt-leb framesLimit frames k, a, p, ap (λ (m : ℕ). ltb long (m * octets)) (sym e) ∙ t))

@@ -1,0 +1,21 @@
+-- The root settings are what `default` answers.
+use mathlib.Core.Path.{ap}
+use Rattle.settings.specs.declared.Settings.{Settings}
+use Rattle.effects.specs.Standing.{firstStanding, withRoot}
+use borrow.Author.Needs.{needs}
+use Rattle.effects.proofs.Standing.first.Statement.{statement}
+use Rattle.effects.proofs.Standing.first.Tie as tie
+use Rattle.effects.proofs.Standing.first.Reads as reads
+use Rattle.effects.proofs.Standing.first.Lts as lts
+use Rattle.settings.proofs.Settings.default.Reads as default-reads
+
+-- src/lib.rt:48:13
+default-requires : tie.Need-default-requires
+default-requires c κs = search needs
+
+-- src/lib.rt:45:5
+returns : tie.Need-returns
+returns c = ap (λ (r : Settings). withRoot r firstStanding) (c .default .ensures)
+
+pub first-spec : {M : Type 1} → statement M
+first-spec = tie.close (tie.spec default-requires returns)

@@ -1,0 +1,51 @@
+-- The product leaves room for the pointer below 2 ^ 63, so that the sum does not leave 64 bits.
+use Prim.Native.Nat.{ℕ, _+_, _*_, _≤_, _<_, _^_, _-_}
+use mathlib.Core.Path.{_≡_, ap, ap₂, sym, _∙_}
+use native.Mathlib.Omega.{arith}
+use native.Mathlib.Nat.{mul-le-mul, le-trans}
+use lib.Dec.{lit≤}
+use lib.IntN.{ℤ, pos, _+ℤ_}
+use lib.Signed.{mag}
+use mir.Syntax.{w64}
+use mir.Val.{SFits, toZ, ofZ}
+use mir.Facts.{toZ-ofZ, toZ-pos}
+use Rattle.effects.proofs.Framings.{sum-small}
+use Rattle.effects.proofs.pointer_after.Statement.{statement}
+use Rattle.effects.proofs.pointer_after.Tie as tie
+use Rattle.effects.proofs.pointer_after.Reads as reads
+use Rattle.effects.proofs.pointer_after.Lts as lts
+
+product : (b n : ℕ) → b < 2 ^ 32 → n < 2 ^ 31 → b * n + 2 ^ 31 ≤ 2 ^ 63
+product b n h l =
+    let p : b ≤ 2 ^ 32 - 1 = omega arith in
+    let q : n ≤ 2 ^ 31 - 1 = omega arith in
+    let m : b * n ≤ (2 ^ 32 - 1) * (2 ^ 31 - 1) = mul-le-mul p q in
+    omega arith
+
+room : (c : tie.Start) → c .args .block * c .args .sequences + 2 ^ 31 ≤ 2 ^ 63
+room c = product (c .args .block) (c .args .sequences) (c .fits .block .fits) (c .pre .1)
+
+sum : (c : tie.Start) → toZ w64 (ofZ w64 (c .args .start)) +ℤ toZ w64 (c .args .block * c .args .sequences) ≡ c .args .start +ℤ pos (c .args .block * c .args .sequences)
+sum c = ap₂ _+ℤ_ (toZ-ofZ (c .fits .start)) (toZ-pos w64 (omega (arith, room c)))
+
+sum-fits : (c : tie.Start) → SFits w64 (c .args .start +ℤ pos (c .args .block * c .args .sequences))
+sum-fits c = record { sfits = sum-small (c .args .start) (c .args .block * c .args .sequences) (2 ^ 31) (2 ^ 63) (c .pre .0) (room c) }
+
+-- src/lib.rt:344:14
+mul-result : tie.Need-mul-result
+mul-result c = omega (arith, room c)
+
+-- src/lib.rt:344:13
+cast-result : tie.Need-cast-result
+cast-result c = record { sfits = omega (arith, room c) }
+
+-- src/lib.rt:344:5
+add-result : tie.Need-add-result
+add-result c = rw (sum c) (sum-fits c)
+
+-- src/lib.rt:340:1
+returns : tie.Need-returns
+returns c = ap (λ (z : ℤ). toZ w64 (ofZ w64 z)) (sum c) ∙ toZ-ofZ (sum-fits c)
+
+pub pointer-after-spec : {M : Type 1} → statement M
+pointer-after-spec = tie.close (tie.spec mul-result cast-result add-result returns)

@@ -1,0 +1,18 @@
+-- By how many sequences fit in.
+use Rattle.effects.proofs.Framings.{short-by}
+use borrow.Author.Needs.{needs}
+use Rattle.effects.proofs.too_short.Statement.{statement}
+use Rattle.effects.proofs.too_short.Tie as tie
+use Rattle.effects.proofs.too_short.Reads as reads
+use Rattle.effects.proofs.too_short.Lts as lts
+
+-- src/lib.rt:352:5
+div-result : tie.Need-div-result
+div-result c = search needs
+
+-- src/lib.rt:348:1
+returns : tie.Need-returns
+returns c = short-by _ _ _ (c .pre)
+
+pub too-short-spec : {M : Type 1} → statement M
+too-short-spec = tie.close (tie.spec div-result returns)

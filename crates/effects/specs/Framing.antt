@@ -1,0 +1,50 @@
+-- What a waveform gives (document 01, "Frames and samples"): sequences, start pointer, and the refusals 11 to 14.
+use mathlib.Core.Bool.{Bool, not}
+use Prim.Native.Nat.{ℕ, _*_, _/_}
+use lib.Dec.{eqb, leb, ltb}
+use lib.IntN.{ℤ, pos, negsuc, _+ℤ_}
+use lib.Signed.{leZ}
+use Rattle.octets.specs.Pick.{pick, both}
+use Rattle.items.specs.Refusals.{fileLimit, frameLimit, widthDiffers, pointerRange, waveformShort}
+use Rattle.effects.specs.declared.Standing.{Standing}
+use Rattle.effects.specs.declared.Framed.{Framed}
+use Rattle.effects.specs.declared.Framed.the-variants.{Taken, Refused}
+use Rattle.effects.specs.Standing.{withContinued}
+
+-- The octets of a file at most.
+abbrev pub octetsLimit : ℕ
+octetsLimit = 2_147_483_647
+
+-- The frames of a file at most.
+abbrev pub framesLimit : ℕ
+framesLimit = 4096
+
+-- How many channels a frame has: as counted; 1 where no count stands.
+unfoldable pub channelsOf : ℕ → ℕ
+channelsOf counted = pick (eqb counted 0) 1 counted
+
+-- Sequences: as set, else waveform length divided by G, rounded down.
+unfoldable pub sequencesOf : ℕ → ℕ → ℕ → ℕ
+sequencesOf set long octets = pick (eqb set 0) (long / octets) set
+
+-- Signed 32 bits.
+unfoldable pub pointerFits : ℤ → Bool
+pointerFits z = both (leZ (negsuc 2147483647) z) (leZ z (pos 2147483647))
+
+-- The pointer after a frame: its start plus root block length times its sequences.
+unfoldable pub pointerAfter : Standing → ℕ → ℤ
+pointerAfter st sequences = st .start +ℤ pos (st .root .block * sequences)
+
+-- What a waveform of `long` octets gives after `frames` frames, where a sequence takes `octets` octets: 11, 12, 13, 14, or a frame with
+-- its sequences and what stands after it. (The first two tests are never met, as proofs/Never.antt shows: a sequence has octets, since block lengths and widths are
+-- at least 1, and no waveform is longer than a file may be, since 15 has come first.)
+unfoldable pub framedAs : ℕ → Standing → Bool → ℕ → ℕ → Framed
+framedAs frames st agree octets long =
+    let sequences = sequencesOf (st .sequences) long octets in
+    pick (eqb octets 0) (Refused fileLimit)
+    (pick (ltb octetsLimit long) (Refused fileLimit)
+    (pick (leb framesLimit frames) (Refused frameLimit)
+    (pick (not agree) (Refused widthDiffers)
+    (pick (not (pointerFits (st .start))) (Refused pointerRange)
+    (pick (ltb long (sequences * octets)) (Refused waveformShort)
+    (Taken sequences (withContinued (pointerAfter st sequences) st)))))))

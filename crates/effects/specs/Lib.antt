@@ -1,0 +1,3 @@
+pub mod Standing
+pub mod Framing
+pub mod Reach

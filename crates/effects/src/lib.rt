@@ -1,0 +1,402 @@
+// What an item of a file asks for, and what a waveform gives.
+//
+// Promises, for any octets at all: `item_effect` answers what an item asks for where this stands before it, or its refusal (6 to 9);
+// `frame_of` answers the sequences of a waveform and what stands after it, or 11 to 14. Nothing is carried out here.
+// Read first: specs/Standing.antt (what an item asks for), then specs/Framing.antt (frames).
+ghost use mathlib.Core.Path.{_≡_};
+ghost use Prim.Native.Nat.{_*_, _<_, min};
+ghost use lib.Dec.{ltb};
+ghost use lib.IntN.{pos, _+ℤ_};
+ghost use lib.Signed.{mag};
+ghost use Rattle.settings.specs.Define.{tagged};
+ghost use Rattle.effects.specs.Standing.{firstStanding, withOrder, withCount, withSequences, withStart, withContinued, withRoot, orderEffect, countEffect, sequencesEffect, startEffect, compressedEffect, allEffect, oneEffect, rootEffect, plainEffect, memberEffect, groupEffect, effectOf};
+ghost use Rattle.effects.specs.Framing.{channelsOf, sequencesOf, pointerFits, framedAs};
+ghost use Rattle.effects.specs.Reach.{reachOf};
+use items::Item;
+use items::Refusal;
+use settings::Change;
+use settings::Defined;
+use settings::Settings;
+use settings::Tagged;
+
+// What stands outside the channels' own records. `counted` 0: no channel count stands. `sequences` 0: by waveform length. `start` is
+// the start pointer of a frame that came now, `continued` the one to which the previous frame leads.
+pub struct Standing {
+    pub little: bool,
+    pub counted: u32,
+    pub sequences: u32,
+    pub start: i64,
+    pub continued: i64,
+    pub root: Settings,
+}
+
+impl Standing {
+    // Frames of a file.
+    pub const FRAMES: u32 = 4096;
+
+    // Octets of a file.
+    pub const OCTETS: usize = 0x7FFF_FFFF;
+
+    // Before the first item.
+    pub fn first() -> Standing
+        ensures { λ r. ⌜ r ≡ firstStanding ⌝ }
+    {
+        let root = Settings::default();
+        Standing {
+            little: false,
+            counted: 0,
+            sequences: 0,
+            start: 0,
+            continued: 0,
+            root,
+        }
+    }
+
+    pub fn with_order(mut self, little: bool) -> Standing
+        ensures { λ r. ⌜ r ≡ withOrder «little» self ⌝ }
+    {
+        self.little = little;
+        self
+    }
+
+    pub fn with_count(mut self, counted: u32) -> Standing
+        ensures { λ r. ⌜ r ≡ withCount counted self ⌝ }
+    {
+        self.counted = counted;
+        self
+    }
+
+    pub fn with_sequences(mut self, sequences: u32) -> Standing
+        ensures { λ r. ⌜ r ≡ withSequences sequences self ⌝ }
+    {
+        self.sequences = sequences;
+        self
+    }
+
+    pub fn with_start(mut self, start: i64) -> Standing
+        ensures { λ r. ⌜ r ≡ withStart start self ⌝ }
+    {
+        self.start = start;
+        self
+    }
+
+    // A frame has led to this pointer, and the next frame goes on there.
+    fn with_continued(mut self, z: i64) -> Standing
+        ensures { λ r. ⌜ r ≡ withContinued z self ⌝ }
+    {
+        self.start = z;
+        self.continued = z;
+        self
+    }
+
+    pub fn with_root(mut self, root: Settings) -> Standing
+        ensures { λ r. ⌜ r ≡ withRoot root self ⌝ }
+    {
+        self.root = root;
+        self
+    }
+}
+
+// What an item asks for.
+pub enum Effect {
+    // Nothing.
+    Pass,
+    // This byte order.
+    Order(bool),
+    // This channel count, 0 for none, and every channel back to the root settings.
+    Count(u32),
+    // This number of sequences, 0 for as many as the waveform holds.
+    Sequences(u32),
+    // This start pointer.
+    Start(i64),
+    // A definition for all channels.
+    All(Change),
+    // A definition for one channel.
+    One(u32, Change),
+    // A frame with this waveform.
+    Frame { start: usize, len: usize },
+    // A refusal.
+    Refused(u8),
+}
+
+// 01, byte order.
+fn order_effect(v: &[u8]) -> Effect
+    ensures { λ r. ⌜ r ≡ orderEffect (now (v .entry)) ⌝ }
+{
+    if 1 < v.len() {
+        return Effect::Refused(Refusal::LENGTH);
+    }
+    if v.len() == 0 {
+        return Effect::Order(false);
+    }
+    let b = v[0];
+    if 1 < b {
+        return Effect::Refused(Refusal::VALUE);
+    }
+    Effect::Order(b == 1)
+}
+
+// 05, channels.
+fn count_effect(little: bool, v: &[u8]) -> Effect
+    ensures { λ r. ⌜ r ≡ countEffect «little» (now (v .entry)) ⌝ }
+{
+    if 4 < v.len() {
+        return Effect::Refused(Refusal::LENGTH);
+    }
+    if v.len() == 0 {
+        return Effect::Count(0);
+    }
+    let n = octets::four(v, little);
+    if n == 0 {
+        return Effect::Refused(Refusal::VALUE);
+    }
+    if 256 < n {
+        return Effect::Refused(Refusal::VALUE);
+    }
+    Effect::Count(n)
+}
+
+// 06, sequences.
+fn sequences_effect(little: bool, v: &[u8]) -> Effect
+    ensures { λ r. ⌜ r ≡ sequencesEffect «little» (now (v .entry)) ⌝ }
+{
+    if 4 < v.len() {
+        return Effect::Refused(Refusal::LENGTH);
+    }
+    if v.len() == 0 {
+        return Effect::Sequences(0);
+    }
+    let n = octets::four(v, little);
+    if n == 0 {
+        return Effect::Refused(Refusal::VALUE);
+    }
+    Effect::Sequences(n)
+}
+
+// 07, start pointer.
+fn start_effect(little: bool, continued: i64, v: &[u8]) -> Effect
+    ensures { λ r. ⌜ r ≡ startEffect «little» continued (now (v .entry)) ⌝ }
+{
+    if 4 < v.len() {
+        return Effect::Refused(Refusal::LENGTH);
+    }
+    if v.len() == 0 {
+        return Effect::Start(continued);
+    }
+    let z = octets::signed(v, little);
+    Effect::Start(z as i64)
+}
+
+// 0E, compression.
+fn compressed_effect(v: &[u8]) -> Effect
+    ensures { λ r. ⌜ r ≡ compressedEffect (now (v .entry)) ⌝ }
+{
+    if v.len() == 0 {
+        Effect::Pass
+    } else {
+        Effect::Refused(Refusal::COMPRESSED)
+    }
+}
+
+fn all_effect(d: Defined) -> Effect
+    ensures { λ r. ⌜ r ≡ allEffect d ⌝ }
+{
+    match d {
+        Defined::Changed(c) => Effect::All(c),
+        Defined::Refused(number) => Effect::Refused(number),
+    }
+}
+
+fn one_effect(channel: u32, d: Defined) -> Effect
+    ensures { λ r. ⌜ r ≡ oneEffect channel d ⌝ }
+{
+    match d {
+        Defined::Changed(c) => Effect::One(channel, c),
+        Defined::Refused(number) => Effect::Refused(number),
+    }
+}
+
+// The tags that stand only outside groups; every other one is stepped over.
+fn root_effect(st: Standing, tag: u8, start: usize, v: &[u8]) -> Effect
+    ensures { λ r. ⌜ r ≡ rootEffect st tag start (now (v .entry)) ⌝ }
+{
+    match tag {
+        0x01 => order_effect(v),
+        0x05 => count_effect(st.little, v),
+        0x06 => sequences_effect(st.little, v),
+        0x07 => start_effect(st.little, st.continued, v),
+        0x0E => compressed_effect(v),
+        0x1E => Effect::Frame {
+            start,
+            len: v.len(),
+        },
+        _ => Effect::Pass,
+    }
+}
+
+// An item outside a group.
+fn plain_effect(st: Standing, tag: u8, start: usize, v: &[u8]) -> Effect
+    ensures { λ r. ⌜ r ≡ plainEffect st tag start (now (v .entry)) (tagged tag) ⌝ }
+{
+    match settings::attribute_of(tag) {
+        Tagged::Defines(a) => {
+            let base = Settings::default();
+            all_effect(settings::define(a, v, st.little, base))
+        }
+        Tagged::Other => root_effect(st, tag, start, v),
+    }
+}
+
+// An item inside a group that is not ignored.
+fn member_effect(st: Standing, channel: u32, tag: u8, v: &[u8]) -> Effect
+    ensures { λ r. ⌜ r ≡ memberEffect st channel (now (v .entry)) (tagged tag) ⌝ }
+{
+    match settings::attribute_of(tag) {
+        Tagged::Defines(a) => {
+            let base = st.root;
+            one_effect(channel, settings::define(a, v, st.little, base))
+        }
+        Tagged::Other => Effect::Pass,
+    }
+}
+
+// A group's channel number.
+fn group_effect(st: Standing, channel: u32) -> Effect
+    ensures { λ r. ⌜ r ≡ groupEffect st channel ⌝ }
+{
+    if st.counted == 0 {
+        return Effect::Pass;
+    }
+    if channel < st.counted {
+        return Effect::Pass;
+    }
+    Effect::Refused(Refusal::CHANNEL_RANGE)
+}
+
+// What an item of the file s asks for.
+pub fn item_effect(s: &[u8], st: Standing, item: Item) -> Effect
+    ensures { λ r. ⌜ r ≡ effectOf (now (s .entry)) st item ⌝ }
+{
+    match item {
+        Item::Plain {
+            place: _,
+            tag,
+            start,
+            len,
+        } => plain_effect(st, tag, start, octets::part(s, start, len)),
+        Item::Group { place: _, channel } => group_effect(st, channel),
+        Item::Member {
+            place: _,
+            channel,
+            tag,
+            start,
+            len,
+        } => {
+            if st.counted == 0 {
+                return Effect::Pass;
+            }
+            member_effect(st, channel, tag, octets::part(s, start, len))
+        }
+        Item::Mark { place: _ } => Effect::Pass,
+    }
+}
+
+// What a waveform gives: the frame's sequences and what stands after it, or a refusal.
+pub enum Framed {
+    Taken(u32, Standing),
+    Refused(u8),
+}
+
+// How many channels a frame has where this count stands.
+pub fn channels_of(counted: u32) -> u32
+    ensures { λ r. ⌜ r ≡ channelsOf counted ⌝ }
+{
+    if counted == 0 { 1 } else { counted }
+}
+
+// Sequences as set, else as many as the waveform holds.
+fn sequences_of(set: u32, long: usize, octets: u64) -> u64
+    requires { ⌜ 0 < octets ⌝ }
+    ensures { λ r. ⌜ r ≡ sequencesOf set long octets ⌝ }
+{
+    if set != 0 {
+        return set as u64;
+    }
+    long as u64 / octets
+}
+
+// Signed 32 bits.
+fn pointer_fits(z: i64) -> bool
+    ensures { λ r. ⌜ r ≡ pointerFits z ⌝ }
+{
+    -2_147_483_648 <= z && z <= 2_147_483_647
+}
+
+// The pointer after a frame: its start plus root block length times its sequences.
+fn pointer_after(start: i64, block: u32, sequences: u64) -> i64
+    requires { ⌜ (mag start < 2147483648) × (sequences < 2147483648) ⌝ }
+    ensures { λ r. ⌜ r ≡ start +ℤ pos (block * sequences) ⌝ }
+{
+    start + (block as u64 * sequences) as i64
+}
+
+// A waveform is shorter than so many sequences.
+fn too_short(long: usize, sequences: u64, octets: u64) -> bool
+    requires { ⌜ 0 < octets ⌝ }
+    ensures { λ r. ⌜ r ≡ ltb long (sequences * octets) ⌝ }
+{
+    long as u64 / octets < sequences
+}
+
+// A waveform of `long` octets after `frames` frames, where a sequence takes `octets` octets.
+pub fn frame_of(frames: u32, st: Standing, agree: bool, octets: u64, long: usize) -> Framed
+    ensures { λ r. ⌜ r ≡ framedAs frames st agree octets long ⌝ }
+{
+    if octets == 0 {
+        return Framed::Refused(Refusal::FILE_LIMIT);
+    }
+    if Standing::OCTETS < long {
+        return Framed::Refused(Refusal::FILE_LIMIT);
+    }
+    if Standing::FRAMES <= frames {
+        return Framed::Refused(Refusal::FRAME_LIMIT);
+    }
+    if !agree {
+        return Framed::Refused(Refusal::WIDTH);
+    }
+    let start = st.start;
+    if !pointer_fits(start) {
+        return Framed::Refused(Refusal::POINTER_RANGE);
+    }
+    let sequences = sequences_of(st.sequences, long, octets);
+    if too_short(long, sequences, octets) {
+        return Framed::Refused(Refusal::WAVEFORM_SHORT);
+    }
+    let root = st.root;
+    let z = pointer_after(start, root.block, sequences);
+    Framed::Taken(sequences as u32, st.with_continued(z))
+}
+
+// As many records as there are.
+fn at_most(count: usize) -> usize
+    ensures { λ r. ⌜ r ≡ min count 256 ⌝ }
+{
+    if count < 256 { count } else { 256 }
+}
+
+// How many records, from channel 0 on, an effect looks at: up to the channel that it changes, or those of a frame.
+pub fn reach(e: Effect, counted: u32) -> usize
+    ensures { λ r. ⌜ r ≡ reachOf counted e ⌝ }
+{
+    match e {
+        Effect::Pass => 0,
+        Effect::Order(_) => 0,
+        Effect::Count(_) => 0,
+        Effect::Sequences(_) => 0,
+        Effect::Start(_) => 0,
+        Effect::All(_) => 0,
+        Effect::One(channel, _) => at_most(channel as usize + 1),
+        Effect::Frame { start: _, len: _ } => at_most(channels_of(counted) as usize),
+        Effect::Refused(_) => 0,
+    }
+}
