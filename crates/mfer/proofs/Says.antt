@@ -3,6 +3,7 @@
 --     attributes-found, attributes-refuse    mfer_attributes
 --     sample-found, sample-refuses           mfer_sample
 --     samples-read, samples-refuse           mfer_samples
+--     canonical-written, canonical-refused   mfer_canonical
 -- Assumes nothing.
 use mathlib.Core.Path.{_≡_, sym, ap, _∙_}
 use mathlib.Core.List.{List}
@@ -26,8 +27,10 @@ use Rattle.bulk.specs.declared.Placed.{Placed}
 use Rattle.bulk.specs.declared.Read.{Read}
 use Rattle.bulk.specs.Samples.{bitsOf, readOf}
 use Rattle.bulk.specs.Place.{placedOf}
+use Rattle.canonical.specs.declared.Written.{Written}
+use Rattle.canonical.specs.Write.{writtenOf}
 use Rattle.bulk.proofs.Placing.{PlacedAt, placed-at, sampled-refused, bits-seen}
-use Rattle.mfer.specs.Answers.{checkAnswer, checkAs, checkSays, numbersOf, bitPairOf, attributesAnswer, attributesAs, attributesSay, wholeOf, sampleAnswer, sampleAs, sampleSays, samplesAnswer, samplesAs, samplesSay}
+use Rattle.mfer.specs.Answers.{checkAnswer, checkAs, checkSays, numbersOf, bitPairOf, attributesAnswer, attributesAs, attributesSay, wholeOf, sampleAnswer, sampleAs, sampleSays, samplesAnswer, samplesAs, samplesSay, canonicalAnswer, canonicalAs, canonicalSays}
 
 module _ (s : List ℕ) {r : Checked} (e : r ≡ checkOf s) where
   pub check-counts : {n : ℕ} → r ≡ Checked.Frames n → checkAnswer 0 n 0 ≡ checkSays s
@@ -70,3 +73,12 @@ module _ (s : List ℕ) (frame channel first room : ℕ) {r : Read} (e : r ≡ r
   pub samples-refuse : {x : Refusal} → r ≡ Read.Refused x → samplesAnswer (x .number) 0 (x .place) ≡ samplesSay s frame channel first room
   unfolding samplesSay samplesAs
   samples-refuse f = sym (ap samplesAs (sym e ∙ f))
+
+module _ (s buffer : List ℕ) {r : Written} (e : r ≡ writtenOf s buffer) where
+  pub canonical-written : {n : ℕ} → r ≡ Written.Octets n → canonicalAnswer 0 n 0 ≡ canonicalSays s buffer
+  unfolding canonicalSays canonicalAs
+  canonical-written f = sym (ap canonicalAs (sym e ∙ f))
+
+  pub canonical-refused : {x : Refusal} → r ≡ Written.Refused x → canonicalAnswer (x .number) 0 (x .place) ≡ canonicalSays s buffer
+  unfolding canonicalSays canonicalAs
+  canonical-refused f = sym (ap canonicalAs (sym e ∙ f))

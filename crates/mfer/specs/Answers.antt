@@ -15,6 +15,8 @@ use Rattle.reader.specs.Verdict.{checkOf}
 use Rattle.reader.specs.Answer.{attributesOf, sampleOf}
 use Rattle.bulk.specs.declared.Read.{Read}
 use Rattle.bulk.specs.Samples.{bitsOf, readOf}
+use Rattle.canonical.specs.declared.Written.{Written}
+use Rattle.canonical.specs.Write.{writtenOf}
 
 -- ---- mfer_check
 
@@ -121,3 +123,21 @@ samplesAs (Read.Refused x) = samplesAnswer (x .number) 0 (x .place)
 -- There is room for so many samples. The buffer afterwards is `bufferAfter` of the crate bulk.
 unfoldable pub samplesSay : List ℕ → ℕ → ℕ → ℕ → ℕ → SamplesAnswer
 samplesSay s frame channel first room = samplesAs (readOf s frame channel first room)
+
+-- ---- mfer_canonical
+
+pub record CanonicalAnswer : Type 0 where
+  pub refusal : ℕ
+  pub written : ℕ
+  pub place : ℕ
+
+abbrev pub canonicalAnswer : ℕ → ℕ → ℕ → CanonicalAnswer
+canonicalAnswer refusal written place = record { refusal = refusal; written = written; place = place }
+
+unfoldable pub canonicalAs : Written → CanonicalAnswer
+canonicalAs (Written.Octets n) = canonicalAnswer 0 n 0
+canonicalAs (Written.Refused x) = canonicalAnswer (x .number) 0 (x .place)
+
+-- The buffer afterwards is `leftOf` of the crate canonical.
+unfoldable pub canonicalSays : List ℕ → List ℕ → CanonicalAnswer
+canonicalSays s buffer = canonicalAs (writtenOf s buffer)

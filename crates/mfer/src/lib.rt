@@ -5,11 +5,13 @@
 // Read first: specs/Answers.antt; each function is thin over the crate that has its meaning.
 ghost use mathlib.Core.Path.{_≡_};
 ghost use Rattle.values.specs.Sample.{kindOf};
-ghost use Rattle.mfer.specs.Answers.{checkAnswer, checkSays, numbersOf, bitPairOf, attributesAnswer, attributesSay, wholeOf, sampleAnswer, sampleSays, samplesAnswer, samplesSay};
+ghost use Rattle.mfer.specs.Answers.{checkAnswer, checkSays, numbersOf, bitPairOf, attributesAnswer, attributesSay, wholeOf, sampleAnswer, sampleSays, samplesAnswer, samplesSay, canonicalAnswer, canonicalSays};
 ghost use Rattle.bulk.specs.Samples.{bufferAfter};
+ghost use Rattle.canonical.specs.Write.{leftOf};
 ghost use lib.ListN.{length};
 use bulk::Placed;
 use bulk::Read;
+use canonical::Written;
 use reader::Attributes;
 use reader::Checked;
 use reader::Described;
@@ -188,6 +190,32 @@ pub extern "C" fn mfer_samples(
         }
         Read::Refused(x) => {
             *count = 0;
+            *place = x.place as u64;
+            x.number as u32
+        }
+    }
+}
+
+// Writes the canonical file of a file into the front of `out`: how long it is. The rest of `out`, and at a refusal all of it, keeps what it
+// held.
+#[no_mangle]
+pub extern "C" fn mfer_canonical(
+    file: &[u8],
+    out: &mut [u8],
+    written: &mut u64,
+    place: &mut u64,
+) -> u32
+    ensures { λ r. ⌜ canonicalAnswer r (now (written .exit)) (now (place .exit)) ≡ canonicalSays (now (file .entry)) (now (out .entry)) ⌝ }
+    ensures { λ _. ⌜ now (out .exit) ≡ leftOf (now (file .entry)) (now (out .entry)) ⌝ }
+{
+    match canonical::write_canonical(file, out) {
+        Written::Octets(n) => {
+            *written = n as u64;
+            *place = 0;
+            0
+        }
+        Written::Refused(x) => {
+            *written = 0;
             *place = x.place as u64;
             x.number as u32
         }
