@@ -195,11 +195,12 @@ static void too_many_frames(void)
     free(file);
 }
 
-/* Memory that nobody writes to, so that little of it is ever there; where there is none, no test. */
+/* Memory that nobody writes to, so that little of it is ever there. */
 static void too_long_a_file(void)
 {
     size_t length = (size_t)MFER_MAX_OCTETS + 1;
     uint8_t *file = (uint8_t *)calloc(length, 1);
+    EXPECT(file != NULL);
     if (file == NULL)
         return;
     expect_check(file, length, MFER_LONG_FILE, 0, 0);

@@ -1,31 +1,41 @@
 #!/bin/bash
-# Memory: a smaller corpus through the comparison program under valgrind. Says 'skipped' where valgrind
-# is not there. MFER_MEMORY_FILES sets how many generated files; the last line counts the tests.
+# Memory: a smaller corpus through the comparison program under valgrind, which sees a read or a write past a file or a buffer.
+# MFER_MEMORY_FILES sets how many generated files (default 300). The last line counts the tests.
 set -u
 cd "$(dirname "$0")/../rust" || exit 2
 
-scratch=$(mktemp -d)
+scratch=$(mktemp -d) || exit 2
 trap 'rm -rf "$scratch"' EXIT
-if ! command -v valgrind > "$scratch/where"; then
-    echo "skipped: valgrind is not there"
-    echo "0 passed, 0 failed in all"
-    exit 0
-fi
-cargo build --release --quiet -p compare || exit 2
+cargo build --release --quiet --offline --locked --package compare || exit 2
 program=${CARGO_TARGET_DIR:-target}/release/compare
 
 passed=0
 failed=0
-run() {
-    echo "== compare $*, under valgrind"
-    if valgrind -q --error-exitcode=99 "$program" "$@"; then
+
+# Starts the program; `ended` waits for it and counts it.
+start() {
+    echo "compare ${*:2}, under valgrind" > "$scratch/$1"
+    valgrind -q --error-exitcode=99 "$program" "${@:2}" >> "$scratch/$1" 2>&1 &
+}
+ended() {
+    wait "$2"
+    local status=$?
+    cat "$scratch/$1"
+    if [ "$status" -eq 0 ]; then
         passed=$((passed + 1))
     else
-        echo "FAILED: exit status $?"
+        echo "FAILED: exit status $status"
         failed=$((failed + 1))
     fi
 }
-run small
-run "${MFER_MEMORY_FILES:-1000}" 7000000
-echo "$passed passed, $failed failed in all"
+
+# Valgrind takes one processor for all threads of a program.
+start small small
+small=$!
+start generated "${MFER_MEMORY_FILES:-300}" 7000000
+generated=$!
+ended small "$small"
+ended generated "$generated"
+
+echo "$passed passed, $failed failed"
 [ "$failed" -eq 0 ]

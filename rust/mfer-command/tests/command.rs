@@ -1,7 +1,7 @@
 //! The command as a user meets it: its output, its words on standard error, its exit status.
 
 use std::fs;
-use std::io::{Read, Write};
+use std::io::{ErrorKind, Read, Write};
 use std::path::{Path, PathBuf};
 use std::process::{self, Command, Output, Stdio};
 use std::sync::atomic::{AtomicU32, Ordering};
@@ -12,11 +12,19 @@ struct Folder(PathBuf);
 impl Folder {
     fn new() -> Folder {
         static NEXT: AtomicU32 = AtomicU32::new(0);
-        let number = NEXT.fetch_add(1, Ordering::Relaxed);
-        let name = format!("mfer-command-{}-{number}", process::id());
-        let folder = std::env::temp_dir().join(name);
-        fs::create_dir_all(&folder).unwrap();
-        Folder(folder)
+        loop {
+            let number = NEXT.fetch_add(1, Ordering::Relaxed);
+            let name = format!("mfer-command-{}-{number}", process::id());
+            let folder = Path::new(env!("CARGO_TARGET_TMPDIR")).join(name);
+            match fs::create_dir(&folder) {
+                // Left behind by a run that was stopped.
+                Err(error) if error.kind() == ErrorKind::AlreadyExists => {}
+                created => {
+                    created.unwrap();
+                    return Folder(folder);
+                }
+            }
+        }
     }
 
     fn path(&self, name: &str) -> PathBuf {

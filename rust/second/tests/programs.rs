@@ -18,7 +18,9 @@ const LONGEST: usize = 60_000;
 const ROOM: usize = 120_000;
 
 fn said(program: &str, input: &[u8]) -> Vec<u8> {
-    let path = PathBuf::from(env!("CARGO_MANIFEST_DIR")).join("../../target/bin").join(program);
+    let path = PathBuf::from(env!("CARGO_MANIFEST_DIR"))
+        .join("../../target/bin")
+        .join(program);
     let mut child = Command::new(&path)
         .stdin(Stdio::piped())
         .stdout(Stdio::piped())
