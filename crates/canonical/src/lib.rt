@@ -25,6 +25,7 @@ use effects::Standing;
 use items::Cursor;
 use items::Next;
 use items::Refusal;
+use layout::Layout;
 use reader::Asked;
 use reader::Checked;
 use settings::Scale;
@@ -344,7 +345,12 @@ fn write_frames(s: &[u8], out: &mut [u8]) -> usize
                     }
                     Effect::Frame { start, len } => {
                         let count = effects::channels_of(st.counted);
-                        let l = layout::measure(table, count, 0);
+                        let mut l = Layout::none();
+                        let mut i = 0usize;
+                        while i < n {
+                            l = l.more(i, 0, table[i]);
+                            i += 1;
+                        }
                         match effects::frame_of(frames, st, l.agree, l.octets, len) {
                             Framed::Refused(_) => {
                                 return at;

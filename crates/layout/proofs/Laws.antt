@@ -8,15 +8,14 @@
 use mathlib.Core.Path.{_≡_, refl, sym, ap, _∙_}
 use mathlib.Core.List.{List, [], _∷_}
 use mathlib.Core.Bool.{Bool, true, false}
-use Prim.Native.Nat.{ℕ, zero, suc, _+_, _-_, _*_, _^_, _≤_, _<_, min}
-use native.Mathlib.Nat.{add-assoc, zero-add, add-zero}
+use Prim.Native.Nat.{ℕ, zero, suc, _+_, _-_, _*_, _^_, _≤_, _<_, _%_}
+use native.Mathlib.Nat.{add-assoc, zero-add, add-zero, mod-eq-of-lt}
 use native.Mathlib.Numerals.{add-one}
 use native.Mathlib.Omega.{arith}
-use native.Mathlib.Decide.{decLe}
 use borrow.Author.Tests.{ltb-true, ltb-false}
 use lib.Dec.{ltb, eqb}
 use lib.ListN.{length, getD, take, drop, drop-of-length-le}
-use lib.Seq.{drop-cons, take-nil, take-length, take-all}
+use lib.Seq.{drop-cons, take-nil}
 use Rattle.octets.specs.Pick.{pick, both}
 use Rattle.octets.proofs.Pick.{pick-cases}
 use Rattle.values.proofs.Laws.{width-le}
@@ -25,7 +24,7 @@ use Rattle.settings.specs.Settings.{zeroSettings}
 use Rattle.layout.specs.declared.Layout.{Layout}
 use Rattle.layout.specs.Frame.{blockOctets, sequenceOctets, octetsBelow, channelAgrees, allAgree}
 use Rattle.layout.specs.Size.{channelSize, nullSize, groupSize, groupsSize}
-use Rattle.layout.specs.Measure.{layoutOf, moreOf}
+use Rattle.layout.specs.Measure.{layoutOf, noLayout, moreOf, More}
 
 -- Some octets of the channels left: those below `channel`, where i channels are behind.
 abbrev leftBelow : ℕ → ℕ → List Settings → ℕ
@@ -41,10 +40,7 @@ pub record Passed (channel : ℕ) (cs : List Settings) (i : ℕ) (l : Layout) : 
   pub below : l .below + leftBelow channel i (drop i cs) ≡ octetsBelow channel cs
   pub groups : l .groups + groupsSize i (drop i cs) ≡ groupsSize 0 cs
 
-abbrev none : Layout
-none = record { agree = true; octets = 0; below = 0; groups = 0 }
-
-pub passed-none : (channel : ℕ) (cs : List Settings) → Passed channel cs 0 none
+pub passed-none : (channel : ℕ) (cs : List Settings) → Passed channel cs 0 noLayout
 unfolding octetsBelow
 passed-none channel cs =
     let e : channel - 0 ≡ channel = omega arith in
@@ -74,9 +70,32 @@ below-more channel i x c rest =
 below-room : (channel i x b k : ℕ) → x ≤ i * k → b < k → pick (ltb i channel) (x + b) x ≤ (i + 1) * k
 below-room channel i x b k h l = pick-cases (λ (t : ℕ). t ≤ (i + 1) * k) (ltb i channel) (λ _. omega arith) (λ _. omega arith)
 
-pub passed-more : (channel : ℕ) (cs : List Settings) (i : ℕ) (c : Settings) (l m : Layout) → i < length cs → c ≡ getD cs i zeroSettings → Passed channel cs i l → blockOctets c < 2 ^ 36 → groupSize i c < 2 ^ 36 → m ≡ moreOf i channel c l → Passed channel cs (i + 1) m
+-- The sums of 256 channels are below 2^64, and so none of them starts again at 0.
+abbrev summed : ℕ → ℕ → Settings → Layout → Layout
+summed i channel c l =
+    record {
+      agree = both (l .agree) (channelAgrees c);
+      octets = l .octets + blockOctets c;
+      below = pick (ltb i channel) (l .below + blockOctets c) (l .below);
+      groups = l .groups + groupSize i c;
+    }
+
+small-sum : (i x b : ℕ) → i < 256 → x ≤ i * 2 ^ 36 → b < 2 ^ 36 → (x + b) % 2 ^ 64 ≡ x + b
+small-sum i x b h l k = mod-eq-of-lt (omega arith)
+
+more-summed : (channel : ℕ) (cs : List Settings) (i : ℕ) (c : Settings) (l : Layout) → i < 256 → Passed channel cs i l → blockOctets c < 2 ^ 36 → groupSize i c < 2 ^ 36 → moreOf i channel c l ≡ summed i channel c l
+more-summed channel cs i c l h p bo gs =
+    let o = small-sum i (l .octets) (blockOctets c) h (p .octetsRoom) bo in
+    let b = small-sum i (l .below) (blockOctets c) h (p .belowRoom) bo in
+    let g = small-sum i (l .groups) (groupSize i c) h (p .groupsRoom) gs in
+    λ k. record { agree = both (l .agree) (channelAgrees c); octets = o k; below = pick (ltb i channel) (b k) (l .below); groups = g k }
+
+pub passed-more : (channel : ℕ) (cs : List Settings) (i : ℕ) (c : Settings) (l m : Layout) → i < 256 → i < length cs → c ≡ getD cs i zeroSettings → Passed channel cs i l → More i channel c l m → Passed channel cs (i + 1) m
 unfolding allAgree sequenceOctets groupsSize
-passed-more channel cs i c l m h ec p bo gs em =
+passed-more channel cs i c l m low h ec p g =
+    let bo = g .octets in
+    let gs = g .groups in
+    let em : m ≡ summed i channel c l = g .value ∙ more-summed channel cs i c l low p bo gs in
     let d : drop i cs ≡ c ∷ drop (suc i) cs = drop-cons cs i zeroSettings h ∙ ap (λ (x : Settings). x ∷ drop (suc i) cs) (sym ec) in
     let n : i + 1 ≡ suc i = add-one i in
     rw em
@@ -104,14 +123,6 @@ passed-all channel cs i l h p =
     let b : l .below ≡ octetsBelow channel cs = sym (add-zero (l .below)) ∙ rw (d, take-nil) at (p .below) in
     let g : l .groups ≡ groupsSize 0 cs = sym (add-zero (l .groups)) ∙ rw d at (p .groups) in
     λ k. record { agree = a k; octets = o k; below = b k; groups = g k }
-
--- The first records of a table, taken by a count and by as many as there are.
-pub taken-min : (t : List Settings) (count : ℕ) → take (min count (length t)) t ≡ take count t
-taken-min t count = min-by (decLe count (length t))
-  where
-    min-by : Dec (count ≤ length t) → take (min count (length t)) t ≡ take count t
-    min-by (yes h) = let e : min count (length t) ≡ count = omega arith in rw e
-    min-by (no h) = let e : min count (length t) ≡ length t = omega arith in rw e (take-length t ∙ sym (take-all count t (omega arith)))
 
 -- A group takes at most 64 octets.
 group-few : (k : ℕ) (c : Settings) → groupSize k c ≤ 64

@@ -1,7 +1,8 @@
 -- What one pass over the channels of a frame tells.
 use mathlib.Core.Path.{_≡_}
+use mathlib.Core.Bool.{true}
 use mathlib.Core.List.{List}
-use Prim.Native.Nat.{ℕ, _+_, _*_, _<_, _≤_, _^_}
+use Prim.Native.Nat.{ℕ, _+_, _%_, _<_, _^_}
 use lib.Dec.{ltb}
 use Rattle.octets.specs.Pick.{pick, both}
 use Rattle.settings.specs.declared.Settings.{Settings}
@@ -14,14 +15,18 @@ unfoldable pub layoutOf : ℕ → List Settings → Layout
 layoutOf channel cs =
     record { agree = allAgree cs; octets = sequenceOctets cs; below = octetsBelow channel cs; groups = groupsSize 0 cs }
 
--- One channel more.
+-- Of no channel.
+abbrev pub noLayout : Layout
+noLayout = record { agree = true; octets = 0; below = 0; groups = 0 }
+
+-- Channel i more, in sums of 64 bits.
 abbrev pub moreOf : ℕ → ℕ → Settings → Layout → Layout
 moreOf i channel c l =
     record {
       agree = both (l .agree) (channelAgrees c);
-      octets = l .octets + blockOctets c;
-      below = pick (ltb i channel) (l .below + blockOctets c) (l .below);
-      groups = l .groups + groupSize i c;
+      octets = (l .octets + blockOctets c) % 2 ^ 64;
+      below = pick (ltb i channel) ((l .below + blockOctets c) % 2 ^ 64) (l .below);
+      groups = (l .groups + groupSize i c) % 2 ^ 64;
     }
 
 -- A number of octets of one channel: which it is, and that sums of 256 of them fit.
@@ -29,14 +34,7 @@ pub record Small (n r : ℕ) : Type 0 where
   pub value : r ≡ n
   pub below : r < 2 ^ 36
 
--- The sums over i channels leave room for one more.
-pub record Room (i : ℕ) (l : Layout) : Type 0 where
-  pub low : i < 256
-  pub octets : l .octets ≤ i * 2 ^ 36
-  pub below : l .below ≤ i * 2 ^ 36
-  pub groups : l .groups ≤ i * 2 ^ 36
-
--- One channel more, and that its own octets are few.
+-- Channel i more, and that its own octets are few.
 pub record More (i channel : ℕ) (c : Settings) (l r : Layout) : Type 0 where
   pub value : r ≡ moreOf i channel c l
   pub octets : blockOctets c < 2 ^ 36

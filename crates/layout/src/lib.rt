@@ -1,20 +1,19 @@
 // The layout of a frame: what one pass over its channels' settings tells.
 //
-// Promises: `measure` answers, for the first `count` records of a table, whether offsets and nulls have their sample widths, the octets of
+// Promises: `Layout::more`, called for one channel after the other, sums up whether offsets and nulls have their sample widths, the octets of
 // a sequence, those below a channel, and the octets that the channels' groups take in the canonical file.
 // Read first: specs/Frame.antt (frames and the place of a sample), specs/Size.antt.
 ghost use mathlib.Core.Path.{_≡_};
-ghost use Prim.Native.Nat.{_+_, _<_, _^_, min};
+ghost use Prim.Native.Nat.{_+_, _%_, _^_};
 ghost use lib.Dec.{ltb};
-ghost use lib.ListN.{take};
 ghost use Rattle.octets.specs.Pick.{pick, both};
 ghost use Rattle.layout.specs.Frame.{blockOctets, widthAgrees, channelAgrees};
 ghost use Rattle.layout.specs.Size.{channelSize, nullSize, groupSize};
-ghost use Rattle.layout.specs.Measure.{Small, Room, More, layoutOf};
+ghost use Rattle.layout.specs.Measure.{noLayout, Small, More};
 use settings::Settings;
 use values::Bits;
 
-// What a pass over channels tells.
+// What a pass over channels, from channel 0 on, tells.
 pub struct Layout {
     pub agree: bool,
     pub octets: u64,
@@ -79,11 +78,10 @@ pub fn group_size(k: usize, c: Settings) -> u64
 
 // Octets of a channel that lies below another one are added.
 fn added_below(i: usize, channel: u32, below: u64, octets: u64) -> u64
-    requires { ⌜ below + octets < 2 ^ 64 ⌝ }
-    ensures { λ r. ⌜ r ≡ pick (ltb i channel) (below + octets) below ⌝ }
+    ensures { λ r. ⌜ r ≡ pick (ltb i channel) ((below + octets) % 2 ^ 64) below ⌝ }
 {
     if i < channel as usize {
-        below + octets
+        std::num::wrapping_add_u64(below, octets)
     } else {
         below
     }
@@ -95,43 +93,30 @@ fn agree_both(a: bool, b: bool) -> bool
     if a { b } else { false }
 }
 
-// One channel more.
-fn more(l: Layout, i: usize, channel: u32, c: Settings) -> Layout
-    requires { ⌜ Room i l ⌝ }
-    ensures { λ r. ⌜ More i channel c l r ⌝ }
-{
-    let octets = block_octets(c);
-    Layout {
-        agree: agree_both(l.agree, channel_agrees(c)),
-        octets: l.octets + octets,
-        below: added_below(i, channel, l.below, octets),
-        groups: l.groups + group_size(i, c),
+impl Layout {
+    // Of no channel.
+    pub fn none() -> Layout
+        ensures { λ r. ⌜ r ≡ noLayout ⌝ }
+    {
+        Layout {
+            agree: true,
+            octets: 0,
+            below: 0,
+            groups: 0,
+        }
     }
-}
 
-// As many records as there are.
-fn at_most(count: u32) -> usize
-    ensures { λ r. ⌜ r ≡ min count 256 ⌝ }
-{
-    if count < 256 { count as usize } else { 256 }
-}
-
-// The first `count` records of a table, all of them where there are no more.
-pub fn measure(table: [Settings; 256], count: u32, channel: u32) -> Layout
-    ensures { λ r. ⌜ r ≡ layoutOf channel (take count table) ⌝ }
-{
-    let mut l = Layout {
-        agree: true,
-        octets: 0,
-        below: 0,
-        groups: 0,
-    };
-    let n = at_most(count);
-    let mut i = 0usize;
-    while i < n {
-        let c = table[i];
-        l = more(l, i, channel, c);
-        i += 1;
+    // Of channel i too, where those below it are told; `below` counts what lies below `channel`. The sums of 256 channels are far
+    // below 2^64, where they would start again at 0.
+    pub fn more(self, i: usize, channel: u32, c: Settings) -> Layout
+        ensures { λ r. ⌜ More i channel c self r ⌝ }
+    {
+        let octets = block_octets(c);
+        Layout {
+            agree: agree_both(self.agree, channel_agrees(c)),
+            octets: std::num::wrapping_add_u64(self.octets, octets),
+            below: added_below(i, channel, self.below, octets),
+            groups: std::num::wrapping_add_u64(self.groups, group_size(i, c)),
+        }
     }
-    l
 }

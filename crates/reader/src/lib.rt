@@ -19,6 +19,7 @@ use items::Cursor;
 use items::Item;
 use items::Next;
 use items::Refusal;
+use layout::Layout;
 use settings::Scale;
 use settings::Settings;
 use values::Bits;
@@ -246,7 +247,12 @@ pub fn scan_file(s: &[u8], asked: Asked) -> Scan
                     }
                     Effect::Frame { start, len } => {
                         let count = effects::channels_of(st.counted);
-                        let l = layout::measure(table, count, asked.channel);
+                        let mut l = Layout::none();
+                        let mut i = 0usize;
+                        while i < n {
+                            l = l.more(i, asked.channel, table[i]);
+                            i += 1;
+                        }
                         match effects::frame_of(frames, st, l.agree, l.octets, len) {
                             Framed::Refused(number) => {
                                 return refused_scan(Refusal {
