@@ -88,7 +88,7 @@ fn channel_from(u: &[u8], at: usize, allowed: u32, value: u32) -> Channel
 }
 
 // The channel number at the front of u, of at most four octets.
-pub fn channel_number(u: &[u8]) -> Channel
+fn channel_number(u: &[u8]) -> Channel
     ensures { λ r. ⌜ r ≡ channelOf 4 0 0 (now (u .entry)) ⌝ }
 {
     channel_from(u, 0, 4, 0)
@@ -103,7 +103,7 @@ pub enum Length {
 }
 
 // The length at the front of u. Lengths are always big-endian.
-pub fn length_field(u: &[u8]) -> Length
+fn length_field(u: &[u8]) -> Length
     ensures { λ r. ⌜ r ≡ lengthOf (now (u .entry)) ⌝ }
 {
     if u.len() == 0 {
@@ -255,7 +255,7 @@ fn group_head(u: &[u8]) -> Head
 }
 
 // The head of the item at the front of u, where u ends with the file or with the definite group around it.
-pub fn item_head(inside: bool, u: &[u8]) -> Head
+fn item_head(inside: bool, u: &[u8]) -> Head
     ensures { λ r. ⌜ r ≡ headOf inside (now (u .entry)) ⌝ }
 {
     if u.len() == 0 {

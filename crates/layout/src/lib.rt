@@ -22,7 +22,7 @@ pub struct Layout {
 }
 
 // Block length times octets per sample, below 2^36.
-pub fn block_octets(c: Settings) -> u64
+fn block_octets(c: Settings) -> u64
     ensures { λ r. ⌜ Small (blockOctets c) r ⌝ }
 {
     let w = values::width(c.kind);
@@ -37,7 +37,7 @@ fn width_agrees(w: usize, b: Bits) -> bool
 }
 
 // A channel's offset and null have its sample width, where they are defined.
-pub fn channel_agrees(c: Settings) -> bool
+fn channel_agrees(c: Settings) -> bool
     ensures { λ r. ⌜ r ≡ channelAgrees c ⌝ }
 {
     let offset = c.offset;
@@ -68,7 +68,7 @@ fn null_size(c: Settings) -> u64
 }
 
 // The octets of channel k's group in the canonical file.
-pub fn group_size(k: usize, c: Settings) -> u64
+fn group_size(k: usize, c: Settings) -> u64
     ensures { λ r. ⌜ Small (groupSize k c) r ⌝ }
 {
     let w = values::width(c.kind) as u64;

@@ -68,7 +68,7 @@ pub fn put_two(buf: &mut [u8], at: usize, a: u8, b: u8) -> usize
 }
 
 // How many octets the shortest form of the length n has.
-pub fn length_octets(n: u32) -> usize
+fn length_octets(n: u32) -> usize
     ensures { λ r. ⌜ r ≡ length (shortest n) ⌝ }
 {
     if n < 128 {

@@ -165,7 +165,7 @@ fn bits_length(n: usize) -> bool
 }
 
 // The lengths of document 01's table.
-pub fn length_fits(a: Attribute, n: usize) -> bool
+fn length_fits(a: Attribute, n: usize) -> bool
     ensures { λ r. ⌜ r ≡ lengthFits a n ⌝ }
 {
     match a {
@@ -181,7 +181,7 @@ pub fn length_fits(a: Attribute, n: usize) -> bool
 }
 
 // An attribute as it stands in a record.
-pub fn standing_in(a: Attribute, s: Settings) -> Change
+fn standing_in(a: Attribute, s: Settings) -> Change
     ensures { λ r. ⌜ r ≡ standingIn a s ⌝ }
 {
     let interval = s.interval;
@@ -230,7 +230,7 @@ fn bits_of(v: &[u8], little: bool) -> Bits
 }
 
 // The new value that a definition's octets hold.
-pub fn change_of(a: Attribute, v: &[u8], little: bool) -> Change
+fn change_of(a: Attribute, v: &[u8], little: bool) -> Change
     ensures { λ r. ⌜ r ≡ changeOf a «little» (now (v .entry)) ⌝ }
 {
     match a {
@@ -259,7 +259,7 @@ fn scale_fits(last: u8, x: Scale) -> bool
 }
 
 // The values of document 01's table.
-pub fn in_range(c: Change) -> bool
+fn in_range(c: Change) -> bool
     ensures { λ r. ⌜ r ≡ inRange c ⌝ }
 {
     match c {
