@@ -293,6 +293,7 @@ fn write_frames(s: &[u8], out: &mut [u8]) -> usize
     let a = runs::put_two(out, 0, 0x01, 0x01);
     let mut at = runs::put_octet(out, a, 0x00);
     let mut table = Settings::table();
+    // The first `own` records are kept up; every other channel holds the root settings.
     let mut own = 0usize;
     let mut c = Cursor::first();
     let mut st = Standing::first();

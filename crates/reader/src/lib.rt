@@ -189,6 +189,7 @@ pub fn scan_file(s: &[u8], asked: Asked) -> Scan
         });
     }
     let mut table = Settings::table();
+    // The first `own` records are kept up; every other channel holds the root settings.
     let mut own = 0usize;
     let mut c = Cursor::first();
     let mut st = Standing::first();
