@@ -1,57 +1,24 @@
-#!/bin/sh
+#!/bin/bash
 # Runs the bench program on the files of document 01 and at its limits: tests/bench.sh target/bin/bench
 set -u
 
-program=${1:?"usage: bench.sh PROGRAM"}
-case $program in
-*/*) ;;
-*) program=./$program ;;
-esac
-work=$(mktemp -d) || exit 2
-trap 'rm -rf "$work"' EXIT
+. "$(dirname "$0")/common.sh"
+
+program=$(program_of "${1:?"usage: bench.sh PROGRAM"}")
 file=$work/file
 line=$work/line
-passed=0
-failed=0
 
-# Octets from hexadecimal, each two digits and set apart by spaces.
-octets() {
-    for octet in $1; do
-        printf '%b' "\\0$(printf '%03o' "0x$octet")"
-    done
-}
-
-# N zero octets.
-zeros() {
-    dd if=/dev/zero bs="$1" count=1 2>/dev/null
-}
-
-# 4,096 empty waveforms.
-frames() {
-    octets "1E 00" >"$work/once"
-    for turn in 1 2 3 4 5 6 7 8 9 10 11 12; do
-        cat "$work/once" "$work/once" >"$work/twice"
-        mv "$work/twice" "$work/once"
-    done
-    cat "$work/once"
-}
-
-# Holds what the program wrote to the line that is expected.
+# Holds what the program wrote to the line that is expected; it ended with this status.
 compare() {
     printf '%s\n' "$2" >"$work/expected"
-    if cmp -s "$line" "$work/expected"; then
-        passed=$((passed + 1))
-        printf '%s: %s\n' "$1" "$2"
-    else
-        failed=$((failed + 1))
-        printf '%s: expected "%s", got "%s"\n' "$1" "$2" "$(cat "$line")"
-    fi
+    [ "$3" -eq 0 ] && cmp -s "$line" "$work/expected"
+    count "$1: $2" $? "status $3, \"$(cat "$line")\""
 }
 
 # Runs the program on $file.
 run() {
     "$program" <"$file" >"$line"
-    compare "$1" "$2"
+    compare "$1" "$2" $?
 }
 
 # Runs the program on a file in hexadecimal.
@@ -80,7 +47,7 @@ hex "canonical file of P2" "01 01 00 05 04 00 00 00 02 06 04 00 00 00 01 07 04 0
 hex "256 channels" "05 02 01 00 1E 00" "frames 1"
 hex "257 channels" "05 02 01 01 1E 00" "refused 7 at 0"
 
-frames >"$file"
+octets "1E 00" | repeated 4096 >"$file"
 run "4,096 frames" "frames 4096"
 octets "1E 00" >>"$file"
 run "4,097 frames" "refused 11 at 8192"
@@ -119,12 +86,11 @@ annex "00 00 27 10" "00 02 71 00" 16000 >"$file"
 run "annex A, cut after 16,000 octets of waveform" "refused 3 at 158"
 
 { octets "05 01 02 3F" && sleep 1 && octets "00 03 0A 01 03 0A 01 05 1E 02 07 08"; } | "$program" >"$line"
-compare "P4 in two pieces" "frames 1"
+compare "P4 in two pieces" "frames 1" $?
 
 # 59 KiB of the stack are the program's own buffer.
 octets "05 01 02 3F 00 03 0A 01 03 0A 01 05 1E 02 07 08" >"$file"
 (ulimit -s 128 && env -i "$program" <"$file" >"$line")
-compare "P4 with a stack of 128 KiB" "frames 1"
+compare "P4 with a stack of 128 KiB" "frames 1" $?
 
-printf '%s passed, %s failed\n' "$passed" "$failed"
-[ "$failed" -eq 0 ]
+counted

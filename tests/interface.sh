@@ -4,66 +4,32 @@
 # line counts the tests.
 set -u
 cd "$(dirname "$0")/.." || exit 2
+. tests/common.sh
 
 library=${MFER_LIB_DIR:-target/staticlib}/libmfer.a
 if [ ! -f "$library" ]; then
     echo "$library is not there: build it with 'rt staticlib mfer'" >&2
     exit 2
 fi
-scratch=$(mktemp -d) || exit 2
-trap 'rm -rf "$scratch"' EXIT
-
-passed=0
-failed=0
-
-# Counts a test that went well where the status is 0.
-count() {
-    if [ "$2" -eq 0 ]; then
-        echo "test $1 ... ok"
-        passed=$((passed + 1))
-    else
-        echo "test $1 ... FAILED"
-        failed=$((failed + 1))
-    fi
-}
 
 # Compiles with a compiler and the library to a program of the name given first.
 compile() {
     local program=$1 status
     shift
-    "$@" -Wall -Wextra -Werror -pedantic -Wconversion -Wshadow -O1 -g -Iinclude -x none "$library" -o "$scratch/$program"
+    "$@" -Wall -Wextra -Werror -pedantic -Wconversion -Wshadow -O1 -g -Iinclude -x none "$library" -o "$work/$program"
     status=$?
     count "compile $program" "$status"
     return "$status"
 }
 
-# Runs a program of tests and adds its counts; one that fails without a failed test, or says no counts, is one failure.
-run() {
-    local status good bad
-    echo "== $*"
-    "$@" > "$scratch/said"
-    status=$?
-    cat "$scratch/said"
-    read -r good bad < <(tail -n 1 "$scratch/said" | sed -n 's/^\([0-9]*\) passed, \([0-9]*\) failed$/\1 \2/p')
-    if [ -z "${bad:-}" ]; then
-        count "it counts its tests" 1
-        return
-    fi
-    passed=$((passed + good))
-    failed=$((failed + bad))
-    if [ "$status" -ne 0 ] && [ "$bad" -eq 0 ]; then
-        count "exit status $status" 1
-    fi
-}
-
 cc=${CC:-cc}
 cxx=${CXX:-c++}
 if compile c99 "$cc" -std=c99 -Wstrict-prototypes tests/interface.c; then
-    run "$scratch/c99"
-    run valgrind -q --error-exitcode=99 --leak-check=full "$scratch/c99" small
+    add last_line "$work/c99"
+    add last_line valgrind -q --error-exitcode=99 --leak-check=full "$work/c99" small
 fi
 if compile cxx "$cxx" -std=c++11 -x c++ tests/interface.c; then
-    run "$scratch/cxx"
+    add last_line "$work/cxx"
 fi
 
 # The examples in the header's first comment, on document 01's P2: the first is a function, the second the body of one.
@@ -93,11 +59,10 @@ int main(void)
     return print_first(file, sizeof file);
 }
 MAIN
-} > "$scratch/example.c"
-if compile example "$cc" -std=c99 "$scratch/example.c"; then
-    [ "$("$scratch/example")" = "$(printf 'bits 1\nbits 2\n1\n2')" ]
+} > "$work/example.c"
+if compile example "$cc" -std=c99 "$work/example.c"; then
+    [ "$("$work/example")" = "$(printf 'bits 1\nbits 2\n1\n2')" ]
     count "the header's examples" $?
 fi
 
-echo "$passed passed, $failed failed"
-[ "$failed" -eq 0 ]
+counted

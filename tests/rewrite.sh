@@ -1,78 +1,42 @@
-#!/bin/sh
+#!/bin/bash
 # Runs the program that writes canonical files on the files of document 01 and at its limits: tests/rewrite.sh target/bin/rewrite
 set -u
 
-program=${1:?"usage: rewrite.sh PROGRAM"}
-case $program in
-*/*) ;;
-*) program=./$program ;;
-esac
-work=$(mktemp -d) || exit 2
-trap 'rm -rf "$work"' EXIT
+. "$(dirname "$0")/common.sh"
+
+program=$(program_of "${1:?"usage: rewrite.sh PROGRAM"}")
 file=$work/file
 wrote=$work/wrote
-again=$work/again
 errors=$work/errors
+# What it is to write, and what to say on standard error.
 expected=$work/expected
-passed=0
-failed=0
-
-# Octets from hexadecimal, each two digits and set apart by spaces.
-octets() {
-    for octet in $1; do
-        printf '%b' "\\0$(printf '%03o' "0x$octet")"
-    done
-}
-
-# N zero octets.
-zeros() {
-    dd if=/dev/zero bs="$1" count=1 2>/dev/null
-}
-
-# N copies of standard input.
-repeated() {
-    cat >"$work/copies"
-    : >"$work/all"
-    count=$1
-    while [ "$count" -gt 0 ]; do
-        if [ $((count % 2)) -eq 1 ]; then
-            cat "$work/copies" >>"$work/all"
-        fi
-        cat "$work/copies" "$work/copies" >"$work/twice"
-        mv "$work/twice" "$work/copies"
-        count=$((count / 2))
-    done
-    cat "$work/all"
-}
+said=$work/said
+: >"$said"
 
 # A file's octets in hexadecimal, at most 40 of them.
 shown() {
     od -An -v -tx1 -N40 "$1" | tr -d '\n'
 }
 
-# Holds what the program wrote to the octets in $expected.
+# Holds what the program wrote, and what it said on standard error, to what is expected; it ended with this status.
 compare() {
-    if cmp -s "$2" "$expected"; then
-        passed=$((passed + 1))
-        printf '%s: %s octets\n' "$1" "$(($(wc -c <"$2")))"
-    else
-        failed=$((failed + 1))
-        printf '%s: expected %s octets%s, got %s octets%s\n' "$1" \
-            "$(($(wc -c <"$expected")))" "$(shown "$expected")" "$(($(wc -c <"$2")))" "$(shown "$2")"
-    fi
+    [ "$2" -eq 0 ] && cmp -s "$wrote" "$expected" && cmp -s "$errors" "$said"
+    same=$?
+    count "$1, $(($(wc -c <"$expected"))) octets" "$same" \
+        "status $2, $(($(wc -c <"$wrote"))) octets$(shown "$wrote") for$(shown "$expected"), \"$(cat "$errors")\""
 }
 
-# Runs the program on $file and holds what it wrote to $expected.
+# Runs the program on a file.
 run() {
-    "$program" <"$file" >"$wrote" 2>"$errors"
-    compare "$1" "$wrote"
+    "$program" <"$2" >"$wrote" 2>"$errors"
+    compare "$1" $?
 }
 
 # The same, and once more on what it wrote: that comes back unchanged.
 both() {
-    run "$1"
-    "$program" <"$wrote" >"$again" 2>"$errors"
-    compare "$1, rewritten" "$again"
+    run "$1" "$file"
+    mv "$wrote" "$work/first"
+    run "$1, rewritten" "$work/first"
 }
 
 # The same for a file and its canonical file, both in hexadecimal.
@@ -88,18 +52,18 @@ refuse() {
     line "$1" "$3"
 }
 
-# Runs the program on $file and holds what it wrote to a line on standard output.
+# Runs the program on $file: a line on standard output.
 line() {
     printf '%s\n' "$2" >"$expected"
-    run "$1: $2"
+    run "$1: $2" "$file"
 }
 
 # Runs the program on $file: nothing on standard output, one line on standard error.
 long() {
     : >"$expected"
-    run "$1, standard output"
-    printf 'too long\n' >"$expected"
-    compare "$1, standard error" "$errors"
+    printf 'too long\n' >"$said"
+    run "$1: too long" "$file"
+    : >"$said"
 }
 
 # A channel's group before its type, with its number, length and block length, and from behind its type to its offset.
@@ -167,7 +131,7 @@ refuse "257 channels" "05 02 01 01 1E 00" "refused 7 at 0"
 
 { octets "1E 82 EA 5C" && zeros 59996; } >"$file"
 { octets "$(start "00 01" "04 00 00 75 2E") $(words 00 01) 1E 82 EA 5C" && zeros 59996; } >"$expected"
-run "60,000 octets"
+run "60,000 octets" "$file"
 octets "00" >>"$file"
 long "60,001 octets"
 zeros 1000000 >"$file"
@@ -180,15 +144,14 @@ long "1,000,000 octets"
     octets "$(start "00 01" 00) $(bytes 00 01) 1E 00" | tail -c 57 | repeated 2104
     octets "$(start "00 01" "04 00 00 00 08") $(bytes 00 01) 1E 08 01 02 03 04 05 06 07 08" | tail -c 69
 } >"$expected"
-run "a canonical file of 120,000 octets"
+run "a canonical file of 120,000 octets" "$file"
 { octets "0A 01 05" && octets "1E 00" | repeated 2104 && octets "1E 09 01 02 03 04 05 06 07 08 09"; } >"$file"
 line "a canonical file of 120,001 octets" "refused 23 at 0"
 
 # 176 KiB of the stack are the program's own buffers.
 octets "01 01 00 1E 02 00 01" >"$file"
-"$program" <"$file" >"$expected"
-(ulimit -s 304 && env -i "$program" <"$file" >"$wrote")
-compare "a stack of 128 KiB beside the buffers" "$wrote"
+octets "$(start "00 01" "$once") $(words 00 01) 1E 02 00 01" >"$expected"
+(ulimit -s 304 && env -i "$program" <"$file" >"$wrote" 2>"$errors")
+compare "a stack of 128 KiB beside the buffers" $?
 
-printf '%s passed, %s failed\n' "$passed" "$failed"
-[ "$failed" -eq 0 ]
+counted
