@@ -5,6 +5,8 @@ use std::io::{ErrorKind, Read, Write};
 use std::path::{Path, PathBuf};
 use std::process::{self, Command, Output, Stdio};
 use std::sync::atomic::{AtomicU32, Ordering};
+use std::thread;
+use std::time::Duration;
 
 /// A folder of one test's own, removed when the test is over.
 struct Folder(PathBuf);
@@ -377,15 +379,29 @@ fn a_full_disk_is_an_error() {
     assert!(error.starts_with("mfer: standard output: "));
 }
 
+/// The input comes so slowly that there would be something to say on a terminal.
 #[test]
 fn no_progress_where_there_is_no_terminal() {
     let folder = Folder::new();
     let mut octets = vec![0x0A, 1, 3, 0x1E, 0x84];
     octets.extend(40_000_000_u32.to_be_bytes());
     octets.resize(octets.len() + 40_000_000, 1);
-    let file = folder.file("long", &octets);
     let output = folder.path("out");
-    let answer = run(mfer().arg("canonical").args([&file, &output]));
+    let mut child = mfer()
+        .args(["canonical", "-"])
+        .arg(&output)
+        .stdin(Stdio::piped())
+        .stdout(Stdio::piped())
+        .stderr(Stdio::piped())
+        .spawn()
+        .unwrap();
+    let mut input = child.stdin.take().unwrap();
+    let (first, rest) = octets.split_at(20_000_000);
+    input.write_all(first).unwrap();
+    thread::sleep(Duration::from_secs(1));
+    input.write_all(rest).unwrap();
+    drop(input);
+    let answer = read(child.wait_with_output().unwrap());
     assert_eq!(answer, ("".into(), "".into(), 0));
     assert_eq!(fs::metadata(&output).unwrap().len(), 68 + 40_000_000);
 }

@@ -31,6 +31,7 @@ fn said(program: &str, input: &[u8]) -> Vec<u8> {
     let writes = std::thread::spawn(move || stdin.write_all(&input));
     let output = child.wait_with_output().unwrap();
     writes.join().unwrap().unwrap();
+    assert!(output.status.success(), "{program}: {}", output.status);
     output.stdout
 }
 
