@@ -9,7 +9,6 @@ mod questions;
 mod run;
 
 pub mod damage;
-pub mod papers;
 
 pub use questions::difference;
 pub use run::{all_same, Failure, Tally};

@@ -1,7 +1,7 @@
 //! Compares the proved library with the second program on generated files: `compare [FILES [SEED]]`.
 
-use compare::{all_same, damage, papers};
-use second::generator;
+use compare::{all_same, damage};
+use second::{generator, papers};
 use std::env;
 use std::process::ExitCode;
 use std::time::Instant;

@@ -129,6 +129,7 @@ fn ask_canonical(file: &[u8], frames: u32) -> Agreed {
             let written = ffi::check(&canonical);
             let expected = expected_check(&Ok(frames));
             same(|| "check of the canonical file".into(), written, expected)?;
+            rewrites_itself(&canonical)?;
             canonical.len()
         }
         Err(_) => 70,
@@ -142,6 +143,15 @@ fn ask_canonical(file: &[u8], frames: u32) -> Agreed {
         same(question, proved, second)?;
     }
     Ok(())
+}
+
+/// The canonical file of a canonical file.
+fn rewrites_itself(canonical: &[u8]) -> Agreed {
+    let mut again = vec![OCTET; canonical.len()];
+    let answer = ffi::canonical(canonical, &mut again);
+    let question = || "canonical of the canonical file".into();
+    same(question, answer, expected_count(&Ok(canonical.len())))?;
+    same(question, &again[..], canonical)
 }
 
 /// The second program's canonical file, in a buffer that is found long enough.

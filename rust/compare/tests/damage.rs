@@ -1,7 +1,7 @@
 //! Small files, damaged in every way there is: no answer differs and nothing crashes.
 
-use compare::papers::{octets, SMALL};
 use compare::{all_same, damage};
+use second::papers::{annex_a, octets, SMALL};
 
 fn same_on_all(files: Vec<Vec<u8>>, least: usize) {
     assert!(files.len() >= least, "only {} files", files.len());
@@ -34,7 +34,7 @@ fn each_length_stretched() {
 /// Annex A's file, since it has the longest waveform: every prefix of its header, and the last ones.
 #[test]
 fn each_prefix_of_a_header() {
-    let file = compare::papers::annex_a();
+    let file = annex_a();
     let header = file.len() - 160_000;
     let mut damaged: Vec<Vec<u8>> = (0..=header + 3).map(|end| file[..end].to_vec()).collect();
     damaged.extend((file.len() - 2..=file.len()).map(|end| file[..end].to_vec()));

@@ -1,7 +1,7 @@
 //! Generated files. MFER_FILES and MFER_SEED set how many and from which seed on.
 
 use compare::all_same;
-use second::generator::{faulty_file, file, good_file};
+use second::generator::file;
 use std::env;
 
 fn setting(name: &str, default: u64) -> u64 {
@@ -25,37 +25,6 @@ fn both_programs_answer_the_same() {
         assert!(tally.with_frames > 20_000);
         for (number, count) in tally.refused.iter().enumerate().take(15).skip(1) {
             assert!(*count > 500, "refusal {number} occurs {count} times");
-        }
-    }
-}
-
-#[test]
-fn good_files_are_accepted_and_written() {
-    for seed in 0..3_000 {
-        let octets = good_file(seed);
-        let file = mfer::File::new(&octets);
-        let frames = file
-            .check()
-            .unwrap_or_else(|no| panic!("seed {seed}: {no}"));
-        let canonical = file.canonical_vec().unwrap();
-        let again = mfer::File::new(&canonical);
-        assert_eq!(again.check(), Ok(frames), "seed {seed}");
-        assert_eq!(again.canonical_vec().unwrap(), canonical, "seed {seed}");
-    }
-}
-
-#[test]
-fn faults_are_found_where_they_were_built_in() {
-    for number in 1..=14 {
-        let seeds = if number == 11 { 60 } else { 1_000 };
-        for seed in 0..seeds {
-            let (octets, place) = faulty_file(number, seed);
-            let refusal = mfer::Refusal {
-                number: number.into(),
-                place,
-            };
-            let checked = mfer::File::new(&octets).check();
-            assert_eq!(checked, Err(refusal), "fault {number}, seed {seed}");
         }
     }
 }

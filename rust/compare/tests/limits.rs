@@ -1,8 +1,9 @@
-//! The limits of document 01: the last that is allowed and the first that is not.
+//! The limits of document 01: the last that is allowed and the first that is not. What the second
+//! program's tests say of them is not said again.
 
-use compare::papers::{octets, P3};
 use compare::{all_same, difference};
 use mfer::{ffi, File, Refusal};
+use second::papers::{octets, P3};
 use std::env;
 
 fn check(octets: &[u8]) -> Result<u32, (u32, u64)> {
@@ -20,8 +21,6 @@ fn same_on(lines: &[&str]) {
 
 #[test]
 fn channels_256_and_257() {
-    assert_eq!(check(&octets("05 02 01 00 1E 00")), Ok(1));
-    assert_eq!(check(&octets("05 02 01 01 1E 00")), Err((7, 0)));
     same_on(&["05 02 01 00 1E 00", "05 02 01 01 1E 00", "05 01 00"]);
     // 256 channels of one octet each, twice over.
     let mut file = octets("05 02 01 00 0A 01 03 3F 81 7F 03 0A 01 05 1E 82 02 00");
@@ -34,14 +33,8 @@ fn channels_256_and_257() {
 
 #[test]
 fn frames_4096_and_4097() {
-    let frames = octets(P3).repeat(4096);
-    assert_eq!(check(&frames), Ok(4096));
-    assert_eq!(difference(&frames), None);
-    let written = File::new(&frames).canonical_vec().unwrap();
-    assert_eq!(written.len(), 3 + 4096 * 58);
-    let more = octets(P3).repeat(4097);
-    assert_eq!(check(&more), Err((11, 8192)));
-    assert_eq!(difference(&more), None);
+    assert_eq!(difference(&octets(P3).repeat(4096)), None);
+    assert_eq!(difference(&octets(P3).repeat(4097)), None);
     // 11 comes before what else the frame would be refused for.
     let mut more = octets(P3).repeat(4096);
     more.extend(octets("06 01 09 0D 01 01 1E 00"));

@@ -1,6 +1,6 @@
 //! What the wrapper adds to the library: iterators, words, buffers that grow, frames cut out.
 
-use mfer::{File, Recording, Refusal, Value};
+use mfer::{Attributes, DataType, File, Recording, Refusal, Scale, Value};
 
 /// Two channels of types 0 and 3 with blocks of 1 and 2, and as many sequences as fit.
 fn two_channels(sequences: usize) -> Vec<u8> {
@@ -145,6 +145,61 @@ fn refusals_say_what_and_where() {
         place: 0,
     };
     assert_eq!(unknown.meaning(), "unknown refusal");
+}
+
+#[test]
+fn each_attribute_is_in_its_field() {
+    let mut octets = vec![0x05, 1, 2, 0x06, 1, 1, 0x07, 2, 0xFF, 0xFE, 0x04, 1, 3];
+    octets.extend([0x08, 1, 7, 0x09, 2, 1, 2, 0x0A, 1, 2]);
+    octets.extend([0x0B, 3, 1, 0xFD, 5, 0x0C, 3, 6, 4, 8]);
+    octets.extend([0x0D, 4, 0, 0, 0, 9, 0x12, 4, 0x80, 0, 0, 0, 0x1E, 24]);
+    octets.extend([0; 24]);
+    let expected = Attributes {
+        start: -2,
+        channels: 2,
+        sequences: 1,
+        block: 3,
+        class: 7,
+        lead: 0x0102,
+        data_type: DataType::Signed32,
+        interval: Scale {
+            unit: 1,
+            exponent: -3,
+            mantissa: 5,
+        },
+        resolution: Scale {
+            unit: 6,
+            exponent: 4,
+            mantissa: 8,
+        },
+        width: 4,
+        offset: 9,
+        null: Some(0x8000_0000),
+    };
+    assert_eq!(File::new(&octets).attributes(0, 1), Ok(expected));
+}
+
+#[test]
+fn a_refused_file_answers_its_refusal_to_every_question() {
+    let file = File::new(&[0x05, 1, 2, 0x3F, 2, 0]);
+    let refusal = Refusal {
+        number: Refusal::CHANNEL_NUMBER,
+        place: 3,
+    };
+    assert_eq!(file.check(), Err(refusal));
+    assert_eq!(file.attributes(9, 9), Err(refusal));
+    assert_eq!(file.sample(9, 9, 9), Err(refusal));
+    let mut bits = [7; 3];
+    assert_eq!(file.samples(9, 9, 9, &mut bits), Err(refusal));
+    assert_eq!(bits, [7; 3]);
+    let mut out = [0xA5; 200];
+    assert_eq!(file.canonical(&mut out), Err(refusal));
+    assert_eq!(out, [0xA5; 200]);
+    assert_eq!(file.canonical_vec(), Err(refusal));
+    assert_eq!(file.frames().err(), Some(refusal));
+    assert_eq!(file.frame(0).err(), Some(refusal));
+    assert_eq!(file.channel(0, 0).err(), Some(refusal));
+    assert_eq!(Recording::of(&file).err(), Some(refusal));
 }
 
 /// The header promises it.

@@ -4,6 +4,7 @@
 
 pub mod generator;
 mod items;
+pub mod papers;
 pub mod reader;
 mod scan;
 mod settings;

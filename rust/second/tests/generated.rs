@@ -161,8 +161,11 @@ fn bulk_reading_agrees_with_single_samples() {
         }
         let channels = attributes(&file, 0, 0).unwrap().channels;
         for channel in 0..channels.min(8) {
+            let read = attributes(&file, 0, channel).unwrap();
             let bits = all_samples(&file, 0, channel);
             for first in 0..bits.len() {
+                let (_, value) = sample(&file, 0, channel, first as u64).unwrap();
+                assert_eq!(value, by_hand(bits[first], read));
                 let mut three = [u64::MAX; 3];
                 let filled = samples(&file, 0, channel, first as u64, &mut three).unwrap();
                 assert_eq!(filled, 3.min(bits.len() - first));

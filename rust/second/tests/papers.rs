@@ -2,20 +2,10 @@
 
 mod common;
 
-use common::{canonical, octets, refused};
+use common::{canonical, refused};
+use second::papers::*;
 use second::reader::{attributes, check, sample, samples, Attributes, Scale, Value};
-
-const P1: &str = "";
-const P2: &str = "01 01 01 04 01 02 05 01 02 3F 01 03 04 01 01 1E 06 01 00 02 00 FF FF";
-const P3: &str = "1E 00";
-const P4: &str = "05 01 02 3F 00 03 0A 01 03 0A 01 05 1E 02 07 08";
-const P5: &str = "3F 00 03 0A 01 03 1E 02 00 09";
-const P6: &str = "05 01 02 3F 02 00";
-const P7: &str = "0A 80";
-const P8: &str = "3F 00 80";
-const P9: &str = "06 01 02 1E 02 00 05";
-const P10: &str = "0D 01 01 1E 02 00 05";
-const P11: &str = "05 02 01 00 3F 81 7F 03 0A 01 03";
+use second::shrink::hex;
 
 /// A channel for which nothing was defined, in a frame of one channel without sequences.
 const DEFAULTS: Attributes = Attributes {
@@ -75,15 +65,7 @@ fn p2_has_two_channels_with_blocks_of_their_own() {
 
 #[test]
 fn p2_has_113_canonical_octets() {
-    let written = octets(
-        "01 01 00 \
-         05 04 00 00 00 02 06 04 00 00 00 01 07 04 00 00 00 00 \
-         3F 00 27 04 04 00 00 00 02 08 02 00 00 09 02 00 00 0A 01 00 \
-         0B 06 00 00 00 00 03 E8 0C 06 00 FA 00 00 00 01 0D 02 00 00 12 00 \
-         3F 01 27 04 04 00 00 00 01 08 02 00 00 09 02 00 00 0A 01 00 \
-         0B 06 00 00 00 00 03 E8 0C 06 00 FA 00 00 00 01 0D 02 00 00 12 00 \
-         1E 06 00 01 00 02 FF FF",
-    );
+    let written = octets(P2_CANONICAL);
     assert_eq!(written.len(), 113);
     assert_eq!(canonical(&octets(P2)), written);
     assert_eq!(canonical(&written), written);
@@ -162,7 +144,7 @@ fn p11_names_channel_255() {
 
 #[test]
 fn surplus_is_dropped() {
-    let file = octets("1E 03 00 01 02");
+    let file = octets(SURPLUS);
     assert_eq!(check(&file), Ok(1));
     assert_eq!(sample(&file, 0, 0, 0), Ok((2, Value::Whole(1))));
     assert_eq!(sample(&file, 0, 0, 1), refused(22, 0));
@@ -196,26 +178,6 @@ fn frames_4096_and_4097() {
     assert_eq!(written.len(), 3 + 4096 * 58);
     assert_eq!(canonical(&written), written);
     assert_eq!(check(&octets(P3).repeat(4097)), refused(11, 8192));
-}
-
-/// The coding example of annex A, with 160,000 octets of waveform and the lead codes of its table.
-fn annex_a() -> Vec<u8> {
-    let mut file = vec![0x40, 0x20];
-    file.extend(b"MFR Standard 12 leads ECG       ");
-    file.extend([0x17, 0x26]);
-    file.extend(b"Nihon Manufacture co.^ECG-2003^1.02.33");
-    file.extend(octets(
-        "01 01 00 08 01 01 0B 04 01 FD 00 01 0C 04 00 F7 03 E8 \
-         04 04 00 00 00 01 05 04 00 00 00 08 06 04 00 00 27 10",
-    ));
-    for channel in 0..8 {
-        file.extend([0x3F, channel, 0x03, 0x09, 0x01, channel + 1]);
-    }
-    file.extend(octets("1E 84 00 02 71 00"));
-    for number in 0..80_000 {
-        file.extend((number as i16).to_be_bytes());
-    }
-    file
 }
 
 #[test]
@@ -265,19 +227,15 @@ fn annex_a_reads_as_printed() {
 
 #[test]
 fn lengths_are_big_endian_always() {
-    let file = octets("01 01 01 1E 82 00 02 05 00");
-    assert_eq!(sample(&file, 0, 0, 0), Ok((7, Value::Whole(5))));
-    let file = octets("01 01 01 05 84 00 00 00 02 02 00 3F 01 82 00 03 0A 01 03 1E 00");
-    assert_eq!(attributes(&file, 0, 1).unwrap().kind, 3);
+    let [waveform, group, past] = LONG_LENGTHS.map(octets);
+    assert_eq!(sample(&waveform, 0, 0, 0), Ok((7, Value::Whole(5))));
+    assert_eq!(attributes(&group, 0, 1).unwrap().kind, 3);
+    assert_eq!(check(&past), refused(3, 3));
 }
 
 #[test]
 fn each_channel_steps_with_its_own_block() {
-    // Blocks of 2, 1 and 3 octets, two sequences, one octet of surplus.
-    let file = octets(
-        "05 01 03 0A 01 03 3F 00 03 04 01 02 3F 02 03 04 01 03 \
-         1E 0D 00 01 02 03 04 05 06 07 08 09 0A 0B 0C",
-    );
+    let file = octets(BLOCKS);
     assert_eq!(check(&file), Ok(1));
     let expected: [&[u64]; 3] = [&[0, 1, 6, 7], &[2, 8], &[3, 4, 5, 9, 10, 11]];
     for (channel, numbers) in (0..).zip(expected) {
@@ -301,31 +259,32 @@ fn each_channel_steps_with_its_own_block() {
     }
 }
 
+/// The byte order, the channels, the sequences and every setting of root and channel last.
 #[test]
 fn settings_last_across_frames() {
-    let file = octets("05 01 02 3F 01 03 0A 01 03 1E 00 1E 00 0A 01 05 1E 00");
+    let file = octets(LASTING_TYPE);
     for (frame, kinds) in (0..).zip([[0, 3], [0, 3], [5, 5]]) {
         for (channel, kind) in (0..).zip(kinds) {
             assert_eq!(attributes(&file, frame, channel).unwrap().kind, kind);
         }
     }
+    let file = octets(LASTING);
+    let first = attributes(&file, 0, 1).unwrap();
+    assert_eq!((first.channels, first.sequences), (2, 1));
+    assert_eq!((first.class, first.kind), (7, 1));
+    assert_eq!((first.offset, first.null), (1, Some(0x1234)));
+    let second = attributes(&file, 1, 1);
+    assert_eq!(second, Ok(Attributes { start: 1, ..first }));
+    assert_eq!(sample(&file, 1, 0, 0), Ok((34, Value::Whole(3))));
+    assert_eq!(sample(&file, 1, 1, 0), Ok((36, Value::Null)));
 }
 
 #[test]
 fn mantissas_are_signed() {
-    for tag in ["0B", "0C"] {
-        for value in [
-            "03 00 00 FF",
-            "03 00 00 80",
-            "03 00 00 00",
-            "04 00 00 80 00",
-            "06 00 00 FF FF FF FF",
-        ] {
-            assert_eq!(check(&octets(&format!("{tag} {value}"))), refused(7, 0));
-        }
+    for file in low_mantissas() {
+        assert_eq!(check(&file), refused(7, 0), "{}", hex(&file));
     }
-    let file = octets("0B 03 02 80 7F 0C 06 16 7F 7F FF FF FF 1E 00");
-    let read = attributes(&file, 0, 0).unwrap();
+    let read = attributes(&octets(SCALES), 0, 0).unwrap();
     assert_eq!(read.interval.exponent, -128);
     assert_eq!(read.interval.mantissa, 127);
     assert_eq!(read.interval.unit, 2);

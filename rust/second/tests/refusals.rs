@@ -2,7 +2,8 @@
 
 mod common;
 
-use common::{octets, refused};
+use common::refused;
+use second::papers::octets;
 use second::reader::check;
 
 fn all_refused(files: &[(&str, u8, u64)]) {

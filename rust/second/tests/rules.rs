@@ -2,7 +2,8 @@
 
 mod common;
 
-use common::{canonical, octets, refused};
+use common::{canonical, refused};
+use second::papers::octets;
 use second::reader::{attributes, check, sample, samples, Attributes, Refusal, Value};
 use second::writer;
 

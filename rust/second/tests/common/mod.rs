@@ -4,13 +4,6 @@
 use second::reader::Refusal;
 use second::writer;
 
-/// The octets of a hexadecimal line, as the papers print them.
-pub fn octets(hex: &str) -> Vec<u8> {
-    hex.split_whitespace()
-        .map(|octet| u8::from_str_radix(octet, 16).unwrap())
-        .collect()
-}
-
 /// A refusal as an answer.
 pub fn refused<T>(number: u8, place: u64) -> Result<T, Refusal> {
     Err(Refusal { number, place })

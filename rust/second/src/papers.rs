@@ -1,4 +1,5 @@
-//! The files that document 01 names, and others in the same notation.
+//! The files that document 01 names, and others in the same notation. `tests/papers.rs` has what is
+//! to be answered to them.
 
 /// The octets of a hexadecimal line, as the papers print them.
 pub fn octets(hex: &str) -> Vec<u8> {
@@ -28,6 +29,62 @@ pub const P2_CANONICAL: &str = "01 01 00 \
     3F 01 27 04 04 00 00 00 01 08 02 00 00 09 02 00 00 0A 01 00 \
     0B 06 00 00 00 00 03 E8 0C 06 00 FA 00 00 00 01 0D 02 00 00 12 00 \
     1E 06 00 01 00 02 FF FF";
+
+/// Every file that document 01 spells out, and P2's canonical file.
+pub const NAMED: [&str; 13] = [
+    P1,
+    P2,
+    P3,
+    P4,
+    P5,
+    P6,
+    P7,
+    P8,
+    P9,
+    P10,
+    P11,
+    SURPLUS,
+    P2_CANONICAL,
+];
+
+/// Lengths in long forms where the byte order is little; the last is past the end, but not if it
+/// were little-endian.
+pub const LONG_LENGTHS: [&str; 3] = [
+    "01 01 01 1E 82 00 02 05 00",
+    "01 01 01 05 84 00 00 00 02 02 00 3F 01 82 00 03 0A 01 03 1E 00",
+    "01 01 01 1E 82 02 00 05 00",
+];
+
+/// Blocks of 2, 1 and 3 octets, two sequences, one octet of surplus.
+pub const BLOCKS: &str = "05 01 03 0A 01 03 3F 00 03 04 01 02 3F 02 03 04 01 03 \
+    1E 0D 00 01 02 03 04 05 06 07 08 09 0A 0B 0C";
+
+/// Three frames; the channel's own type lasts till the root's comes.
+pub const LASTING_TYPE: &str = "05 01 02 3F 01 03 0A 01 03 1E 00 1E 00 0A 01 05 1E 00";
+
+/// Two frames, with settings ahead of the first alone. The second waveform would do for two
+/// sequences.
+pub const LASTING: &str =
+    "01 01 01 05 01 02 06 01 01 08 01 07 0D 02 01 00 3F 01 07 0A 01 01 12 02 34 12 \
+    1E 04 01 00 02 00 1E 09 03 00 34 12 99 99 99 99 99";
+
+/// Intervals and resolutions whose mantissa is below 1.
+pub fn low_mantissas() -> Vec<Vec<u8>> {
+    let values = [
+        "03 00 00 FF",
+        "03 00 00 80",
+        "03 00 00 00",
+        "04 00 00 80 00",
+        "05 00 00 FF FF FF",
+        "06 00 00 FF FF FF FF",
+        "06 00 00 80 00 00 00",
+    ];
+    let files = |tag| values.map(|value| octets(&format!("{tag} {value}")));
+    [files("0B"), files("0C")].concat()
+}
+
+/// Mantissas and exponents at their ends.
+pub const SCALES: &str = "0B 03 02 80 7F 0C 06 16 7F 7F FF FF FF 1E 00";
 
 /// Small files that together have every tag, both forms of a group, every form of a length, both
 /// byte orders and all widths: what damage is done to.
@@ -82,4 +139,14 @@ pub fn annex_a() -> Vec<u8> {
         file.extend((number as i16).to_be_bytes());
     }
     file
+}
+
+/// All of them but the small ones.
+pub fn all() -> Vec<Vec<u8>> {
+    let mut files: Vec<Vec<u8>> = NAMED.map(octets).into();
+    files.extend(LONG_LENGTHS.map(octets));
+    files.extend([BLOCKS, LASTING_TYPE, LASTING, SCALES].map(octets));
+    files.extend(low_mantissas());
+    files.push(annex_a());
+    files
 }
