@@ -47,6 +47,12 @@
  * goes through them twice and copies the samples. To read many samples, ask mfer_samples once, not
  * mfer_sample many times.
  *
+ * WHAT IS PROVED
+ *
+ * Of each function, for any octets and any numbers: it returns, and its result, its outputs and its
+ * buffer afterwards are what crates/mfer/specs/Answers.antt defines. docs/TRUST.md says what that
+ * rests on.
+ *
  * EXAMPLE
  *
  * Prints the first channel of the first frame:

@@ -48,3 +48,8 @@ pub use iterators::{Bits, Channel, Channels, Frame, Frames, Values};
 pub use recording::Recording;
 pub use refusal::Refusal;
 pub use value::{Sample, Value};
+
+/// The README's example is a test too.
+#[cfg(doctest)]
+#[doc = include_str!("../../../README.md")]
+struct Readme;
