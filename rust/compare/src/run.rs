@@ -131,7 +131,11 @@ pub fn all_same(
             scope.spawn(work);
         }
     });
-    result.into_inner().unwrap()
+    let result = result.into_inner().unwrap();
+    if let Ok(tally) = &result {
+        assert_eq!(tally.files(), files, "every file is asked about");
+    }
+    result
 }
 
 fn shrunk(number: u64, file: &[u8]) -> Failure {

@@ -20,7 +20,6 @@ fn both_programs_answer_the_same() {
     println!("seeds {seed} to {}", seed + files - 1);
     let tally = all_same(seed, files, file).unwrap_or_else(|failure| panic!("seed {failure}"));
     println!("no difference on {tally}");
-    assert_eq!(tally.files(), files);
     if files >= 100_000 {
         assert!(tally.with_frames > 20_000);
         for (number, count) in tally.refused.iter().enumerate().take(15).skip(1) {
