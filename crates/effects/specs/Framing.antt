@@ -36,7 +36,7 @@ unfoldable pub pointerAfter : Standing → ℕ → ℤ
 pointerAfter st sequences = st .start +ℤ pos (st .root .block * sequences)
 
 -- What a waveform of `long` octets gives after `frames` frames, where a sequence takes `octets` octets: 11, 12, 13, 14, or a frame with
--- its sequences and what stands after it. (The first two tests are never met, as proofs/Never.antt shows: a sequence has octets, since block lengths and widths are
+-- its sequences and what stands after it. (The first two tests are never met, as reader/proofs/Never.antt shows: a sequence has octets, since block lengths and widths are
 -- at least 1, and no waveform is longer than a file may be, since 15 has come first.)
 unfoldable pub framedAs : ℕ → Standing → Bool → ℕ → ℕ → Framed
 framedAs frames st agree octets long =

@@ -1,10 +1,10 @@
 -- A loop that maps a list from the front, one store a turn: after n turns it is `mapped f n l`. One law for any element and any function.
 --     mapped-put    a store of f's value at i makes it the same at i + 1
---     mapped-end    after as many turns as there are elements it is `map f l`
+--     mapped-long   it stays as long as it was
 -- Assumes nothing.
-use mathlib.Core.Path.{_≡_, refl, ap, sym, subst, _∙_}
-use mathlib.Core.List.{List, [], _∷_, map}
-use Prim.Native.Nat.{ℕ, zero, suc, _+_, _<_, _≤_}
+use mathlib.Core.Path.{_≡_, refl, ap, sym, subst}
+use mathlib.Core.List.{List, [], _∷_}
+use Prim.Native.Nat.{ℕ, zero, suc, _+_, _<_}
 use native.Mathlib.Nat.{not-suc-le-zero, le-of-suc-le-suc}
 use native.Mathlib.Numerals.{add-one}
 use lib.ListN.{length, set, getD}
@@ -20,12 +20,6 @@ module _ {A : Type 0} (f : A → A) where
   mapped-suc d zero (x ∷ l) h = refl
   mapped-suc d (suc i) (x ∷ l) h = ap (λ (t : List A). f x ∷ t) (mapped-suc d i l (le-of-suc-le-suc h))
 
-  mapped-all : (n : ℕ) (l : List A) → length l ≤ n → mapped n l ≡ map f l
-  mapped-all zero [] h = refl
-  mapped-all zero (x ∷ l) h = absurd (not-suc-le-zero h)
-  mapped-all (suc n) [] h = refl
-  mapped-all (suc n) (x ∷ l) h = ap (λ (t : List A). f x ∷ t) (mapped-all n l (le-of-suc-le-suc h))
-
   pub mapped-long : (n : ℕ) (l : List A) → length (mapped n l) ≡ length l
   mapped-long zero l = refl
   mapped-long (suc n) [] = refl
@@ -34,7 +28,3 @@ module _ {A : Type 0} (f : A → A) where
   -- One turn of the loop, at a list of n elements, where the value stored is known by an equation.
   pub mapped-put : (d : A) (n i : ℕ) (l t : List A) (v : A) → length l ≡ n → i < n → t ≡ mapped i l → v ≡ f (getD t i d) → set t i v ≡ mapped (i + 1) l
   mapped-put d n i l t v len h e q = rw (q, e, add-one) (mapped-suc d i l (subst (λ (k : ℕ). i < k) (sym len) h))
-
-  -- The loop's end.
-  pub mapped-end : (n i : ℕ) (l t : List A) → length l ≡ n → n ≤ i → t ≡ mapped i l → t ≡ map f l
-  mapped-end n i l t len h e = e ∙ mapped-all i l (subst (λ (k : ℕ). k ≤ i) (sym len) h)
