@@ -10,8 +10,8 @@ use lib.ListN.{length, take, drop, length-append}
 use lib.Seq.{take-append-seam}
 use Rattle.io.specs.Counts.{Counts}
 use Rattle.io.specs.Digits.{digits, Fewest}
-use Rattle.runs.specs.Storing.{Putting, put-fits}
-use Rattle.runs.proofs.Stores.{sets-front, put-long, putting-then}
+use Rattle.stores.specs.Storing.{Putting, put-fits}
+use Rattle.stores.proofs.Stores.{sets-front, put-long, putting-then}
 use Rattle.octets.proofs.Pick.{pick-cases}
 use Rattle.items.specs.declared.Refusal.{Refusal}
 use Rattle.reader.specs.declared.Checked.{Checked}

@@ -5,7 +5,7 @@
 ghost use mathlib.Core.Path.{_≡_};
 ghost use lib.ListN.{take};
 ghost use Rattle.io.specs.Counts.{Counts};
-ghost use Rattle.runs.specs.Storing.{Putting};
+ghost use Rattle.stores.specs.Storing.{Putting};
 ghost use Rattle.bench.specs.Line.{decimalOf, lineOf};
 use libc::STDIN_FILENO;
 use libc::STDOUT_FILENO;

@@ -15,7 +15,7 @@ use lib.Dec.{ltb}
 use lib.ListN.{length, getD, drop}
 use lib.Seq.{sets}
 use Rattle.octets.specs.Pick.{pick}
-use Rattle.runs.proofs.Stores.{sets-front}
+use Rattle.stores.proofs.Stores.{sets-front}
 use Rattle.items.specs.declared.Refusal.{Refusal}
 use Rattle.items.specs.Refusals.{noFrame, noChannel, noSample}
 use Rattle.items.specs.Walk.{refusal}

@@ -17,7 +17,7 @@ use native.Mathlib.Numerals.{add-one}
 use native.Mathlib.Omega.{arith}
 use lib.ListN.{length, set, length-set}
 use lib.Seq.{sets, length-sets}
-use Rattle.runs.proofs.Stores.{sets-append}
+use Rattle.stores.proofs.Stores.{sets-append}
 use Rattle.bulk.specs.Samples.{bitsFrom}
 use Rattle.bulk.specs.Walked.{bitsHere, spaced, blocked, Wide, Within, InBlocks}
 

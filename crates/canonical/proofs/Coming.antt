@@ -13,9 +13,9 @@ use native.Mathlib.Numerals.{add-one}
 use native.Mathlib.Nat.{mul-le-mul-right}
 use lib.ListN.{length, getD, take, drop, length-append, drop-of-length-le, length-drop}
 use lib.Seq.{sets, drop-cons, drop-drop, getD-take, length-take-le}
-use Rattle.runs.specs.Storing.{Put, Putting, put-fits}
+use Rattle.stores.specs.Storing.{Put, Putting, put-fits}
 use Rattle.runs.specs.Turned.{turned, turnedRun}
-use Rattle.runs.proofs.Stores.{sets-append, put-long}
+use Rattle.stores.proofs.Stores.{sets-append, put-long}
 use Rattle.runs.proofs.Turned.{run-there, length-turned}
 use Rattle.values.specs.Sample.{widthOf}
 use Rattle.settings.specs.declared.Settings.{Settings}

@@ -18,7 +18,7 @@ use lib.ListN.{length, getD, take}
 use lib.Seq.{take-all}
 use Rattle.octets.specs.Pick.{pick}
 use Rattle.octets.specs.Number.{numberOf}
-use Rattle.runs.specs.Number.{be, length-be}
+use Rattle.stores.specs.Number.{be, length-be}
 use Rattle.values.specs.declared.Bits.{Bits}
 use Rattle.values.specs.Sample.{widthOf}
 use Rattle.values.proofs.Laws.{width-le}

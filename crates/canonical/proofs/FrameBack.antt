@@ -16,7 +16,7 @@ use lib.IntN.{ℤ}
 use lib.ListN.{length, set, take, drop, length-set}
 use lib.Seq.{sets, sets-eq, take-append-seam}
 use Rattle.octets.specs.Pick.{pick}
-use Rattle.runs.specs.Number.{be}
+use Rattle.stores.specs.Number.{be}
 use Rattle.items.specs.declared.Within.the-variants.{Root}
 use Rattle.items.specs.Walk.{cursor}
 use Rattle.settings.specs.declared.Settings.{Settings}

@@ -22,8 +22,8 @@ use lib.ListN.{length, take, drop, length-append, length-drop}
 use lib.Seq.{take-at, drop-drop, take-append-seam, drop-append-seam, drop-append-add}
 use Rattle.octets.specs.Pick.{pick, both}
 use Rattle.octets.specs.Number.{bigFrom, numberOf}
-use Rattle.runs.specs.Number.{be, length-be}
-use Rattle.runs.specs.Length.{holding, holding-one, holding-two, holding-three, holding-four, shortest, shortest-short, shortest-long}
+use Rattle.stores.specs.Number.{be, length-be}
+use Rattle.stores.specs.Length.{holding, holding-one, holding-two, holding-three, holding-four, shortest, shortest-short, shortest-long}
 use Rattle.items.specs.declared.Channel.the-variants.{Number}
 use Rattle.items.specs.declared.Length.the-variants.{Known}
 use Rattle.items.specs.declared.Head.{Head}

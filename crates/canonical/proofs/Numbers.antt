@@ -16,7 +16,7 @@ use lib.Dec.{lit<}
 use lib.IntN.{ℤ, pos, negsuc}
 use lib.Signed.{mag}
 use Rattle.octets.specs.Number.{bigFrom, numberOf, twos, signedOf}
-use Rattle.runs.specs.Number.{be, length-be}
+use Rattle.stores.specs.Number.{be, length-be}
 use Rattle.canonical.specs.Canonical.{unsignedOf}
 
 pub big-snoc : (acc : ℕ) (s : List ℕ) (b : ℕ) → bigFrom acc (s ++ (b ∷ [])) ≡ bigFrom acc s * 256 + b

@@ -18,10 +18,10 @@ use Rattle.octets.specs.Pick.{pick}
 use Rattle.octets.specs.Number.{littleOf, numberOf}
 use Rattle.octets.proofs.Pick.{pick-cases}
 use Rattle.octets.proofs.Laws.{take-octets, drop-octets}
-use Rattle.runs.specs.Number.{be, length-be, Octets}
-use Rattle.runs.specs.Length.{holding, shortest, length-shortest-short}
+use Rattle.stores.specs.Number.{be, length-be, Octets}
+use Rattle.stores.specs.Length.{holding, shortest, length-shortest-short}
 use Rattle.runs.specs.Turned.{turned}
-use Rattle.runs.proofs.Number.{be-big}
+use Rattle.stores.proofs.Number.{be-big}
 use Rattle.runs.proofs.Turned.{turned-one}
 use Rattle.values.proofs.Laws.{width-le}
 use Rattle.settings.specs.declared.Scale.{Scale}

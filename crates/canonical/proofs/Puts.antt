@@ -19,10 +19,10 @@ use mir.Facts.{toZ-pos, toZ-ofZ, sfits-widen}
 use lib.ListN.{length, length-append}
 use Rattle.octets.specs.Pick.{pick}
 use Rattle.octets.proofs.Pick.{pick-cases}
-use Rattle.runs.specs.Number.{be, length-be, field, length-field}
-use Rattle.runs.specs.Length.{shortest, shortest-short}
-use Rattle.runs.specs.Storing.{Put, Putting, put-fits}
-use Rattle.runs.proofs.Stores.{put-then, put-long, putting-then}
+use Rattle.stores.specs.Number.{be, length-be, field, length-field}
+use Rattle.stores.specs.Length.{shortest, shortest-short}
+use Rattle.stores.specs.Storing.{Put, Putting, put-fits}
+use Rattle.stores.proofs.Stores.{put-then, put-long, putting-then}
 use Rattle.values.proofs.Laws.{width-le}
 use Rattle.settings.specs.declared.Scale.{Scale}
 use Rattle.settings.specs.declared.Settings.{Settings}

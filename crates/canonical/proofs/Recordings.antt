@@ -15,7 +15,7 @@ use native.Mathlib.Omega.{arith}
 use borrow.Author.Tests.{eq-eqb, ne-eqb}
 use lib.ListN.{length, getD}
 use Rattle.octets.proofs.Pick.{either-true}
-use Rattle.runs.specs.Number.{be, length-be}
+use Rattle.stores.specs.Number.{be, length-be}
 use Rattle.values.specs.declared.Bits.{Bits}
 use Rattle.settings.specs.declared.Settings.{Settings}
 use Rattle.layout.specs.Frame.{Frame, widthIn, blockOctets, sequenceOctets, widthAgrees, channelAgrees, allAgree, channelIn, samplesOf}

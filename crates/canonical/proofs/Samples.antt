@@ -10,7 +10,7 @@ use native.Mathlib.Nat.{mul-assoc, mul-one, mul-div-cancel, min-le-left}
 use native.Mathlib.Omega.{arith}
 use lib.ListN.{length, take, length-take}
 use Rattle.runs.specs.Turned.{turned, turnedRun}
-use Rattle.runs.specs.Storing.{Put, Putting, put-fits}
+use Rattle.stores.specs.Storing.{Put, Putting, put-fits}
 use Rattle.runs.proofs.Turned.{turned-one, run-there, length-turned}
 use Rattle.settings.specs.declared.Settings.{Settings}
 use Rattle.layout.specs.Frame.{sequenceOctets}

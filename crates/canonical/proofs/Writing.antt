@@ -27,10 +27,10 @@ use Rattle.items.specs.declared.Within.the-variants.{Root}
 use Rattle.items.specs.Refusals.{bufferShort}
 use Rattle.items.specs.Walk.{nextOf, itemsFrom, itemsOf, cursor, refusal, fault}
 use Rattle.items.proofs.Walks.{items-found, items-end, items-refused}
-use Rattle.runs.specs.Number.{field}
-use Rattle.runs.specs.Length.{shortest}
-use Rattle.runs.specs.Storing.{Put, Putting, put-fits}
-use Rattle.runs.proofs.Stores.{put-then, put-long, sets-front}
+use Rattle.stores.specs.Number.{field}
+use Rattle.stores.specs.Length.{shortest}
+use Rattle.stores.specs.Storing.{Put, Putting, put-fits}
+use Rattle.stores.proofs.Stores.{put-then, put-long, sets-front}
 use Rattle.settings.specs.declared.Settings.{Settings}
 use Rattle.settings.specs.Settings.{channelLimit, defaultSettings, defaultTable}
 use Rattle.layout.specs.Frame.{Frame, sequenceOctets}

@@ -5,8 +5,8 @@ use lib.Dec.{eqb, ltb}
 use lib.IntN.{ℤ, pos, negsuc}
 use lib.ListN.{length, getD}
 use Rattle.octets.specs.Pick.{pick}
-use Rattle.runs.specs.Number.{be}
-use Rattle.runs.specs.Length.{shortest}
+use Rattle.stores.specs.Number.{be}
+use Rattle.stores.specs.Length.{shortest}
 use Rattle.settings.specs.declared.Scale.{Scale}
 use Rattle.settings.specs.declared.Settings.{Settings}
 use Rattle.layout.specs.Frame.{widthIn, channelIn}

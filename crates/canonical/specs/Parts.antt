@@ -4,8 +4,8 @@ use mathlib.Core.Bool.{Bool, true, false}
 use Prim.Native.Nat.{ℕ, suc, _-_, _*_}
 use lib.ListN.{take}
 use lib.IntN.{ℤ, pos, negsuc}
-use Rattle.runs.specs.Number.{field}
-use Rattle.runs.specs.Length.{shortest}
+use Rattle.stores.specs.Number.{field}
+use Rattle.stores.specs.Length.{shortest}
 use Rattle.laid.specs.Turned.{turnedAll}
 use Rattle.settings.specs.declared.Settings.{Settings}
 use Rattle.layout.specs.Frame.{widthIn, sequenceOctets}

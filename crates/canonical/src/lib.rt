@@ -11,7 +11,7 @@ ghost use mathlib.Core.List.{map};
 ghost use Prim.Native.Nat.{_+_, _*_, _-_, suc, _≤_, _<_};
 ghost use lib.ListN.{length, take, drop};
 ghost use lib.Signed.{mag};
-ghost use Rattle.runs.specs.Storing.{Put};
+ghost use Rattle.stores.specs.Storing.{Put};
 ghost use Rattle.layout.specs.Frame.{widthIn, sequenceOctets};
 ghost use Rattle.laid.specs.Turned.{Even, turnedAll};
 ghost use Rattle.layout.specs.Size.{nullSize, contentSize, groupSize, groupsSize, sequencesSize, frameSize};
@@ -55,10 +55,10 @@ fn put_scale(out: &mut [u8], at: usize, tag: u8, x: Scale) -> usize
 {
     let exponent = unsigned(x.exponent as i64, 256);
     let mantissa = unsigned(x.mantissa as i64, 4_294_967_296);
-    let a = runs::put_two(out, at, tag, 6);
-    let b = runs::put_octet(out, a, x.unit);
-    let c = runs::put_number(out, b, 1, exponent);
-    runs::put_number(out, c, 4, mantissa)
+    let a = stores::put_two(out, at, tag, 6);
+    let b = stores::put_octet(out, a, x.unit);
+    let c = stores::put_number(out, b, 1, exponent);
+    stores::put_number(out, c, 4, mantissa)
 }
 
 // 04, 08, 09 and 0A.
@@ -66,10 +66,10 @@ fn put_first(out: &mut [u8], at: usize, c: Settings) -> usize
     requires { ⌜ at + 17 ≤ length (now out) ⌝ }
     ensures { λ r. ⌜ Put (now (out .entry)) at (firstItems c) r (now (out .exit)) ⌝ }
 {
-    let a = runs::put_field(out, at, 0x04, 4, c.block as u64);
-    let b = runs::put_field(out, a, 0x08, 2, c.class as u64);
-    let d = runs::put_field(out, b, 0x09, 2, c.lead as u64);
-    runs::put_field(out, d, 0x0A, 1, c.kind as u64)
+    let a = stores::put_field(out, at, 0x04, 4, c.block as u64);
+    let b = stores::put_field(out, a, 0x08, 2, c.class as u64);
+    let d = stores::put_field(out, b, 0x09, 2, c.lead as u64);
+    stores::put_field(out, d, 0x0A, 1, c.kind as u64)
 }
 
 // 0B and 0C.
@@ -103,8 +103,8 @@ fn put_last(out: &mut [u8], at: usize, c: Settings) -> usize
     let null = c.null;
     let w = values::width(c.kind) as u8;
     let k = null_octets(c);
-    let a = runs::put_field(out, at, 0x0D, w, offset.bits);
-    runs::put_field(out, a, 0x12, k, null.bits)
+    let a = stores::put_field(out, at, 0x0D, w, offset.bits);
+    stores::put_field(out, a, 0x12, k, null.bits)
 }
 
 // The items of a channel's group.
@@ -123,9 +123,9 @@ fn put_channel(out: &mut [u8], at: usize, k: usize) -> usize
     ensures { λ r. ⌜ Put (now (out .entry)) at (channelOctets k) r (now (out .exit)) ⌝ }
 {
     if k < 128 {
-        return runs::put_octet(out, at, k as u8);
+        return stores::put_octet(out, at, k as u8);
     }
-    runs::put_two(out, at, (128 + k / 128) as u8, (k % 128) as u8)
+    stores::put_two(out, at, (128 + k / 128) as u8, (k % 128) as u8)
 }
 
 // How many octets the items of a channel's group take.
@@ -142,9 +142,9 @@ fn put_group(out: &mut [u8], at: usize, k: usize, c: Settings) -> usize
     ensures { λ r. ⌜ Put (now (out .entry)) at (groupOctets k (settled c)) r (now (out .exit)) ⌝ }
 {
     let n = content_size(c);
-    let a = runs::put_octet(out, at, 0x3F);
+    let a = stores::put_octet(out, at, 0x3F);
     let b = put_channel(out, a, k);
-    let d = runs::put_octet(out, b, n);
+    let d = stores::put_octet(out, b, n);
     put_items(out, d, c)
 }
 
@@ -169,9 +169,9 @@ fn put_sequences(out: &mut [u8], at: usize, sequences: u32) -> usize
     ensures { λ r. ⌜ Put (now (out .entry)) at (sequencesItem sequences) r (now (out .exit)) ⌝ }
 {
     if sequences == 0 {
-        return runs::put_two(out, at, 0x06, 0);
+        return stores::put_two(out, at, 0x06, 0);
     }
-    runs::put_field(out, at, 0x06, 4, sequences as u64)
+    stores::put_field(out, at, 0x06, 4, sequences as u64)
 }
 
 // 05, 06 and 07.
@@ -180,9 +180,9 @@ fn put_head(out: &mut [u8], at: usize, count: u32, sequences: u32, start: i64) -
     ensures { λ r. ⌜ Put (now (out .entry)) at (headItems count sequences start) r (now (out .exit)) ⌝ }
 {
     let z = unsigned(start, 4_294_967_296);
-    let a = runs::put_field(out, at, 0x05, 4, count as u64);
+    let a = stores::put_field(out, at, 0x05, 4, count as u64);
     let b = put_sequences(out, a, sequences);
-    runs::put_field(out, b, 0x07, 4, z)
+    stores::put_field(out, b, 0x07, 4, z)
 }
 
 // The width of all channels where it is one, else 0.
@@ -280,8 +280,8 @@ fn put_frame(
     let k = count as usize;
     let a = put_head(out, at, count, sequences, st.start);
     let b = put_groups(out, a, table, k);
-    let c = runs::put_octet(out, b, 0x1E);
-    let d = runs::put_length(out, c, octets as u32);
+    let c = stores::put_octet(out, b, 0x1E);
+    let d = stores::put_length(out, c, octets as u32);
     put_samples(w, st.little, sequences, octets, table, k, out, d)
 }
 
@@ -290,8 +290,8 @@ fn write_frames(s: &[u8], out: &mut [u8]) -> usize
     requires { ⌜ Ready (now s) (now out) ⌝ }
     ensures { λ r. ⌜ Put (now (out .entry)) 0 (canonicalOf (now (s .entry))) r (now (out .exit)) ⌝ }
 {
-    let a = runs::put_two(out, 0, 0x01, 0x01);
-    let mut at = runs::put_octet(out, a, 0x00);
+    let a = stores::put_two(out, 0, 0x01, 0x01);
+    let mut at = stores::put_octet(out, a, 0x00);
     let mut table = Settings::table();
     // The first `own` records are kept up; every other channel holds the root settings.
     let mut own = 0usize;

@@ -7,7 +7,7 @@ use native.Mathlib.Omega.{arith}
 use lib.ListN.{length, set, take, drop, getD, length-drop, take-append-drop, length-map}
 use lib.Seq.{sets, take-suc, getD-drop, drop-drop}
 use Rattle.runs.specs.Turned.{turned}
-use Rattle.runs.proofs.Stores.{sets-append}
+use Rattle.stores.proofs.Stores.{sets-append}
 
 -- The w octets of s from q on, the last first.
 abbrev pub fromEnd : List ℕ → ℕ → ℕ → List ℕ

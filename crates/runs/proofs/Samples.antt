@@ -7,7 +7,7 @@ use native.Mathlib.Omega.{arith}
 use lib.ListN.{length, take, drop, length-drop}
 use lib.Seq.{sets, drop-drop, length-sets}
 use Rattle.runs.specs.Turned.{turned}
-use Rattle.runs.proofs.Stores.{sets-append}
+use Rattle.stores.proofs.Stores.{sets-append}
 use Rattle.runs.proofs.Turned.{turned-add, length-turned}
 
 -- `left` samples from q on are still to be stored from p on, and give the buffer that is wanted.

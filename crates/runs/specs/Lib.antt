@@ -1,4 +1,1 @@
-pub mod Number
-pub mod Storing
-pub mod Length
 pub mod Turned

@@ -12,8 +12,8 @@ use Rattle.items.specs.Walk.{Items, item, finished, fault, refusal, itemOf, nex
 use Rattle.settings.specs.Define.{tagged, scaleOf, defined}
 use Rattle.settings.specs.Settings.{allApplied}
 use Rattle.layout.specs.Frame.{blockOctets, sequenceOctets, octetsBelow, widthAgrees, channelAgrees, allAgree, samplesOf, offsetOf, placeOf}
-use Rattle.runs.specs.Number.{be}
-use Rattle.runs.specs.Length.{holding, shortest}
+use Rattle.stores.specs.Number.{be}
+use Rattle.stores.specs.Length.{holding, shortest}
 use Rattle.laid.specs.Laid.{block, sequence, laidFrom, laid}
 use Rattle.reader.specs.declared.Checked.{Checked}
 use Rattle.reader.specs.declared.Checked.the-variants.{Frames}

@@ -2,15 +2,15 @@
 use mathlib.Core.Path.{_≡_, ap, sym, _∙_}
 use native.Mathlib.Omega.{arith}
 use borrow.Author.Tests.{lt-ltb, le-ltb}
-use Rattle.runs.specs.Storing.{Put, put-fits}
+use Rattle.stores.specs.Storing.{Put, put-fits}
 use Rattle.canonical.specs.Canonical.{channelOctets}
 use borrow.Author.Needs.{needs}
 use Rattle.canonical.proofs.put_channel.Statement.{statement}
 use Rattle.canonical.proofs.put_channel.Tie as tie
 use Rattle.canonical.proofs.put_channel.Reads as reads
 use Rattle.canonical.proofs.put_channel.Lts as lts
-use Rattle.runs.proofs.put_octet.Reads as put-octet-reads
-use Rattle.runs.proofs.put_two.Reads as put-two-reads
+use Rattle.stores.proofs.put_octet.Reads as put-octet-reads
+use Rattle.stores.proofs.put_two.Reads as put-two-reads
 
 -- src/lib.rt:115:41
 cast-put-octet : tie.Need-cast-put-octet

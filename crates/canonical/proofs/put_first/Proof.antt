@@ -1,14 +1,14 @@
 -- Four numbers' items, one after the other.
 use native.Mathlib.Omega.{arith}
 use lib.ListN.{length, length-append}
-use Rattle.runs.specs.Number.{length-field}
+use Rattle.stores.specs.Number.{length-field}
 use Rattle.canonical.proofs.Puts.{put-two, put-more}
 use borrow.Author.Needs.{needs}
 use Rattle.canonical.proofs.put_first.Statement.{statement}
 use Rattle.canonical.proofs.put_first.Tie as tie
 use Rattle.canonical.proofs.put_first.Reads as reads
 use Rattle.canonical.proofs.put_first.Lts as lts
-use Rattle.runs.proofs.put_field.Reads as put-field-reads
+use Rattle.stores.proofs.put_field.Reads as put-field-reads
 
 -- src/lib.rt:58:47
 cast-put-field : tie.Need-cast-put-field

@@ -10,9 +10,9 @@ use lib.ListN.{length, take, length-append}
 use mir.Syntax.{w64}
 use mir.Val.{SFits, toZ, ofZ}
 use mir.Facts.{toZ-ofZ}
-use Rattle.runs.specs.Length.{shortest}
-use Rattle.runs.specs.Storing.{Put, put-fits}
-use Rattle.runs.proofs.Stores.{put-then, put-long}
+use Rattle.stores.specs.Length.{shortest}
+use Rattle.stores.specs.Storing.{Put, put-fits}
+use Rattle.stores.proofs.Stores.{put-then, put-long}
 use Rattle.layout.specs.Size.{frameSize}
 use Rattle.canonical.specs.Canonical.{groupsOctets}
 use Rattle.canonical.specs.Recording.{settled}
@@ -26,8 +26,8 @@ use Rattle.canonical.proofs.put_frame.Lts as lts
 use Rattle.canonical.proofs.put_groups.Reads as put-groups-reads
 use Rattle.canonical.proofs.put_head.Reads as put-head-reads
 use Rattle.canonical.proofs.put_samples.Reads as put-samples-reads
-use Rattle.runs.proofs.put_length.Reads as put-length-reads
-use Rattle.runs.proofs.put_octet.Reads as put-octet-reads
+use Rattle.stores.proofs.put_length.Reads as put-length-reads
+use Rattle.stores.proofs.put_octet.Reads as put-octet-reads
 
 in64 : (c : tie.After-struct-told) → SFits w64 (c .before .before .before .before .args .st .start)
 in64 c = search needs

@@ -6,8 +6,8 @@ use native.Mathlib.Omega.{arith}
 use borrow.Author.Needs.{needs}
 use Prim.Native.Nat.{ℕ, _+_, _≤_}
 use lib.ListN.{length, length-append}
-use Rattle.runs.specs.Storing.{put-fits}
-use Rattle.runs.proofs.Stores.{put-then, put-long}
+use Rattle.stores.specs.Storing.{put-fits}
+use Rattle.stores.proofs.Stores.{put-then, put-long}
 use Rattle.layout.specs.Size.{groupSize, contentSize, channelSize}
 use Rattle.canonical.specs.Canonical.{channelOctets, groupItems}
 use Rattle.canonical.specs.Recording.{settled}
@@ -18,7 +18,7 @@ use Rattle.canonical.proofs.put_group.Lts as lts
 use Rattle.canonical.proofs.content_size.Reads as content-size-reads
 use Rattle.canonical.proofs.put_channel.Reads as put-channel-reads
 use Rattle.canonical.proofs.put_items.Reads as put-items-reads
-use Rattle.runs.proofs.put_octet.Reads as put-octet-reads
+use Rattle.stores.proofs.put_octet.Reads as put-octet-reads
 
 -- src/lib.rt:133:9
 content-size-requires : tie.Need-content-size-requires

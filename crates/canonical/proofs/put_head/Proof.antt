@@ -8,9 +8,9 @@ use mathlib.Core.List.{List, _++_}
 use native.Mathlib.Omega.{arith}
 use borrow.Author.Needs.{needs}
 use lib.ListN.{length, length-append}
-use Rattle.runs.specs.Number.{field, length-field}
-use Rattle.runs.specs.Storing.{put-fits}
-use Rattle.runs.proofs.Stores.{put-then, put-long}
+use Rattle.stores.specs.Number.{field, length-field}
+use Rattle.stores.specs.Storing.{put-fits}
+use Rattle.stores.proofs.Stores.{put-then, put-long}
 use Rattle.canonical.specs.Canonical.{sequencesItem}
 use Rattle.canonical.proofs.put_head.Statement.{statement}
 use Rattle.canonical.proofs.put_head.Tie as tie
@@ -18,7 +18,7 @@ use Rattle.canonical.proofs.put_head.Reads as reads
 use Rattle.canonical.proofs.put_head.Lts as lts
 use Rattle.canonical.proofs.put_sequences.Reads as put-sequences-reads
 use Rattle.canonical.proofs.unsigned.Reads as unsigned-reads
-use Rattle.runs.proofs.put_field.Reads as put-field-reads
+use Rattle.stores.proofs.put_field.Reads as put-field-reads
 
 -- src/lib.rt:173:9
 unsigned-requires : tie.Need-unsigned-requires

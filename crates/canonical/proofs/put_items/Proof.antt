@@ -1,7 +1,7 @@
 -- Three parts, one after the other.
 use mathlib.Core.Path.{sym}
 use native.Mathlib.Omega.{arith}
-use Rattle.runs.proofs.Stores.{put-then, put-long}
+use Rattle.stores.proofs.Stores.{put-then, put-long}
 use Rattle.canonical.proofs.Puts.{put-as, items-is, length-first, length-scales}
 use borrow.Author.Needs.{needs}
 use Rattle.canonical.proofs.put_items.Statement.{statement}

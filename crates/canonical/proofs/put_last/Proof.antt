@@ -7,7 +7,7 @@ use lib.ListN.{length, length-append}
 use Prim.Native.Nat.{ℕ, _≤_}
 use Rattle.values.proofs.Laws.{width-le}
 use Rattle.values.specs.Sample.{widthOf}
-use Rattle.runs.specs.Number.{field, length-field}
+use Rattle.stores.specs.Number.{field, length-field}
 use Rattle.canonical.proofs.Puts.{put-two, put-as}
 use Rattle.values.specs.declared.Bits.{Bits}
 use Rattle.canonical.proofs.put_last.Statement.{statement}
@@ -16,7 +16,7 @@ use Rattle.canonical.proofs.put_last.Reads as reads
 use Rattle.canonical.proofs.put_last.Lts as lts
 use Rattle.canonical.proofs.null_octets.Reads as null-octets-reads
 use Rattle.reader.proofs.offset_bits.Reads as offset-bits-reads
-use Rattle.runs.proofs.put_field.Reads as put-field-reads
+use Rattle.stores.proofs.put_field.Reads as put-field-reads
 use Rattle.values.proofs.width.Reads as width-reads
 
 -- src/lib.rt:91:9

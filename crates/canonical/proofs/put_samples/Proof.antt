@@ -7,7 +7,7 @@ use lib.ListN.{length, take}
 use Prim.Native.Nat.{ℕ, _<_}
 use Rattle.settings.specs.declared.Settings.{Settings}
 use Rattle.laid.specs.Turned.{Even}
-use Rattle.runs.specs.Storing.{Put, put-fits}
+use Rattle.stores.specs.Storing.{Put, put-fits}
 use Rattle.canonical.proofs.Puts.{put-as}
 use Rattle.canonical.proofs.Samples.{samples-big, samples-little, samples-narrow, samples-even, even-room, taken-room}
 use borrow.Author.Needs.{needs}

@@ -12,16 +12,16 @@ use lib.Signed.{mag}
 use mir.Syntax.{w8, w32, w64}
 use mir.Val.{SFits, toZ, ofZ}
 use mir.Facts.{toZ-ofZ, sfits-widen}
-use Rattle.runs.specs.Number.{be, length-be}
-use Rattle.runs.specs.Storing.{Put}
+use Rattle.stores.specs.Number.{be, length-be}
+use Rattle.stores.specs.Storing.{Put}
 use Rattle.canonical.proofs.put_scale.Statement.{statement}
 use Rattle.canonical.proofs.put_scale.Tie as tie
 use Rattle.canonical.proofs.put_scale.Reads as reads
 use Rattle.canonical.proofs.put_scale.Lts as lts
 use Rattle.canonical.proofs.unsigned.Reads as unsigned-reads
-use Rattle.runs.proofs.put_number.Reads as put-number-reads
-use Rattle.runs.proofs.put_octet.Reads as put-octet-reads
-use Rattle.runs.proofs.put_two.Reads as put-two-reads
+use Rattle.stores.proofs.put_number.Reads as put-number-reads
+use Rattle.stores.proofs.put_octet.Reads as put-octet-reads
+use Rattle.stores.proofs.put_two.Reads as put-two-reads
 
 in8 : (c : tie.After-struct-told) → SFits w8 (c .before .before .before .args .x .exponent)
 in8 c = search needs

@@ -1,6 +1,6 @@
 -- Two scales, one after the other.
 use native.Mathlib.Omega.{arith}
-use Rattle.runs.proofs.Stores.{put-then, put-long}
+use Rattle.stores.proofs.Stores.{put-then, put-long}
 use Rattle.canonical.proofs.Puts.{length-scale}
 use borrow.Author.Needs.{needs}
 use Rattle.canonical.proofs.put_scales.Statement.{statement}

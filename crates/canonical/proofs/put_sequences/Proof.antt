@@ -5,17 +5,17 @@ use native.Mathlib.Omega.{arith}
 use borrow.Author.Tests.{eq-eqb, ne-eqb}
 use lib.ListN.{length}
 use lib.Dec.{lit<}
-use Rattle.runs.specs.Number.{be, field, length-field}
-use Rattle.runs.specs.Length.{shortest}
-use Rattle.runs.specs.Storing.{Put, put-fits}
+use Rattle.stores.specs.Number.{be, field, length-field}
+use Rattle.stores.specs.Length.{shortest}
+use Rattle.stores.specs.Storing.{Put, put-fits}
 use Rattle.canonical.specs.Canonical.{item, sequencesItem}
 use borrow.Author.Needs.{needs}
 use Rattle.canonical.proofs.put_sequences.Statement.{statement}
 use Rattle.canonical.proofs.put_sequences.Tie as tie
 use Rattle.canonical.proofs.put_sequences.Reads as reads
 use Rattle.canonical.proofs.put_sequences.Lts as lts
-use Rattle.runs.proofs.put_field.Reads as put-field-reads
-use Rattle.runs.proofs.put_two.Reads as put-two-reads
+use Rattle.stores.proofs.put_field.Reads as put-field-reads
+use Rattle.stores.proofs.put_two.Reads as put-two-reads
 
 -- src/lib.rt:163:9
 put-two-requires : tie.Need-put-two-requires

@@ -13,7 +13,7 @@ use Rattle.settings.specs.Settings.{channelLimit, zeroSettings, applied}
 use Rattle.settings.proofs.Mapped.{mapped, mapped-put}
 use Rattle.effects.specs.declared.Standing.{Standing}
 use Rattle.effects.specs.Standing.{withStart}
-use Rattle.runs.proofs.Stores.{put-long}
+use Rattle.stores.proofs.Stores.{put-long}
 use Rattle.reader.specs.Verdict.{carried, withFrame}
 use Rattle.reader.proofs.Steps.{count-found}
 use Rattle.reader.proofs.Scans.{Filling, filling-none, filling-more, reach-few, reached-one, reached-frame, records-set, records-mapped, mapped-own, does-nothing, does-order, does-count, does-sequences, does-start, does-all, does-one, does-outside, carried-by, found-as, framed-found, Summing, summing-none, summing-more, summed-up, reached-count}
@@ -39,8 +39,8 @@ use Rattle.items.proofs.next_item.Reads as next-item-reads
 use Rattle.layout.proofs.Layout.more.Reads as more-reads
 use Rattle.layout.proofs.Layout.none.Reads as none-reads
 use Rattle.octets.proofs.part.Reads as part-reads
-use Rattle.runs.proofs.put_octet.Reads as put-octet-reads
-use Rattle.runs.proofs.put_two.Reads as put-two-reads
+use Rattle.stores.proofs.put_octet.Reads as put-octet-reads
+use Rattle.stores.proofs.put_two.Reads as put-two-reads
 use Rattle.settings.proofs.Settings.table.Reads as table-reads
 use Rattle.settings.proofs.apply.Reads as apply-reads
 

@@ -9,8 +9,8 @@ use native.Mathlib.Omega.{arith}
 use lib.ListN.{length, set, take, drop, getD, length-set, length-take, length-drop}
 use lib.Seq.{sets, drop-cons}
 use borrow.Author.Tests.{ltb-true, ltb-false}
-use Rattle.runs.specs.Storing.{Putting}
-use Rattle.runs.proofs.Stores.{putting, putting-kept}
+use Rattle.stores.specs.Storing.{Putting}
+use Rattle.stores.proofs.Stores.{putting, putting-kept}
 use Rattle.runs.proofs.copy.Statement.{statement}
 use Rattle.runs.proofs.copy.Tie as tie
 

@@ -9,9 +9,9 @@ use native.Mathlib.Omega.{arith}
 use lib.ListN.{length, drop, length-drop}
 use lib.Seq.{sets}
 use borrow.Author.Tests.{ltb-true, ltb-false}
-use Rattle.runs.specs.Storing.{Putting}
+use Rattle.stores.specs.Storing.{Putting}
 use Rattle.runs.specs.Turned.{turned, turnedRun}
-use Rattle.runs.proofs.Stores.{putting, putting-none, putting-kept}
+use Rattle.stores.proofs.Stores.{putting, putting-none, putting-kept}
 use Rattle.runs.proofs.Turned.{length-turned, run-there, run-missing}
 use Rattle.runs.proofs.turn.Statement.{statement}
 use Rattle.runs.proofs.turn.Tie as tie

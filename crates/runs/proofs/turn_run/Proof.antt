@@ -8,7 +8,7 @@ use native.Mathlib.Nat.{mul-one, min-le-left}
 use native.Mathlib.Omega.{arith}
 use lib.ListN.{length, take, drop, length-take}
 use lib.Seq.{sets}
-use Rattle.runs.specs.Storing.{Putting, put-fits}
+use Rattle.stores.specs.Storing.{Putting, put-fits}
 use Rattle.runs.specs.Turned.{turned}
 use Rattle.runs.proofs.Turned.{turned-one}
 use Rattle.runs.proofs.turn_run.Statement.{statement}

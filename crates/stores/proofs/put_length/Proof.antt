@@ -1,4 +1,4 @@
--- `runs::put_length` meets its contract: where the form fits it is one octet, or an octet and then the length's own.
+-- `stores::put_length` meets its contract: where the form fits it is one octet, or an octet and then the length's own.
 use borrow.Author.Needs.{needs}
 use mathlib.Core.Path.{_≡_, sym, _∙_}
 use mathlib.Core.List.{List, [], _∷_}
@@ -6,13 +6,13 @@ use Prim.Native.Nat.{ℕ, _+_, _-_, _≤_}
 use native.Mathlib.Omega.{arith}
 use lib.ListN.{length}
 use borrow.Author.Tests.{ltb-true, ltb-false}
-use Rattle.runs.specs.Number.{be, length-be}
-use Rattle.runs.specs.Length.{shortest, holding, shortest-short, shortest-long, length-shortest-long}
-use Rattle.runs.specs.Storing.{Putting}
-use Rattle.runs.proofs.Length.{length-shortest}
-use Rattle.runs.proofs.Stores.{putting-kept, putting-then}
-use Rattle.runs.proofs.put_length.Statement.{statement}
-use Rattle.runs.proofs.put_length.Tie as tie
+use Rattle.stores.specs.Number.{be, length-be}
+use Rattle.stores.specs.Length.{shortest, holding, shortest-short, shortest-long, length-shortest-long}
+use Rattle.stores.specs.Storing.{Putting}
+use Rattle.stores.proofs.Length.{length-shortest}
+use Rattle.stores.proofs.Stores.{putting-kept, putting-then}
+use Rattle.stores.proofs.put_length.Statement.{statement}
+use Rattle.stores.proofs.put_length.Tie as tie
 
 -- A long length, whose form has k octets.
 long : {d e f : List ℕ} {at r t : ℕ} (n k : ℕ) → 128 ≤ n → k ≡ length (shortest n) → at + k ≤ length d

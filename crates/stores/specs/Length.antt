@@ -6,7 +6,7 @@ use lib.Dec.{ltb}
 use lib.ListN.{length}
 use native.Mathlib.Omega.{arith}
 use borrow.Author.Tests.{lt-ltb, le-ltb}
-use Rattle.runs.specs.Number.{be, length-be}
+use Rattle.stores.specs.Number.{be, length-be}
 use Rattle.octets.specs.Pick.{pick}
 
 -- How many octets n, below 2 ^ 32, takes: the least of 1 to 4 that hold it.

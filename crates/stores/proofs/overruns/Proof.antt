@@ -1,12 +1,12 @@
--- `runs::overruns` meets its contract: a place past the size overruns, and else what is left behind the place is compared.
+-- `stores::overruns` meets its contract: a place past the size overruns, and else what is left behind the place is compared.
 use mathlib.Core.Path.{_≡_, refl, sym}
 use mathlib.Core.Bool.{Bool, true, false}
 use Prim.Native.Nat.{ℕ, _+_, _-_, _<_, _≤_}
 use native.Mathlib.Omega.{arith}
 use lib.Dec.{ltb}
 use borrow.Author.Tests.{lt-ltb, le-ltb, ltb-true, ltb-false}
-use Rattle.runs.proofs.overruns.Statement.{statement}
-use Rattle.runs.proofs.overruns.Tie as tie
+use Rattle.stores.proofs.overruns.Statement.{statement}
+use Rattle.stores.proofs.overruns.Tie as tie
 
 -- Two tests are equal where either outcome of the first gives that of the second.
 same-test : (t : Bool) (a b x y : ℕ) → ltb a b ≡ t → (a < b → x < y) → (b ≤ a → y ≤ x) → t ≡ ltb x y

@@ -8,7 +8,7 @@ use native.Mathlib.Omega.{arith}
 use lib.ListN.{length, set, drop, length-append}
 use lib.Seq.{sets, sets-eq, set-comm, length-sets}
 use borrow.Author.Tests.{le-leb, lt-leb}
-use Rattle.runs.specs.Storing.{Put, Putting, put-fits, fitsIn, placed, storedIn}
+use Rattle.stores.specs.Storing.{Put, Putting, put-fits, fitsIn, placed, storedIn}
 
 -- One run of stores after another is the run of both.
 pub sets-append : (u v l : List ℕ) (i : ℕ) → sets (sets l i u) (i + length u) v ≡ sets l i (u ++ v)

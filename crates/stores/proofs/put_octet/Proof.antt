@@ -1,11 +1,11 @@
--- `runs::put_octet` meets its contract: where the octet fits it is one store, and else nothing is.
+-- `stores::put_octet` meets its contract: where the octet fits it is one store, and else nothing is.
 use borrow.Author.Needs.{needs}
 use mathlib.Core.Path.{refl, sym, _∙_}
 use native.Mathlib.Omega.{arith}
 use borrow.Author.Tests.{ltb-true, ltb-false}
-use Rattle.runs.proofs.Stores.{putting, putting-kept}
-use Rattle.runs.proofs.put_octet.Statement.{statement}
-use Rattle.runs.proofs.put_octet.Tie as tie
+use Rattle.stores.proofs.Stores.{putting, putting-kept}
+use Rattle.stores.proofs.put_octet.Statement.{statement}
+use Rattle.stores.proofs.put_octet.Tie as tie
 
 overruns-requires : tie.Need-overruns-requires
 overruns-requires c κs = search needs

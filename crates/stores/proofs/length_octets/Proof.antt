@@ -1,10 +1,10 @@
--- `runs::length_octets` meets its contract: each test settles how many octets the length has, by a law of its case.
+-- `stores::length_octets` meets its contract: each test settles how many octets the length has, by a law of its case.
 use mathlib.Core.Path.{sym}
 use native.Mathlib.Omega.{arith}
-use Rattle.runs.specs.Length.{length-shortest-short, length-shortest-long}
-use Rattle.runs.specs.Length.{holding-one, holding-two, holding-three, holding-four}
-use Rattle.runs.proofs.length_octets.Statement.{statement}
-use Rattle.runs.proofs.length_octets.Tie as tie
+use Rattle.stores.specs.Length.{length-shortest-short, length-shortest-long}
+use Rattle.stores.specs.Length.{holding-one, holding-two, holding-three, holding-four}
+use Rattle.stores.proofs.length_octets.Statement.{statement}
+use Rattle.stores.proofs.length_octets.Tie as tie
 
 returns : tie.Need-returns
 returns c = sym (length-shortest-short _ (c .if1 .taken))

@@ -6,7 +6,7 @@ use native.Mathlib.Nat.{div-add-mod', div-lt-iff-lt-mul, pow-suc, add-zero, zero
 use native.Mathlib.Omega.{arith}
 use lib.ListN.{length}
 use Rattle.octets.specs.Number.{bigFrom}
-use Rattle.runs.specs.Number.{be, big, Octets}
+use Rattle.stores.specs.Number.{be, big, Octets}
 
 big-append : (acc : ℕ) (u v : List ℕ) → bigFrom acc (u ++ v) ≡ bigFrom (bigFrom acc u) v
 unfolding bigFrom

@@ -1,12 +1,12 @@
--- `runs::put_field` meets its contract: where the whole item fits, tag and width are stored and then the octets.
+-- `stores::put_field` meets its contract: where the whole item fits, tag and width are stored and then the octets.
 use borrow.Author.Needs.{needs}
 use mathlib.Core.Path.{sym, _∙_}
 use native.Mathlib.Omega.{arith}
 use borrow.Author.Tests.{ltb-true, ltb-false}
-use Rattle.runs.specs.Number.{field, length-be, length-field}
-use Rattle.runs.proofs.Stores.{putting-kept, putting-then}
-use Rattle.runs.proofs.put_field.Statement.{statement}
-use Rattle.runs.proofs.put_field.Tie as tie
+use Rattle.stores.specs.Number.{field, length-be, length-field}
+use Rattle.stores.proofs.Stores.{putting-kept, putting-then}
+use Rattle.stores.proofs.put_field.Statement.{statement}
+use Rattle.stores.proofs.put_field.Tie as tie
 
 add-overruns : tie.Need-add-overruns
 add-overruns c = search needs

@@ -7,8 +7,8 @@ use lib.Dec.{ltb}
 use lib.ListN.{length}
 use borrow.Author.Tests.{ltb-true, ltb-false}
 use Rattle.octets.specs.Pick.{pick}
-use Rattle.runs.specs.Length.{holding, holding-one, holding-two, holding-three, holding-four}
-use Rattle.runs.specs.Length.{shortest, length-shortest-short, length-shortest-long}
+use Rattle.stores.specs.Length.{holding, holding-one, holding-two, holding-three, holding-four}
+use Rattle.stores.specs.Length.{shortest, length-shortest-short, length-shortest-long}
 
 -- What holds of both values holds of the one that is picked.
 either : (P : ℕ → Type 0) (t : Bool) {x y : ℕ} → P x → P y → P (pick t x y)

@@ -1,13 +1,13 @@
--- `runs::put_two` meets its contract: where the octets fit they are two stores, and else nothing is.
+-- `stores::put_two` meets its contract: where the octets fit they are two stores, and else nothing is.
 use borrow.Author.Needs.{needs}
 use mathlib.Core.Path.{refl, sym, _∙_}
 use native.Mathlib.Numerals.{add-one}
 use native.Mathlib.Omega.{arith}
 use lib.ListN.{length-set}
 use borrow.Author.Tests.{ltb-true, ltb-false}
-use Rattle.runs.proofs.Stores.{putting, putting-kept}
-use Rattle.runs.proofs.put_two.Statement.{statement}
-use Rattle.runs.proofs.put_two.Tie as tie
+use Rattle.stores.proofs.Stores.{putting, putting-kept}
+use Rattle.stores.proofs.put_two.Statement.{statement}
+use Rattle.stores.proofs.put_two.Tie as tie
 
 overruns-requires : tie.Need-overruns-requires
 overruns-requires c κs = search needs

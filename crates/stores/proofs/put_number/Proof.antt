@@ -1,4 +1,4 @@
--- `runs::put_number` meets its contract. The loop's invariant: the stores still to come give the buffer that is wanted.
+-- `stores::put_number` meets its contract. The loop's invariant: the stores still to come give the buffer that is wanted.
 use borrow.Author.Needs.{needs}
 use mathlib.Core.Path.{_≡_, refl, sym, _∙_}
 use mathlib.Core.List.{List, [], _∷_}
@@ -7,10 +7,10 @@ use native.Mathlib.Omega.{arith}
 use lib.ListN.{length, set, length-set}
 use lib.Seq.{sets}
 use borrow.Author.Tests.{ltb-true, ltb-false}
-use Rattle.runs.specs.Number.{be, length-be}
-use Rattle.runs.proofs.Stores.{sets-append, set-sets, putting, putting-kept}
-use Rattle.runs.proofs.put_number.Statement.{statement}
-use Rattle.runs.proofs.put_number.Tie as tie
+use Rattle.stores.specs.Number.{be, length-be}
+use Rattle.stores.proofs.Stores.{sets-append, set-sets, putting, putting-kept}
+use Rattle.stores.proofs.put_number.Statement.{statement}
+use Rattle.stores.proofs.put_number.Tie as tie
 
 -- A turn: the lowest octet is stored.
 lowest : (d : List ℕ) (at i v : ℕ) → 0 < i
