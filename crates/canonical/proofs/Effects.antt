@@ -31,9 +31,9 @@ use Rattle.settings.specs.Settings.{blockLimit, channelLimit, lastKind, lastInt
 use Rattle.settings.specs.Define.{lengthFits, bitsLength, bitsOf, scaleOf, scaleFits, changeOf, inRange, defined}
 use Rattle.settings.proofs.Laws.{define-back, define-changed}
 use Rattle.layout.specs.Frame.{widthIn}
-use Rattle.effects.specs.declared.Standing.{Standing}
+use Rattle.standing.specs.declared.Standing.{Standing}
 use Rattle.effects.specs.declared.Effect.the-variants.{Order, Count, Sequences, Start}
-use Rattle.effects.specs.Standing.{rootEffect, orderEffect, countEffect, sequencesEffect, startEffect}
+use Rattle.effects.specs.Effects.{rootEffect, orderEffect, countEffect, sequencesEffect, startEffect}
 use Rattle.canonical.specs.Canonical.{item, numberItem, scaleItem, nullItem, groupItems, unsignedOf}
 use Rattle.canonical.proofs.Good.{GoodScale, GoodSettled}
 use Rattle.canonical.proofs.Numbers.{number-back, unsigned-fits, twos-back, signed-back}

@@ -23,9 +23,10 @@ use Rattle.settings.specs.declared.Settings.{Settings}
 use Rattle.settings.specs.Settings.{channelLimit, defaultTable}
 use Rattle.settings.specs.Define.{tagged}
 use Rattle.layout.specs.Frame.{Frame, sequenceOctets, allAgree}
-use Rattle.effects.specs.declared.Standing.{Standing}
+use Rattle.standing.specs.declared.Standing.{Standing}
 use Rattle.effects.specs.declared.Framed.the-variants.{Taken}
-use Rattle.effects.specs.Standing.{rootEffect, withContinued}
+use Rattle.standing.specs.Standing.{withContinued}
+use Rattle.effects.specs.Effects.{rootEffect}
 use Rattle.effects.specs.Framing.{octetsLimit, framesLimit, channelsOf, pointerAfter, framedAs}
 use Rattle.reader.specs.Verdict.{State, state, goes, frameChannels, withFrame, carried}
 use Rattle.effects.proofs.Framings.{pointer-small, framed-taken}

@@ -36,7 +36,7 @@ use Rattle.items.specs.declared.Next.the-variants.{Found, End}
 use Rattle.items.specs.Head.{channelOf, lengthOf, unknownContext, rootOnly, primitiveHead, groupLength, groupHead, headOf}
 use Rattle.items.specs.Refusals.{contextTag, notInGroup}
 use Rattle.items.specs.Walk.{cursor, itemOf, nextIn, nextOf}
-use Rattle.effects.specs.Standing.{valueAt}
+use Rattle.effects.specs.Effects.{valueAt}
 use Rattle.effects.specs.Framing.{octetsLimit}
 use Rattle.canonical.specs.Canonical.{item, channelOctets}
 use Rattle.canonical.proofs.Numbers.{number-back}

@@ -27,8 +27,8 @@ use Rattle.settings.specs.declared.Defined.the-variants.{Changed}
 use Rattle.settings.specs.Settings.{zeroSettings, applied}
 use Rattle.settings.specs.Define.{tagged, defined}
 use Rattle.layout.specs.Frame.{Frame}
-use Rattle.effects.specs.declared.Standing.{Standing}
-use Rattle.effects.specs.Standing.{effectOf, plainEffect, rootEffect, memberEffect, oneEffect, groupEffect}
+use Rattle.standing.specs.declared.Standing.{Standing}
+use Rattle.effects.specs.Effects.{effectOf, plainEffect, rootEffect, memberEffect, oneEffect, groupEffect}
 use Rattle.effects.specs.Framing.{octetsLimit}
 use Rattle.reader.specs.Verdict.{State, state, Verdict, accepted, goes, oneChanged, carried, placeAt, afterItem, interpret}
 use Rattle.canonical.specs.Canonical.{item}

@@ -37,11 +37,12 @@ use Rattle.layout.specs.Frame.{Frame, sequenceOctets}
 use Rattle.layout.specs.declared.Layout.{Layout}
 use Rattle.layout.specs.Measure.{layoutOf}
 use Rattle.layout.specs.Size.{groupsSize, frameSize}
-use Rattle.effects.specs.declared.Standing.{Standing}
+use Rattle.standing.specs.declared.Standing.{Standing}
 use Rattle.effects.specs.declared.Effect.{Effect}
 use Rattle.effects.specs.declared.Framed.{Framed}
 use Rattle.effects.specs.declared.Framed.the-variants.{Taken}
-use Rattle.effects.specs.Standing.{firstStanding, effectOf, valueAt}
+use Rattle.standing.specs.Standing.{firstStanding}
+use Rattle.effects.specs.Effects.{effectOf, valueAt}
 use Rattle.effects.specs.Framing.{octetsLimit, channelsOf, framedAs}
 use Rattle.reader.specs.Verdict.{State, state, firstState, Outcome, goes, refuses, frameChannels, frameAt, withFrame, carried, placeAt, Verdict, accepted, refused, interpret, verdict}
 use Rattle.reader.specs.Answer.{zeroFrame, sizeOf, sizes, scannedIn, scanOf}

@@ -21,7 +21,6 @@ ghost use Rattle.canonical.specs.Write.{canonicalOf, Ready, writtenOf, l
 ghost use Rattle.canonical.specs.Parts.{unsignedBy, firstItems, scaleItems, lastItems, headItems, samplesTurned, frameParts};
 use effects::Effect;
 use effects::Framed;
-use effects::Standing;
 use items::Cursor;
 use items::Next;
 use items::Refusal;
@@ -30,6 +29,7 @@ use reader::Asked;
 use reader::Checked;
 use settings::Scale;
 use settings::Settings;
+use standing::Standing;
 
 // The canonical file's length, or a refusal.
 pub enum Written {

@@ -6,10 +6,10 @@ use lib.IntN.{ℤ, pos, negsuc, _+ℤ_}
 use lib.Signed.{leZ}
 use Rattle.octets.specs.Pick.{pick, both}
 use Rattle.items.specs.Refusals.{fileLimit, frameLimit, widthDiffers, pointerRange, waveformShort}
-use Rattle.effects.specs.declared.Standing.{Standing}
+use Rattle.standing.specs.declared.Standing.{Standing}
 use Rattle.effects.specs.declared.Framed.{Framed}
 use Rattle.effects.specs.declared.Framed.the-variants.{Taken, Refused}
-use Rattle.effects.specs.Standing.{withContinued}
+use Rattle.standing.specs.Standing.{withContinued}
 
 -- The octets of a file at most.
 abbrev pub octetsLimit : ℕ

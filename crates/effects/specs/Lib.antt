@@ -1,3 +1,3 @@
-pub mod Standing
+pub mod Effects
 pub mod Framing
 pub mod Reach

@@ -2,14 +2,14 @@
 //
 // Promises, for any octets at all: `item_effect` answers what an item asks for where this stands before it, or its refusal (6 to 9);
 // `frame_of` answers the sequences of a waveform and what stands after it, or 11 to 14. Nothing is carried out here.
-// Read first: specs/Standing.antt (what an item asks for), then specs/Framing.antt (frames).
+// Read first: specs/Effects.antt (what an item asks for), then specs/Framing.antt (frames); what stands is in crate standing.
 ghost use mathlib.Core.Path.{_≡_};
 ghost use Prim.Native.Nat.{_*_, _<_, min};
 ghost use lib.Dec.{ltb};
 ghost use lib.IntN.{pos, _+ℤ_};
 ghost use lib.Signed.{mag};
 ghost use Rattle.settings.specs.Define.{tagged};
-ghost use Rattle.effects.specs.Standing.{firstStanding, withOrder, withCount, withSequences, withStart, withContinued, withRoot, orderEffect, countEffect, sequencesEffect, startEffect, compressedEffect, allEffect, oneEffect, rootEffect, plainEffect, memberEffect, groupEffect, effectOf};
+ghost use Rattle.effects.specs.Effects.{orderEffect, countEffect, sequencesEffect, startEffect, compressedEffect, allEffect, oneEffect, rootEffect, plainEffect, memberEffect, groupEffect, effectOf};
 ghost use Rattle.effects.specs.Framing.{channelsOf, sequencesOf, pointerFits, framedAs};
 ghost use Rattle.effects.specs.Reach.{reachOf};
 use items::Item;
@@ -18,84 +18,7 @@ use settings::Change;
 use settings::Defined;
 use settings::Settings;
 use settings::Tagged;
-
-// What stands outside the channels' own records. `counted` 0: no channel count stands. `sequences` 0: by waveform length. `start` is
-// the start pointer of a frame that came now, `continued` the one to which the previous frame leads.
-pub struct Standing {
-    pub little: bool,
-    pub counted: u32,
-    pub sequences: u32,
-    pub start: i64,
-    pub continued: i64,
-    pub root: Settings,
-}
-
-impl Standing {
-    // Frames of a file.
-    pub const FRAMES: u32 = 4096;
-
-    // Octets of a file.
-    pub const OCTETS: usize = 0x7FFF_FFFF;
-
-    // Before the first item.
-    pub fn first() -> Standing
-        ensures { λ r. ⌜ r ≡ firstStanding ⌝ }
-    {
-        let root = Settings::default();
-        Standing {
-            little: false,
-            counted: 0,
-            sequences: 0,
-            start: 0,
-            continued: 0,
-            root,
-        }
-    }
-
-    pub fn with_order(mut self, little: bool) -> Standing
-        ensures { λ r. ⌜ r ≡ withOrder «little» self ⌝ }
-    {
-        self.little = little;
-        self
-    }
-
-    pub fn with_count(mut self, counted: u32) -> Standing
-        ensures { λ r. ⌜ r ≡ withCount counted self ⌝ }
-    {
-        self.counted = counted;
-        self
-    }
-
-    pub fn with_sequences(mut self, sequences: u32) -> Standing
-        ensures { λ r. ⌜ r ≡ withSequences sequences self ⌝ }
-    {
-        self.sequences = sequences;
-        self
-    }
-
-    pub fn with_start(mut self, start: i64) -> Standing
-        ensures { λ r. ⌜ r ≡ withStart start self ⌝ }
-    {
-        self.start = start;
-        self
-    }
-
-    // A frame has led to this pointer, and the next frame goes on there.
-    fn with_continued(mut self, z: i64) -> Standing
-        ensures { λ r. ⌜ r ≡ withContinued z self ⌝ }
-    {
-        self.start = z;
-        self.continued = z;
-        self
-    }
-
-    pub fn with_root(mut self, root: Settings) -> Standing
-        ensures { λ r. ⌜ r ≡ withRoot root self ⌝ }
-    {
-        self.root = root;
-        self
-    }
-}
+use standing::Standing;
 
 // What an item asks for.
 pub enum Effect {

@@ -23,7 +23,7 @@ use Rattle.items.specs.Refusals.{fileLimit}
 use Rattle.items.specs.Walk.{Items, item, finished, fault, cursor, nextOf, itemsFrom, itemsOf, refusal}
 use Rattle.items.proofs.Walks.{next-later, items-found, items-end, items-refused}
 use Rattle.layout.specs.Frame.{Frame}
-use Rattle.effects.specs.Standing.{effectOf}
+use Rattle.effects.specs.Effects.{effectOf}
 use Rattle.effects.specs.Framing.{octetsLimit}
 use Rattle.reader.specs.Verdict.{State, firstState, Outcome, goes, refuses, carried, placeAt, Verdict, accepted, refused, afterItem, interpret, verdict}
 

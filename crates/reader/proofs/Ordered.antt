@@ -22,8 +22,8 @@ use Rattle.items.proofs.Walks.{FoundAt, ItemLies, next-found}
 use Rattle.settings.specs.declared.Settings.{Settings}
 use Rattle.settings.specs.Settings.{channelLimit, defaultSettings, allApplied}
 use Rattle.layout.specs.Frame.{Frame, sequenceOctets, allAgree}
-use Rattle.effects.specs.declared.Standing.{Standing}
-use Rattle.effects.specs.Standing.{valueAt}
+use Rattle.standing.specs.declared.Standing.{Standing}
+use Rattle.effects.specs.Effects.{valueAt}
 use Rattle.effects.specs.Framing.{octetsLimit, framesLimit, channelsOf, pointerFits}
 use Rattle.reader.specs.Verdict.{State, state, firstState, oneChanged, frameChannels, frameAt, accepted, verdict}
 use Rattle.reader.specs.Answer.{zeroFrame}

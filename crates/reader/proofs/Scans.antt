@@ -38,7 +38,7 @@ use Rattle.layout.specs.Frame.{Frame, sequenceOctets, octetsBelow, allAgree, ch
 use Rattle.layout.specs.Size.{frameSize, groupsSize}
 use Rattle.layout.specs.Measure.{layoutOf, noLayout, More}
 use Rattle.layout.proofs.Laws.{Passed, passed-none, passed-more, passed-all, groups-few}
-use Rattle.effects.specs.declared.Standing.{Standing}
+use Rattle.standing.specs.declared.Standing.{Standing}
 use Rattle.effects.specs.declared.Effect.{Effect}
 use Rattle.effects.specs.declared.Framed.{Framed}
 use Rattle.effects.specs.declared.Framed.the-variants.{Taken}
@@ -48,7 +48,8 @@ use Rattle.reader.specs.declared.Found.{Found}
 use Rattle.reader.specs.declared.Found.the-variants.{Nothing}
 use Rattle.reader.specs.declared.Checked.{Checked}
 use Rattle.reader.specs.declared.Scan.{Scan}
-use Rattle.effects.specs.Standing.{firstStanding, withOrder, withCount, withSequences, withStart, withRoot, withContinued, valueAt, effectOf}
+use Rattle.standing.specs.Standing.{firstStanding, withOrder, withCount, withSequences, withStart, withRoot, withContinued}
+use Rattle.effects.specs.Effects.{valueAt, effectOf}
 use Rattle.effects.specs.Reach.{reachOf}
 use Rattle.effects.specs.Framing.{octetsLimit, framesLimit, channelsOf, sequencesOf, pointerFits, pointerAfter, framedAs}
 use Rattle.reader.specs.Verdict.{State, state, firstState, Outcome, goes, refuses, oneChanged, frameChannels, frameAt, withFrame, carried, placeAt, Verdict, accepted, refused, afterItem, interpret, verdict}

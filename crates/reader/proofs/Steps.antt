@@ -26,10 +26,11 @@ use Rattle.settings.specs.declared.Defined.{Defined}
 use Rattle.settings.specs.Settings.{channelLimit, defaultSettings, applied, allApplied}
 use Rattle.settings.specs.Define.{tagged, lengthFits, changeOf, standingIn, inRange, defined}
 use Rattle.layout.specs.Frame.{sequenceOctets, allAgree}
-use Rattle.effects.specs.declared.Standing.{Standing}
+use Rattle.standing.specs.declared.Standing.{Standing}
 use Rattle.effects.specs.declared.Effect.{Effect}
 use Rattle.effects.specs.declared.Framed.{Framed}
-use Rattle.effects.specs.Standing.{withOrder, withCount, withSequences, withStart, withRoot, withContinued, orderEffect, countEffect, sequencesEffect, startEffect, compressedEffect, allEffect, oneEffect, rootEffect, plainEffect, memberEffect, groupEffect, valueAt, effectOf}
+use Rattle.standing.specs.Standing.{withOrder, withCount, withSequences, withStart, withRoot, withContinued}
+use Rattle.effects.specs.Effects.{orderEffect, countEffect, sequencesEffect, startEffect, compressedEffect, allEffect, oneEffect, rootEffect, plainEffect, memberEffect, groupEffect, valueAt, effectOf}
 use Rattle.effects.specs.Framing.{octetsLimit, framesLimit, sequencesOf, pointerFits, pointerAfter, framedAs}
 use Rattle.reader.specs.Verdict.{State, state, Outcome, goes, refuses, oneChanged, frameChannels, frameAt, withFrame, carried}
 use Rattle.reader.proofs.Keeps.{meaning}

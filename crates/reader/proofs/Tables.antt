@@ -15,7 +15,7 @@ use Rattle.settings.specs.declared.Attribute.{Attribute}
 use Rattle.settings.specs.declared.Change.{Change}
 use Rattle.settings.specs.Settings.{channelLimit, defaultSettings, zeroSettings, applied, allApplied}
 use Rattle.settings.specs.Define.{lengthFits, changeOf, standingIn, inRange}
-use Rattle.effects.specs.Standing.{valueAt}
+use Rattle.effects.specs.Effects.{valueAt}
 use Rattle.reader.specs.Verdict.{State, firstState, oneChanged}
 use Rattle.reader.proofs.Every.{Every, every-replicate, every-changed, every-map}
 use Rattle.reader.proofs.Steps.{Definition, back, new, Step, passes, stands, resets, changes, sets, frames}

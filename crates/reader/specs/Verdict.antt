@@ -10,12 +10,13 @@ use Rattle.items.specs.Refusals.{fileLimit}
 use Rattle.items.specs.Walk.{Items, item, finished, fault, itemsOf, refusal}
 use Rattle.settings.specs.declared.Settings.{Settings}
 use Rattle.settings.specs.Settings.{channelLimit, defaultTable, zeroSettings, applied, allApplied}
-use Rattle.effects.specs.declared.Standing.{Standing}
+use Rattle.standing.specs.declared.Standing.{Standing}
 use Rattle.effects.specs.declared.Effect.{Effect}
 use Rattle.effects.specs.declared.Framed.{Framed}
 use Rattle.reader.specs.declared.Checked.{Checked}
 use Rattle.reader.specs.declared.Checked.the-variants.{Frames}
-use Rattle.effects.specs.Standing.{firstStanding, withOrder, withCount, withSequences, withStart, withRoot, valueAt, effectOf}
+use Rattle.standing.specs.Standing.{firstStanding, withOrder, withCount, withSequences, withStart, withRoot}
+use Rattle.effects.specs.Effects.{valueAt, effectOf}
 use Rattle.layout.specs.Frame.{Frame, sequenceOctets, allAgree}
 use Rattle.effects.specs.Framing.{octetsLimit, channelsOf, framedAs}
 

@@ -14,7 +14,6 @@ ghost use Rattle.reader.specs.Verdict.{placeAt, checkOf};
 ghost use Rattle.reader.specs.Answer.{offsetBits, attributesSeen, attributesOf, placeSeen, sampleOf, seenOf, refusedScan, scanOf};
 use effects::Effect;
 use effects::Framed;
-use effects::Standing;
 use items::Cursor;
 use items::Item;
 use items::Next;
@@ -22,6 +21,7 @@ use items::Refusal;
 use layout::Layout;
 use settings::Scale;
 use settings::Settings;
+use standing::Standing;
 use values::Bits;
 use values::Value;
 

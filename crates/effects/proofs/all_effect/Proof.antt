@@ -1,7 +1,7 @@
 -- By the arm of the match.
 use mathlib.Core.Path.{_≡_, ap, sym, _∙_}
 use borrow.Author.Tests.{lt-ltb, le-ltb, eq-eqb, ne-eqb}
-use Rattle.effects.specs.Standing.{allEffect}
+use Rattle.effects.specs.Effects.{allEffect}
 use borrow.Author.Needs.{needs}
 use Rattle.effects.proofs.all_effect.Statement.{statement}
 use Rattle.effects.proofs.all_effect.Tie as tie

@@ -9,15 +9,15 @@ use mathlib.Core.Path.{_≡_, ap, sym, _∙_}
 use native.Mathlib.Omega.{arith}
 use borrow.Author.Needs.{needs}
 use borrow.Author.Tests.{not-true, not-false}
-use Rattle.effects.specs.Standing.{withContinued}
-use Rattle.effects.specs.declared.Standing.{Standing}
+use Rattle.standing.specs.Standing.{withContinued}
+use Rattle.standing.specs.declared.Standing.{Standing}
 use Rattle.effects.specs.declared.Framed.the-variants.{Taken}
 use Rattle.effects.proofs.Framings.{pointer-small, sequences-few, framed-empty, framed-large, framed-limit, framed-width, framed-pointer, framed-short, framed-taken}
 use Rattle.effects.proofs.frame_of.Statement.{statement}
 use Rattle.effects.proofs.frame_of.Tie as tie
 use Rattle.effects.proofs.frame_of.Reads as reads
 use Rattle.effects.proofs.frame_of.Lts as lts
-use Rattle.effects.proofs.Standing.with_continued.Reads as with-continued-reads
+use Rattle.standing.proofs.Standing.with_continued.Reads as with-continued-reads
 use Rattle.effects.proofs.pointer_after.Reads as pointer-after-reads
 use Rattle.effects.proofs.pointer_fits.Reads as pointer-fits-reads
 use Rattle.effects.proofs.sequences_of.Reads as sequences-of-reads

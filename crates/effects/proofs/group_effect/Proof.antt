@@ -1,7 +1,7 @@
 -- Each way out is what its tests say.
 use mathlib.Core.Path.{_≡_, ap, sym, _∙_}
 use borrow.Author.Tests.{lt-ltb, le-ltb, eq-eqb, ne-eqb}
-use Rattle.effects.specs.Standing.{groupEffect}
+use Rattle.effects.specs.Effects.{groupEffect}
 use Rattle.effects.proofs.group_effect.Statement.{statement}
 use Rattle.effects.proofs.group_effect.Tie as tie
 use Rattle.effects.proofs.group_effect.Reads as reads

@@ -1,7 +1,7 @@
 -- By the arm of the match.
 use Rattle.items.specs.declared.Item.{Item}
 use Rattle.settings.specs.Define.{tagged}
-use Rattle.effects.specs.Standing.{effectOf, plainEffect, memberEffect}
+use Rattle.effects.specs.Effects.{effectOf, plainEffect, memberEffect}
 use Prim.Native.Nat.{ℕ}
 use mathlib.Core.List.{List}
 use mathlib.Core.Path.{_≡_, ap, sym, _∙_}

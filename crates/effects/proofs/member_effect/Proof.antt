@@ -1,6 +1,6 @@
 -- By the attribute that the tag defines, if it defines one.
 use mathlib.Core.Path.{_≡_, ap, sym, _∙_}
-use Rattle.effects.specs.Standing.{memberEffect, oneEffect}
+use Rattle.effects.specs.Effects.{memberEffect, oneEffect}
 use borrow.Author.Needs.{needs}
 use Rattle.effects.proofs.member_effect.Statement.{statement}
 use Rattle.effects.proofs.member_effect.Tie as tie

@@ -1,7 +1,7 @@
 -- By the arm of the match.
 use mathlib.Core.Path.{_≡_, ap, sym, _∙_}
 use borrow.Author.Tests.{lt-ltb, le-ltb, eq-eqb, ne-eqb}
-use Rattle.effects.specs.Standing.{oneEffect}
+use Rattle.effects.specs.Effects.{oneEffect}
 use borrow.Author.Needs.{needs}
 use Rattle.effects.proofs.one_effect.Statement.{statement}
 use Rattle.effects.proofs.one_effect.Tie as tie

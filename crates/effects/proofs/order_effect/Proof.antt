@@ -1,6 +1,6 @@
 -- Each way out is what its tests say.
 use borrow.Author.Tests.{lt-ltb, le-ltb, eq-eqb, ne-eqb}
-use Rattle.effects.specs.Standing.{orderEffect}
+use Rattle.effects.specs.Effects.{orderEffect}
 use borrow.Author.Needs.{needs}
 use Rattle.effects.proofs.order_effect.Statement.{statement}
 use Rattle.effects.proofs.order_effect.Tie as tie

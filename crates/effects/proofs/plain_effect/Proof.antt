@@ -2,7 +2,7 @@
 use mathlib.Core.Path.{_≡_, ap, sym, _∙_}
 use Rattle.settings.specs.declared.Settings.{Settings}
 use Rattle.settings.specs.Define.{defined}
-use Rattle.effects.specs.Standing.{plainEffect, allEffect}
+use Rattle.effects.specs.Effects.{plainEffect, allEffect}
 use borrow.Author.Needs.{needs}
 use Rattle.effects.proofs.plain_effect.Statement.{statement}
 use Rattle.effects.proofs.plain_effect.Tie as tie

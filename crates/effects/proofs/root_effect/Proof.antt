@@ -1,7 +1,7 @@
 -- By the number that the arm names, or by none of them.
 use mathlib.Core.Path.{_≡_, ap, sym, _∙_}
 use borrow.Author.Tests.{lt-ltb, le-ltb, eq-eqb, ne-eqb}
-use Rattle.effects.specs.Standing.{rootEffect, startEffect}
+use Rattle.effects.specs.Effects.{rootEffect, startEffect}
 use lib.IntN.{ℤ}
 use mir.Syntax.{w64}
 use mir.Val.{SFits}

@@ -2,7 +2,7 @@
 use borrow.Author.Tests.{lt-ltb, le-ltb, eq-eqb, ne-eqb}
 use mathlib.Core.Path.{_≡_, ap, sym, _∙_}
 use Rattle.effects.specs.declared.Effect.the-variants.{Start}
-use Rattle.effects.specs.Standing.{startEffect}
+use Rattle.effects.specs.Effects.{startEffect}
 use mir.Syntax.{w32, w64}
 use mir.Val.{SFits}
 use mir.Facts.{toZ-ofZ, sfits-widen}

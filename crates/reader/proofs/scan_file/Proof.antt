@@ -11,8 +11,8 @@ use mir.Facts.{toZ-ofZ}
 use Rattle.items.proofs.Walks.{next-later}
 use Rattle.settings.specs.Settings.{channelLimit, zeroSettings, applied}
 use Rattle.settings.proofs.Mapped.{mapped, mapped-put}
-use Rattle.effects.specs.declared.Standing.{Standing}
-use Rattle.effects.specs.Standing.{withStart}
+use Rattle.standing.specs.declared.Standing.{Standing}
+use Rattle.standing.specs.Standing.{withStart}
 use lib.Dec.{ltb}
 use Rattle.octets.specs.Pick.{pick}
 use Rattle.settings.specs.Settings.{defaultSettings}
@@ -23,12 +23,12 @@ use Rattle.reader.proofs.scan_file.Statement.{statement}
 use Rattle.reader.proofs.scan_file.Tie as tie
 use Rattle.reader.proofs.scan_file.Reads as reads
 use Rattle.reader.proofs.scan_file.Lts as lts
-use Rattle.effects.proofs.Standing.first.Reads as Standing-first-reads
-use Rattle.effects.proofs.Standing.with_count.Reads as with-count-reads
-use Rattle.effects.proofs.Standing.with_order.Reads as with-order-reads
-use Rattle.effects.proofs.Standing.with_root.Reads as with-root-reads
-use Rattle.effects.proofs.Standing.with_sequences.Reads as with-sequences-reads
-use Rattle.effects.proofs.Standing.with_start.Reads as with-start-reads
+use Rattle.standing.proofs.Standing.first.Reads as Standing-first-reads
+use Rattle.standing.proofs.Standing.with_count.Reads as with-count-reads
+use Rattle.standing.proofs.Standing.with_order.Reads as with-order-reads
+use Rattle.standing.proofs.Standing.with_root.Reads as with-root-reads
+use Rattle.standing.proofs.Standing.with_sequences.Reads as with-sequences-reads
+use Rattle.standing.proofs.Standing.with_start.Reads as with-start-reads
 use Rattle.effects.proofs.channels_of.Reads as channels-of-reads
 use Rattle.effects.proofs.frame_of.Reads as frame-of-reads
 use Rattle.effects.proofs.item_effect.Reads as item-effect-reads

@@ -1,53 +1,21 @@
 -- What an item asks for (document 01, "Attributes"), given what stands outside the channels' own records.
 use mathlib.Core.List.{List}
-use mathlib.Core.Bool.{Bool, true, false}
+use mathlib.Core.Bool.{Bool, false}
 use Prim.Native.Nat.{ℕ}
-use lib.Dec.{eqb, leb, ltb}
-use lib.IntN.{ℤ, pos}
+use lib.Dec.{eqb, ltb}
+use lib.IntN.{ℤ}
 use lib.ListN.{length, getD, take, drop}
-use Rattle.octets.specs.Pick.{pick, both}
+use Rattle.octets.specs.Pick.{pick}
 use Rattle.octets.specs.Number.{numberOf, signedOf}
 use Rattle.items.specs.declared.Item.{Item}
 use Rattle.items.specs.Refusals.{unfitLength, unfitValue, channelRange, compressed}
-use Rattle.settings.specs.declared.Settings.{Settings}
 use Rattle.settings.specs.declared.Tagged.{Tagged}
 use Rattle.settings.specs.declared.Defined.{Defined}
 use Rattle.settings.specs.Settings.{defaultSettings, channelLimit}
 use Rattle.settings.specs.Define.{tagged, defined}
-use Rattle.effects.specs.declared.Standing.{Standing}
+use Rattle.standing.specs.declared.Standing.{Standing}
 use Rattle.effects.specs.declared.Effect.{Effect}
 use Rattle.effects.specs.declared.Effect.the-variants.{Pass, Order, Count, Sequences, Start, All, One, Refused}
-
--- Before the first item: big-endian, no channel count, sequences by waveform length, pointer 0, the defaults.
-abbrev pub firstStanding : Standing
-firstStanding =
-    record { little = false; counted = 0; sequences = 0; start = pos 0; continued = pos 0; root = defaultSettings }
-
--- One thing set, all else as it stands: the byte order, the channel count, the sequences, the start pointer, the root settings.
-abbrev pub withOrder : Bool → Standing → Standing
-withOrder little st =
-    record { little = little; counted = st .counted; sequences = st .sequences; start = st .start; continued = st .continued; root = st .root }
-
-abbrev pub withCount : ℕ → Standing → Standing
-withCount counted st =
-    record { little = st .little; counted = counted; sequences = st .sequences; start = st .start; continued = st .continued; root = st .root }
-
-abbrev pub withSequences : ℕ → Standing → Standing
-withSequences sequences st =
-    record { little = st .little; counted = st .counted; sequences = sequences; start = st .start; continued = st .continued; root = st .root }
-
-abbrev pub withStart : ℤ → Standing → Standing
-withStart start st =
-    record { little = st .little; counted = st .counted; sequences = st .sequences; start = start; continued = st .continued; root = st .root }
-
-abbrev pub withRoot : Settings → Standing → Standing
-withRoot root st =
-    record { little = st .little; counted = st .counted; sequences = st .sequences; start = st .start; continued = st .continued; root = root }
-
--- A frame has led to this pointer, and the next frame goes on there.
-abbrev pub withContinued : ℤ → Standing → Standing
-withContinued z st =
-    record { little = st .little; counted = st .counted; sequences = st .sequences; start = z; continued = z; root = st .root }
 
 -- 01, byte order of the values that follow: length 0 or 1; 0 big, 1 little; default big.
 unfoldable pub orderEffect : List ℕ → Effect

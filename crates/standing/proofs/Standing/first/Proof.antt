@@ -1,12 +1,12 @@
 -- The root settings are what `default` answers.
 use mathlib.Core.Path.{ap}
 use Rattle.settings.specs.declared.Settings.{Settings}
-use Rattle.effects.specs.Standing.{firstStanding, withRoot}
+use Rattle.standing.specs.Standing.{firstStanding, withRoot}
 use borrow.Author.Needs.{needs}
-use Rattle.effects.proofs.Standing.first.Statement.{statement}
-use Rattle.effects.proofs.Standing.first.Tie as tie
-use Rattle.effects.proofs.Standing.first.Reads as reads
-use Rattle.effects.proofs.Standing.first.Lts as lts
+use Rattle.standing.proofs.Standing.first.Statement.{statement}
+use Rattle.standing.proofs.Standing.first.Tie as tie
+use Rattle.standing.proofs.Standing.first.Reads as reads
+use Rattle.standing.proofs.Standing.first.Lts as lts
 use Rattle.settings.proofs.Settings.default.Reads as default-reads
 
 -- src/lib.rt:48:13
