@@ -3,7 +3,7 @@ use mathlib.Core.List.{List, [], _∷_, _++_}
 use Prim.Native.Nat.{ℕ, zero, suc, _+_, _/_, _%_}
 use lib.Dec.{ltb}
 use Rattle.octets.specs.Pick.{pick}
-use Rattle.reader.specs.declared.Checked.{Checked}
+use Rattle.pass.specs.declared.Checked.{Checked}
 
 -- A number in decimal, in ASCII; no more digits than are allowed.
 unfoldable pub decimalIn : ℕ → ℕ → List ℕ

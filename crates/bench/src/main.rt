@@ -9,7 +9,7 @@ ghost use Rattle.stores.specs.Storing.{Putting};
 ghost use Rattle.bench.specs.Line.{decimalOf, lineOf};
 use libc::STDIN_FILENO;
 use libc::STDOUT_FILENO;
-use reader::Checked;
+use pass::Checked;
 
 // The octets of a file on the bench at most.
 const LIMIT: usize = 60_000;

@@ -20,8 +20,9 @@ use Rattle.items.specs.Walk.{refusal}
 use Rattle.layout.specs.Frame.{Frame, widthIn, offsetOf, placeOf}
 use Rattle.reader.specs.declared.LookedUp.{LookedUp}
 use Rattle.reader.specs.declared.Sampled.{Sampled}
-use Rattle.reader.specs.declared.View.{View}
-use Rattle.reader.specs.Answer.{zeroFrame, viewOf, seenOf, sampleOf, placeSeen}
+use Rattle.pass.specs.declared.View.{View}
+use Rattle.pass.specs.Scan.{zeroFrame, viewOf}
+use Rattle.reader.specs.Answer.{seenOf, sampleOf, placeSeen}
 use Rattle.reader.proofs.Answers.{Located, located, sample-refused, sample-none}
 use Rattle.bulk.specs.declared.Placed.{Placed}
 use Rattle.bulk.specs.declared.Placed.the-variants.{At}

@@ -23,9 +23,10 @@ use Rattle.values.specs.Sample.{widthOf}
 use Rattle.layout.specs.Frame.{widthIn, blockOctets, sequenceOctets, channelIn, samplesOf, offsetOf, placeOf}
 use Rattle.laid.proofs.Places.{row-fits, below-fits, offset-inside}
 use Rattle.reader.specs.declared.Sampled.{Sampled}
-use Rattle.reader.specs.declared.View.{View}
-use Rattle.reader.specs.Verdict.{Verdict, accepted, refused, verdict}
-use Rattle.reader.specs.Answer.{zeroFrame, viewOf, placeSeen, sampleIn, sampledIn, sampleOf}
+use Rattle.pass.specs.declared.View.{View}
+use Rattle.pass.specs.Verdict.{Verdict, accepted, refused, verdict}
+use Rattle.pass.specs.Scan.{zeroFrame, viewOf}
+use Rattle.reader.specs.Answer.{placeSeen, sampleIn, sampledIn, sampleOf}
 use Rattle.reader.proofs.Answers.{Located}
 use Rattle.reader.proofs.Answers as answers
 use Rattle.reader.proofs.Every.{every-at}

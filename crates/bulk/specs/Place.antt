@@ -6,7 +6,7 @@ use Rattle.octets.specs.Pick.{pick}
 use Rattle.items.specs.Refusals.{noSample}
 use Rattle.items.specs.Walk.{refusal}
 use Rattle.reader.specs.declared.LookedUp.{LookedUp}
-use Rattle.reader.specs.declared.View.{View}
+use Rattle.pass.specs.declared.View.{View}
 use Rattle.reader.specs.Answer.{seenOf, placeSeen}
 use Rattle.bulk.specs.declared.Placed.{Placed}
 use Rattle.bulk.specs.declared.Placed.the-variants.{At}

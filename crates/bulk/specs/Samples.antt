@@ -8,8 +8,8 @@ use Rattle.octets.specs.Number.{numberOf}
 use Rattle.items.specs.Refusals.{noFrame, noChannel, noSample}
 use Rattle.items.specs.Walk.{refusal}
 use Rattle.layout.specs.Frame.{Frame, widthIn, channelIn, samplesOf, placeOf}
-use Rattle.reader.specs.Verdict.{Verdict, accepted, refused, verdict}
-use Rattle.reader.specs.Answer.{zeroFrame}
+use Rattle.pass.specs.Verdict.{Verdict, accepted, refused, verdict}
+use Rattle.pass.specs.Scan.{zeroFrame}
 use Rattle.bulk.specs.declared.Read.{Read}
 use Rattle.bulk.specs.declared.Read.the-variants.{Samples}
 

@@ -14,8 +14,8 @@ ghost use Rattle.bulk.specs.Place.{placedOf};
 ghost use Rattle.bulk.specs.Samples.{bitsFrom, readOf, bufferAfter};
 ghost use Rattle.bulk.specs.Walked.{bitsHere, spaced, blocked, Wide, Within, InBlocks};
 use items::Refusal;
+use pass::View;
 use reader::LookedUp;
-use reader::View;
 
 // The place of a sample, with what the pass keeps of its channel, or why there is none.
 pub enum Placed {

@@ -20,7 +20,7 @@ use Rattle.values.specs.declared.Bits.{Bits}
 use Rattle.settings.specs.declared.Settings.{Settings}
 use Rattle.settings.specs.Settings.{zeroSettings}
 use Rattle.layout.specs.Frame.{Frame, widthIn, channelIn, samplesOf, widthAgrees, channelAgrees, offsetOf}
-use Rattle.reader.specs.Verdict.{accepted, verdict}
+use Rattle.pass.specs.Verdict.{accepted, verdict}
 use Rattle.reader.specs.Answer.{offsetBits}
 use Rattle.reader.proofs.Every.{Every}
 use Rattle.reader.proofs.Ordered.{Lies, every-lies}

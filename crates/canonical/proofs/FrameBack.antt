@@ -28,7 +28,7 @@ use Rattle.effects.specs.declared.Framed.the-variants.{Taken}
 use Rattle.standing.specs.Standing.{withContinued}
 use Rattle.effects.specs.Effects.{rootEffect}
 use Rattle.effects.specs.Framing.{octetsLimit, framesLimit, channelsOf, pointerAfter, framedAs}
-use Rattle.reader.specs.Verdict.{State, state, goes, frameChannels, withFrame, carried}
+use Rattle.pass.specs.Verdict.{State, state, goes, frameChannels, withFrame, carried}
 use Rattle.effects.proofs.Framings.{pointer-small, framed-taken}
 use Rattle.canonical.specs.Recording.{Recorded}
 use Rattle.canonical.specs.Canonical.{item, numberItem, groupOctets, groupsOctets, sequencesItem, unsignedOf, waveformOf, frameOctets}

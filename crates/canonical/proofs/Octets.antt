@@ -34,7 +34,8 @@ use Rattle.laid.specs.Turned.{turnedAll, sequenceSamples, Even}
 use Rattle.laid.proofs.Places.{offset-inside}
 use Rattle.laid.proofs.Laid.{laid-same, laid-self}
 use Rattle.laid.proofs.Turned.{laid-turned, octets-even, turned-even}
-use Rattle.reader.specs.Answer.{offsetBits, sizeOf, sizes}
+use Rattle.pass.specs.Scan.{sizeOf, sizes}
+use Rattle.reader.specs.Answer.{offsetBits}
 use Rattle.reader.proofs.Ordered.{Lies}
 use Rattle.canonical.specs.Recording.{settled, sampleBits, tabulate, recordedFrame, recording}
 use Rattle.canonical.specs.Canonical.{item, numberItem, unsignedOf, channelOctets, scaleItem, nullItem, groupItems, groupOctets, groupsOctets, sequencesItem, waveformOf, frameOctets, framesOctets, canonical}

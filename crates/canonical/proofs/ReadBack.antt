@@ -16,7 +16,7 @@ use Rattle.settings.specs.Settings.{defaultTable}
 use Rattle.settings.specs.Define.{tagged}
 use Rattle.layout.specs.Frame.{Frame}
 use Rattle.effects.specs.Framing.{octetsLimit, framesLimit}
-use Rattle.reader.specs.Verdict.{State, state, firstState, Verdict, accepted, carried, verdict}
+use Rattle.pass.specs.Verdict.{State, state, firstState, Verdict, accepted, carried, verdict}
 use Rattle.stores.specs.Length.{shortest}
 use Rattle.canonical.specs.Recording.{Recorded, recording}
 use Rattle.canonical.specs.Canonical.{item, framesOctets, canonical}

@@ -44,15 +44,15 @@ use Rattle.effects.specs.declared.Framed.the-variants.{Taken}
 use Rattle.standing.specs.Standing.{firstStanding}
 use Rattle.effects.specs.Effects.{effectOf, valueAt}
 use Rattle.effects.specs.Framing.{octetsLimit, channelsOf, framedAs}
-use Rattle.reader.specs.Verdict.{State, state, firstState, Outcome, goes, refuses, frameChannels, frameAt, withFrame, carried, placeAt, Verdict, accepted, refused, interpret, verdict}
-use Rattle.reader.specs.Answer.{zeroFrame, sizeOf, sizes, scannedIn, scanOf}
-use Rattle.reader.specs.declared.Asked.{Asked}
-use Rattle.reader.specs.declared.Checked.{Checked}
-use Rattle.reader.specs.declared.Scan.{Scan}
-use Rattle.reader.proofs.Keeps.{meaning, Kept, Keeps, frames-kept, accepted-by, interpret-goes, interpret-refuses, interpret-finished, interpret-fault, firstCursor}
+use Rattle.pass.specs.Verdict.{State, state, firstState, Outcome, goes, refuses, frameChannels, frameAt, withFrame, carried, placeAt, Verdict, accepted, refused, interpret, verdict}
+use Rattle.pass.specs.Scan.{zeroFrame, sizeOf, sizes, scannedIn, scanOf}
+use Rattle.pass.specs.declared.Asked.{Asked}
+use Rattle.pass.specs.declared.Checked.{Checked}
+use Rattle.pass.specs.declared.Scan.{Scan}
+use Rattle.pass.proofs.Keeps.{meaning, Kept, Keeps, frames-kept, accepted-by, interpret-goes, interpret-refuses, interpret-finished, interpret-fault, firstCursor}
 use Rattle.effects.proofs.Framings.{pointer-small}
 use Rattle.settings.proofs.Shown.{shown, shown-none}
-use Rattle.reader.proofs.Scans.{channels-few, framed-found, shownBy, Records, Filling, shown-full, frame-shown}
+use Rattle.pass.proofs.Scans.{channels-few, framed-found, shownBy, Records, Filling, shown-full, frame-shown}
 use Rattle.reader.proofs.Ordered.{Lies, accepted-lies, accepted-small}
 use Rattle.canonical.specs.Recording.{Recorded, settled, recordedFrame, recording}
 use Rattle.canonical.specs.Canonical.{item, numberItem, unsignedOf, groupsOctets, sequencesItem, waveformOf, frameOctets, framesOctets, canonical}

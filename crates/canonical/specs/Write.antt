@@ -10,8 +10,8 @@ use Rattle.items.specs.Refusals.{bufferShort}
 use Rattle.items.specs.Walk.{refusal}
 use Rattle.layout.specs.Frame.{Frame}
 use Rattle.effects.specs.Framing.{octetsLimit}
-use Rattle.reader.specs.Answer.{sizes}
-use Rattle.reader.specs.Verdict.{Verdict, accepted, refused, verdict}
+use Rattle.pass.specs.Scan.{sizes}
+use Rattle.pass.specs.Verdict.{Verdict, accepted, refused, verdict}
 use Rattle.canonical.specs.declared.Written.{Written}
 use Rattle.canonical.specs.Recording.{recording}
 use Rattle.canonical.specs.Canonical.{canonical}

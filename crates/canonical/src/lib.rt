@@ -25,8 +25,8 @@ use items::Cursor;
 use items::Next;
 use items::Refusal;
 use layout::Layout;
-use reader::Asked;
-use reader::Checked;
+use pass::Asked;
+use pass::Checked;
 use settings::Scale;
 use settings::Settings;
 use standing::Standing;
@@ -378,7 +378,7 @@ fn write_frames(s: &[u8], out: &mut [u8]) -> usize
 pub fn write_canonical(s: &[u8], out: &mut [u8]) -> Written
     ensures { λ r. ⌜ (r ≡ writtenOf (now (s .entry)) (now (out .entry))) × (now (out .exit) ≡ leftOf (now (s .entry)) (now (out .entry))) ⌝ }
 {
-    let pass = reader::scan_file(
+    let pass = pass::scan_file(
         s,
         Asked {
             frame: 0,

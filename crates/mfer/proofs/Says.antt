@@ -16,11 +16,11 @@ use Rattle.values.specs.declared.Value.{Value}
 use Rattle.values.specs.Sample.{widthOf, kindOf, valueOf}
 use Rattle.values.proofs.Laws.{width-le}
 use Rattle.items.specs.declared.Refusal.{Refusal}
-use Rattle.reader.specs.declared.Checked.{Checked}
+use Rattle.pass.specs.declared.Checked.{Checked}
 use Rattle.reader.specs.declared.Attributes.{Attributes}
 use Rattle.reader.specs.declared.Described.{Described}
-use Rattle.reader.specs.declared.View.{View}
-use Rattle.reader.specs.Verdict.{checkOf}
+use Rattle.pass.specs.declared.View.{View}
+use Rattle.pass.specs.Verdict.{checkOf}
 use Rattle.reader.specs.Answer.{attributesOf}
 use Rattle.reader.proofs.Answers as answers
 use Rattle.bulk.specs.declared.Placed.{Placed}

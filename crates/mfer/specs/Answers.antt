@@ -7,11 +7,11 @@ use lib.ListN.{replicate}
 use Rattle.values.specs.declared.Value.{Value}
 use Rattle.values.specs.declared.Value.the-variants.{Whole, Status, Single, Double, NotNumber, Null}
 use Rattle.values.specs.Sample.{kindOf}
-use Rattle.reader.specs.declared.Checked.{Checked}
+use Rattle.pass.specs.declared.Checked.{Checked}
 use Rattle.reader.specs.declared.Attributes.{Attributes}
 use Rattle.reader.specs.declared.Described.{Described}
 use Rattle.reader.specs.declared.Sampled.{Sampled}
-use Rattle.reader.specs.Verdict.{checkOf}
+use Rattle.pass.specs.Verdict.{checkOf}
 use Rattle.reader.specs.Answer.{attributesOf, sampleOf}
 use Rattle.bulk.specs.declared.Read.{Read}
 use Rattle.bulk.specs.Samples.{bitsOf, readOf}

@@ -12,8 +12,8 @@ ghost use lib.ListN.{length};
 use bulk::Placed;
 use bulk::Read;
 use canonical::Written;
+use pass::Checked;
 use reader::Attributes;
-use reader::Checked;
 use reader::Described;
 use values::Value;
 

@@ -24,18 +24,19 @@ use Rattle.layout.specs.Frame.{Frame, widthIn, sequenceOctets, octetsBelow, cha
 use Rattle.settings.specs.declared.Settings.{Settings}
 use Rattle.laid.specs.Laid.{Named}
 use Rattle.laid.proofs.Places.{offset-inside}
-use Rattle.reader.specs.declared.Asked.{Asked}
-use Rattle.reader.specs.declared.View.{View}
-use Rattle.reader.specs.declared.Found.{Found}
-use Rattle.reader.specs.declared.Found.the-variants.{Nothing}
-use Rattle.reader.specs.declared.Checked.{Checked}
-use Rattle.reader.specs.declared.Scan.{Scan}
+use Rattle.pass.specs.declared.Asked.{Asked}
+use Rattle.pass.specs.declared.View.{View}
+use Rattle.pass.specs.declared.Found.{Found}
+use Rattle.pass.specs.declared.Found.the-variants.{Nothing}
+use Rattle.pass.specs.declared.Checked.{Checked}
+use Rattle.pass.specs.declared.Scan.{Scan}
 use Rattle.reader.specs.declared.LookedUp.{LookedUp}
 use Rattle.reader.specs.declared.Described.{Described}
 use Rattle.reader.specs.declared.Sampled.{Sampled}
 use Rattle.reader.specs.declared.Sampled.the-variants.{Sample}
-use Rattle.reader.specs.Verdict.{Verdict, accepted, refused, verdict, checkedAs, checkOf}
-use Rattle.reader.specs.Answer.{zeroFrame, viewOf, foundIn, sizes, scannedIn, scanOf, seenIn, seenOf, attributesIn, attributesSeen, describedIn, attributesOf, sampleIn, sampledIn, sampleOf, placeSeen}
+use Rattle.pass.specs.Verdict.{Verdict, accepted, refused, verdict, checkedAs, checkOf}
+use Rattle.pass.specs.Scan.{zeroFrame, viewOf, foundIn, sizes, scannedIn, scanOf}
+use Rattle.reader.specs.Answer.{seenIn, seenOf, attributesIn, attributesSeen, describedIn, attributesOf, sampleIn, sampledIn, sampleOf, placeSeen}
 use Rattle.reader.proofs.Ordered.{Lies, accepted-lies, accepted-small}
 
 checked-in : (q : Asked) (v : Verdict) → scannedIn q v .checked ≡ checkedAs v

@@ -31,10 +31,10 @@ use Rattle.layout.specs.Frame.{Frame, sequenceOctets, channelAgrees, allAgree}
 use Rattle.standing.specs.declared.Standing.{Standing}
 use Rattle.effects.specs.Effects.{valueAt}
 use Rattle.effects.specs.Framing.{channelsOf}
-use Rattle.reader.specs.Verdict.{State, firstState, frameChannels, frameAt, accepted, verdict}
-use Rattle.reader.specs.Answer.{zeroFrame}
-use Rattle.reader.proofs.Keeps.{Keeps, accepted-kept}
-use Rattle.reader.proofs.Steps.{TakenBy, Step, passes, stands, resets, changes, sets, frames, meaning-steps}
+use Rattle.pass.specs.Verdict.{State, firstState, frameChannels, frameAt, accepted, verdict}
+use Rattle.pass.specs.Scan.{zeroFrame}
+use Rattle.pass.proofs.Keeps.{Keeps, accepted-kept}
+use Rattle.pass.proofs.Steps.{TakenBy, Step, passes, stands, resets, changes, sets, frames, meaning-steps}
 use Rattle.reader.proofs.Every.{Every, every-at, every-snoc, every-take, every-imp}
 use Rattle.reader.proofs.Tables.{Each, Table, table-step, table-first}
 

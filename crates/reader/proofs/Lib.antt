@@ -1,9 +1,6 @@
-pub mod Keeps
-pub mod Steps
 pub mod Every
 pub mod Ordered
 pub mod Tables
 pub mod Good
 pub mod Never
-pub mod Scans
 pub mod Answers

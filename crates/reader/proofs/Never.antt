@@ -26,9 +26,9 @@ use Rattle.settings.specs.Settings.{blockLimit, lastKind, defaultSettings}
 use Rattle.settings.specs.Define.{inRange}
 use Rattle.layout.specs.Frame.{blockOctets, sequenceOctets}
 use Rattle.effects.specs.Framing.{octetsLimit, channelsOf}
-use Rattle.reader.specs.Verdict.{State, firstState, frameChannels, refused, interpret, verdict}
-use Rattle.reader.proofs.Keeps.{Keeps, verdict-law, firstCursor, items-first}
-use Rattle.reader.proofs.Steps.{meaning-steps, meaning-refused}
+use Rattle.pass.specs.Verdict.{State, firstState, frameChannels, refused, interpret, verdict}
+use Rattle.pass.proofs.Keeps.{Keeps, verdict-law, firstCursor, items-first}
+use Rattle.pass.proofs.Steps.{meaning-steps, meaning-refused}
 use Rattle.reader.proofs.Every.{Every, every-take}
 use Rattle.reader.proofs.Tables.{Each, Table, table-step, table-first}
 use Rattle.reader.proofs.Ordered.{Lying, lying-keeps, lying-first, frame-channels}

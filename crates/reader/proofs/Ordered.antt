@@ -25,10 +25,10 @@ use Rattle.layout.specs.Frame.{Frame, sequenceOctets, allAgree}
 use Rattle.standing.specs.declared.Standing.{Standing}
 use Rattle.effects.specs.Effects.{valueAt}
 use Rattle.effects.specs.Framing.{octetsLimit, framesLimit, channelsOf, pointerFits}
-use Rattle.reader.specs.Verdict.{State, state, firstState, oneChanged, frameChannels, frameAt, accepted, verdict}
-use Rattle.reader.specs.Answer.{zeroFrame}
-use Rattle.reader.proofs.Keeps.{Kept, Keeps, firstCursor, accepted-by, accepted-kept}
-use Rattle.reader.proofs.Steps.{Waveform, TakenBy, Step, passes, stands, resets, changes, sets, frames, meaning-steps}
+use Rattle.pass.specs.Verdict.{State, state, firstState, oneChanged, frameChannels, frameAt, accepted, verdict}
+use Rattle.pass.specs.Scan.{zeroFrame}
+use Rattle.pass.proofs.Keeps.{Kept, Keeps, firstCursor, accepted-by, accepted-kept}
+use Rattle.pass.proofs.Steps.{Waveform, TakenBy, Step, passes, stands, resets, changes, sets, frames, meaning-steps}
 use Rattle.reader.proofs.Every.{Every, every-at, every-snoc, every-imp}
 
 -- A frame whose waveform lies in the file and holds its sequences, with 1 to 256 channels.

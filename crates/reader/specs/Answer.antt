@@ -1,37 +1,24 @@
 -- The questions (document 01, "Frames and samples" and "What comes back when it is no"): the attributes of a channel in a frame, and the
 -- place and value of a sample.
-use mathlib.Core.List.{List, [], _∷_}
-use mathlib.Core.Bool.{false}
+use mathlib.Core.List.{List}
 use Prim.Native.Nat.{ℕ, _+_, _*_, _/_, _%_}
 use lib.Dec.{eqb, ltb}
-use lib.IntN.{pos}
 use lib.ListN.{length, getD, take, drop}
 use Rattle.octets.specs.Pick.{pick}
 use Rattle.values.specs.declared.Bits.{Bits}
 use Rattle.values.specs.Sample.{valueOf}
-use Rattle.items.specs.declared.Refusal.{Refusal}
 use Rattle.items.specs.Refusals.{noFrame, noChannel, noSample}
 use Rattle.items.specs.Walk.{refusal}
 use Rattle.settings.specs.declared.Settings.{Settings}
-use Rattle.settings.specs.Settings.{defaultSettings}
-use Rattle.layout.specs.Frame.{Frame, widthIn, sequenceOctets, octetsBelow, channelIn, samplesOf, placeOf}
-use Rattle.layout.specs.Size.{frameSize, groupsSize}
-use Rattle.reader.specs.declared.Asked.{Asked}
-use Rattle.reader.specs.declared.View.{View}
-use Rattle.reader.specs.declared.Found.{Found}
-use Rattle.reader.specs.declared.Found.the-variants.{Nothing}
-use Rattle.reader.specs.declared.Checked.{Checked}
-use Rattle.reader.specs.declared.Scan.{Scan}
+use Rattle.layout.specs.Frame.{Frame, widthIn, channelIn, samplesOf, placeOf}
+use Rattle.pass.specs.declared.View.{View}
 use Rattle.reader.specs.declared.Attributes.{Attributes}
 use Rattle.reader.specs.declared.Described.{Described}
 use Rattle.reader.specs.declared.LookedUp.{LookedUp}
 use Rattle.reader.specs.declared.Sampled.{Sampled}
 use Rattle.reader.specs.declared.Sampled.the-variants.{Sample}
-use Rattle.reader.specs.Verdict.{Verdict, accepted, refused, verdict}
-
--- What is read past the last frame; no answer depends on it.
-abbrev pub zeroFrame : Frame
-zeroFrame = record { start = pos 0; place = 0; little = false; sequences = 0; channels = []; waveform = [] }
+use Rattle.pass.specs.Verdict.{Verdict, accepted, refused, verdict}
+use Rattle.pass.specs.Scan.{zeroFrame, viewOf}
 
 -- ---- attributes
 
@@ -95,49 +82,6 @@ sampledIn s frame channel n (accepted fs) =
 -- A sample of a file, by frame, channel and number.
 unfoldable pub sampleOf : List ℕ → ℕ → ℕ → ℕ → Sampled
 sampleOf s frame channel n = sampledIn s frame channel n (verdict s)
-
--- ---- one pass over a file
-
--- What the pass keeps of the frame that is asked for.
-unfoldable pub viewOf : ℕ → Frame → View
-viewOf channel f =
-    let c = pick (ltb channel (length (f .channels))) (channelIn channel (f .channels)) defaultSettings in
-    record {
-      start = f .start;
-      channels = length (f .channels);
-      sequences = f .sequences;
-      little = f .little;
-      place = f .place;
-      octets = sequenceOctets (f .channels);
-      below = octetsBelow channel (f .channels);
-      settings = c;
-    }
-
--- The frame that is asked for, where there is one.
-unfoldable pub foundIn : Asked → List Frame → Found
-foundIn q fs = pick (ltb (q .frame) (length fs)) (Found.Frame (viewOf (q .channel) (getD fs (q .frame) zeroFrame))) Nothing
-
--- How many octets a frame takes in the canonical file.
-unfoldable pub sizeOf : Frame → ℕ
-sizeOf f = frameSize (f .sequences) (groupsSize 0 (f .channels)) (f .sequences * sequenceOctets (f .channels))
-
--- How many octets frames take there, without the file's first three.
-unfoldable pub sizes : List Frame → ℕ
-sizes [] = 0
-sizes (f ∷ fs) = sizeOf f + sizes fs
-
--- A refused file has no frame.
-abbrev pub refusedScan : Refusal → Scan
-refusedScan r = record { checked = Checked.Refused r; found = Nothing; size = 0 }
-
--- What one pass over a file answers: the verdict's number of frames or refusal, the frame that is asked for, and the canonical frames' octets.
-unfoldable pub scannedIn : Asked → Verdict → Scan
-scannedIn q (accepted fs) = record { checked = Checked.Frames (length fs); found = foundIn q fs; size = sizes fs }
-scannedIn q (refused r) = refusedScan r
-
--- The same for a file.
-unfoldable pub scanOf : Asked → List ℕ → Scan
-scanOf q s = scannedIn q (verdict s)
 
 -- ---- what the answers are made of
 

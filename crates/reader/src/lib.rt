@@ -1,67 +1,22 @@
-// The reader: every file settled, every attribute and sample found.
+// The reader: every attribute and sample found.
 //
 // Promises, for any octets at all: `check` counts the frames or answers the refusal of document 01 with its number and place;
 // `describe` answers what stands for a channel in a frame, and `sample` where a sample lies and what it is, or a refusal. All three are
-// thin over `scan_file`, which walks the file once.
-// Read first: specs/Verdict.antt (the file), specs/Answer.antt (the questions); what one item asks for is in crate effects.
+// thin over `pass::scan_file`, which walks the file once.
+// Read first: in crate pass specs/Verdict.antt (the file), then specs/Answer.antt (the questions).
 ghost use mathlib.Core.Path.{_≡_};
-ghost use Prim.Native.Nat.{_^_, _≤_, _<_, min};
-ghost use lib.Dec.{ltb};
-ghost use Rattle.octets.specs.Pick.{pick};
-ghost use Rattle.settings.specs.Settings.{defaultSettings};
-ghost use Rattle.layout.specs.Size.{lengthSize, sequencesSize, frameSize};
-ghost use Rattle.reader.specs.Verdict.{placeAt, checkOf};
-ghost use Rattle.reader.specs.Answer.{offsetBits, attributesSeen, attributesOf, placeSeen, sampleOf, seenOf, refusedScan, scanOf};
-use effects::Effect;
-use effects::Framed;
-use items::Cursor;
-use items::Item;
-use items::Next;
+ghost use Prim.Native.Nat.{_^_, _<_};
+ghost use Rattle.pass.specs.Verdict.{checkOf};
+ghost use Rattle.reader.specs.Answer.{offsetBits, attributesSeen, attributesOf, placeSeen, sampleOf, seenOf};
 use items::Refusal;
-use layout::Layout;
+use pass::Asked;
+use pass::Checked;
+use pass::Found;
+use pass::View;
 use settings::Scale;
 use settings::Settings;
-use standing::Standing;
 use values::Bits;
 use values::Value;
-
-// The answer of the check: the number of frames, or the refusal.
-pub enum Checked {
-    Frames(u32),
-    Refused(Refusal),
-}
-
-// The frame and the channel that a question names.
-pub struct Asked {
-    pub frame: u32,
-    pub channel: u32,
-}
-
-// What a pass keeps of the frame that is asked for: `octets` are those of a sequence, `below` those below the channel that is asked
-// for, and `settings` that channel's, the defaults where the frame lacks it.
-pub struct View {
-    pub start: i64,
-    pub channels: u32,
-    pub sequences: u32,
-    pub little: bool,
-    pub place: usize,
-    pub octets: u64,
-    pub below: u64,
-    pub settings: Settings,
-}
-
-// The frame that is asked for, if the file has it.
-pub enum Found {
-    Frame(View),
-    Nothing,
-}
-
-// What one pass over a file answers; `size` is how many octets its frames take in the canonical file.
-pub struct Scan {
-    pub checked: Checked,
-    pub found: Found,
-    pub size: u64,
-}
 
 // The attributes of a channel in a frame. The offset has the sample's width; a null of width 0 is none.
 pub struct Attributes {
@@ -90,215 +45,11 @@ pub enum Sampled {
     Refused(Refusal),
 }
 
-fn refused_scan(x: Refusal) -> Scan
-    ensures { λ r. ⌜ r ≡ refusedScan x ⌝ }
-{
-    Scan {
-        checked: Checked::Refused(x),
-        found: Found::Nothing,
-        size: 0,
-    }
-}
-
-// The place of an item's tag.
-fn place_of(item: Item) -> usize
-    ensures { λ r. ⌜ r ≡ placeAt item ⌝ }
-{
-    match item {
-        Item::Plain {
-            place,
-            tag: _,
-            start: _,
-            len: _,
-        } => place,
-        Item::Group { place, channel: _ } => place,
-        Item::Member {
-            place,
-            channel: _,
-            tag: _,
-            start: _,
-            len: _,
-        } => place,
-        Item::Mark { place } => place,
-    }
-}
-
-// The octets of a length in its shortest form.
-fn length_size(n: u64) -> u64
-    ensures { λ r. ⌜ (r ≡ lengthSize n) × (r ≤ 5) ⌝ }
-{
-    if n < 128 {
-        return 1;
-    }
-    if n < 256 {
-        return 2;
-    }
-    if n < 65_536 {
-        return 3;
-    }
-    if n < 16_777_216 {
-        return 4;
-    }
-    5
-}
-
-// The octets of 06.
-fn sequences_size(sequences: u32) -> u64
-    ensures { λ r. ⌜ (r ≡ sequencesSize sequences) × (r ≤ 6) ⌝ }
-{
-    if sequences == 0 { 2 } else { 6 }
-}
-
-// The octets of a frame in the canonical file.
-fn frame_size(sequences: u32, groups: u64, waveform: u64) -> u64
-    requires { ⌜ (groups ≤ 16384) × (waveform < 2147483648) ⌝ }
-    ensures { λ r. ⌜ (r ≡ frameSize sequences groups waveform) × (r < 4294967296) ⌝ }
-{
-    12 + sequences_size(sequences) + groups + (1 + length_size(waveform) + waveform)
-}
-
-// The settings of a channel that the frame has, else the defaults.
-fn seen(there: bool, s: Settings) -> Settings
-    ensures { λ r. ⌜ r ≡ pick there s defaultSettings ⌝ }
-{
-    if there { s } else { Settings::default() }
-}
-
-// The last record for every channel number above it.
-fn index(channel: u32) -> usize
-    ensures { λ r. ⌜ r ≡ min channel 255 ⌝ }
-{
-    if channel < 255 { channel as usize } else { 255 }
-}
-
-// What is kept of a frame: this one where it is asked for, else what was kept before.
-fn keep(asked: bool, view: View, found: Found) -> Found
-    ensures { λ r. ⌜ r ≡ pick asked (Found.Frame view) found ⌝ }
-{
-    if asked { Found::Frame(view) } else { found }
-}
-
-// One pass over a file: its frames counted or its refusal, the frame and channel that are asked for, and the canonical size.
-pub fn scan_file(s: &[u8], asked: Asked) -> Scan
-    ensures { λ r. ⌜ r ≡ scanOf asked (now (s .entry)) ⌝ }
-{
-    if Standing::OCTETS < s.len() {
-        return refused_scan(Refusal {
-            number: Refusal::FILE_LIMIT,
-            place: 0,
-        });
-    }
-    let mut table = Settings::table();
-    // The first `own` records are kept up; every other channel holds the root settings.
-    let mut own = 0usize;
-    let mut c = Cursor::first();
-    let mut st = Standing::first();
-    let mut frames = 0u32;
-    let mut found = Found::Nothing;
-    let mut size = 0u64;
-    loop {
-        match items::next_item(s, c) {
-            Next::End => {
-                return Scan {
-                    checked: Checked::Frames(frames),
-                    found,
-                    size,
-                };
-            }
-            Next::Refused(x) => {
-                return refused_scan(x);
-            }
-            Next::Found(item, next) => {
-                c = next.renewed();
-                let effect = effects::item_effect(s, st, item);
-                let root = st.root;
-                let n = effects::reach(effect, st.counted);
-                while own < n {
-                    table[own] = root;
-                    own += 1;
-                }
-                match effect {
-                    Effect::Pass => {}
-                    Effect::Order(little) => {
-                        st = st.with_order(little);
-                    }
-                    Effect::Count(counted) => {
-                        own = 0;
-                        st = st.with_count(counted);
-                    }
-                    Effect::Sequences(sequences) => {
-                        st = st.with_sequences(sequences);
-                    }
-                    Effect::Start(start) => {
-                        st = st.with_start(start);
-                    }
-                    Effect::All(change) => {
-                        let mut i = 0usize;
-                        while i < own {
-                            table[i] = settings::apply(table[i], change);
-                            i += 1;
-                        }
-                        st = st.with_root(settings::apply(root, change));
-                    }
-                    Effect::One(channel, change) => {
-                        let k = channel as usize;
-                        if k < 256 {
-                            table[k] = settings::apply(table[k], change);
-                        }
-                    }
-                    Effect::Frame { start, len } => {
-                        let count = effects::channels_of(st.counted);
-                        let mut l = Layout::none();
-                        let mut i = 0usize;
-                        while i < n {
-                            l = l.more(i, asked.channel, table[i]);
-                            i += 1;
-                        }
-                        match effects::frame_of(frames, st, l.agree, l.octets, len) {
-                            Framed::Refused(number) => {
-                                return refused_scan(Refusal {
-                                    number,
-                                    place: place_of(item),
-                                });
-                            }
-                            Framed::Taken(sequences, after) => {
-                                let k = index(asked.channel);
-                                let settings = seen(asked.channel < count, table[k]);
-                                let view = View {
-                                    start: st.start,
-                                    channels: count,
-                                    sequences,
-                                    little: st.little,
-                                    place: start,
-                                    octets: l.octets,
-                                    below: l.below,
-                                    settings,
-                                };
-                                found = keep(frames == asked.frame, view, found);
-                                size = size
-                                    + frame_size(sequences, l.groups, sequences as u64 * l.octets);
-                                st = after;
-                                frames = frames + 1;
-                            }
-                        }
-                    }
-                    Effect::Refused(number) => {
-                        return refused_scan(Refusal {
-                            number,
-                            place: place_of(item),
-                        });
-                    }
-                }
-            }
-        }
-    }
-}
-
 // Checks a file: the number of its frames, or its refusal.
 pub fn check(s: &[u8]) -> Checked
     ensures { λ r. ⌜ r ≡ checkOf (now (s .entry)) ⌝ }
 {
-    let pass = scan_file(
+    let pass = pass::scan_file(
         s,
         Asked {
             frame: 0,
@@ -319,7 +70,7 @@ pub enum LookedUp {
 pub fn look_up(s: &[u8], frame: u32, channel: u32) -> LookedUp
     ensures { λ r. ⌜ r ≡ seenOf (now (s .entry)) frame channel ⌝ }
 {
-    let pass = scan_file(s, Asked { frame, channel });
+    let pass = pass::scan_file(s, Asked { frame, channel });
     let checked = pass.checked;
     let Checked::Frames(n) = checked else {
         let Checked::Refused(x) = checked else {

@@ -15,14 +15,14 @@ use Rattle.layout.specs.Frame.{blockOctets, sequenceOctets, octetsBelow, widthA
 use Rattle.stores.specs.Number.{be}
 use Rattle.stores.specs.Length.{holding, shortest}
 use Rattle.laid.specs.Laid.{block, sequence, laidFrom, laid}
-use Rattle.reader.specs.declared.Checked.{Checked}
-use Rattle.reader.specs.declared.Checked.the-variants.{Frames}
+use Rattle.pass.specs.declared.Checked.{Checked}
+use Rattle.pass.specs.declared.Checked.the-variants.{Frames}
 use Rattle.reader.specs.declared.Described.{Described}
 use Rattle.reader.specs.declared.Sampled.{Sampled}
 use Rattle.reader.specs.declared.Sampled.the-variants.{Sample}
 use Rattle.effects.specs.Framing.{channelsOf, sequencesOf, pointerFits, pointerAfter, framedAs}
 use Rattle.effects.specs.Effects.{orderEffect, countEffect, sequencesEffect, startEffect, compressedEffect, allEffect, oneEffect, rootEffect, plainEffect, memberEffect, groupEffect, effectOf}
-use Rattle.reader.specs.Verdict.{oneChanged, withFrame, carried, placeAt, afterItem, interpret, verdict, checkedAs, checkOf}
+use Rattle.pass.specs.Verdict.{oneChanged, withFrame, carried, placeAt, afterItem, interpret, verdict, checkedAs, checkOf}
 use Rattle.reader.specs.Answer.{offsetBits, attributesIn, describedIn, attributesOf, sampleIn, sampledIn, sampleOf}
 use Rattle.canonical.specs.Recording.{settled, sampleBits, tabulate, recordedFrame, recording}
 use Rattle.canonical.specs.Canonical.{item as itemOctets, numberItem, unsignedOf, channelOctets, scaleItem, nullItem, groupItems, groupOctets, groupsOctets, sequencesItem, waveformOf, frameOctets, framesOctets, canonical}

@@ -25,7 +25,7 @@ use Rattle.items.specs.Refusals.{bufferShort}
 use Rattle.items.specs.Walk.{refusal}
 use Rattle.layout.specs.Frame.{Frame}
 use Rattle.effects.specs.Framing.{octetsLimit}
-use Rattle.reader.specs.Verdict.{Verdict, accepted, refused, verdict, checkOf}
+use Rattle.pass.specs.Verdict.{Verdict, accepted, refused, verdict, checkOf}
 use Rattle.reader.proofs.Ordered.{accepted-few}
 use Rattle.canonical.specs.declared.Written.{Written}
 use Rattle.canonical.specs.Recording.{Recorded, recordedFrame, recording}

@@ -12,10 +12,10 @@ use Rattle.items.specs.declared.Refusal.{Refusal}
 use Rattle.items.specs.Refusals.{fileLimit}
 use Rattle.items.specs.Walk.{refusal, itemsOf}
 use Rattle.layout.specs.Frame.{Frame}
-use Rattle.reader.specs.declared.Checked.{Checked}
+use Rattle.pass.specs.declared.Checked.{Checked}
 use Rattle.reader.specs.declared.Described.{Described}
 use Rattle.effects.specs.Framing.{octetsLimit}
-use Rattle.reader.specs.Verdict.{firstState, accepted, refused, interpret, verdict, checkOf}
+use Rattle.pass.specs.Verdict.{firstState, accepted, refused, interpret, verdict, checkOf}
 use Rattle.reader.specs.Answer.{attributesIn, attributesOf}
 use Rattle.canonical.specs.declared.Written.{Written}
 use Rattle.canonical.specs.Canonical.{canonical}

@@ -20,7 +20,7 @@ use Rattle.layout.specs.Frame.{Frame, widthIn, sequenceOctets, channelIn, sampl
 use Rattle.laid.specs.Laid.{Named, Covered, sampleIn}
 use Rattle.laid.proofs.Places.{offset-inside, offset-apart, offset-covers}
 use Rattle.reader.specs.declared.Sampled.the-variants.{Sample}
-use Rattle.reader.specs.Verdict.{accepted, verdict}
+use Rattle.pass.specs.Verdict.{accepted, verdict}
 use Rattle.reader.specs.Answer.{sampleOf, sampleIn as answerIn}
 use Rattle.reader.proofs.Ordered.{endOf, accepted-lies, accepted-ordered}
 use Rattle.theorems.proofs.Questions.{frameAt, sample-answered}

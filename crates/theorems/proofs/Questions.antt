@@ -21,16 +21,17 @@ use Rattle.items.specs.declared.Refusal.{Refusal}
 use Rattle.items.specs.Refusals.{fileLimit, noFrame, noChannel, noSample}
 use Rattle.items.specs.Walk.{refusal, itemsOf}
 use Rattle.layout.specs.Frame.{Frame, samplesOf}
-use Rattle.reader.specs.declared.Checked.{Checked}
+use Rattle.pass.specs.declared.Checked.{Checked}
 use Rattle.reader.specs.declared.Attributes.{Attributes}
 use Rattle.reader.specs.declared.Described.{Described}
 use Rattle.reader.specs.declared.Sampled.{Sampled}
 use Rattle.effects.specs.Framing.{octetsLimit}
-use Rattle.reader.specs.Verdict.{firstState, Verdict, accepted, refused, interpret, verdict, checkedAs, checkOf}
+use Rattle.pass.specs.Verdict.{firstState, Verdict, accepted, refused, interpret, verdict, checkedAs, checkOf}
 use Rattle.reader.proofs.Never.{only-limit}
 use Rattle.canonical.specs.declared.Written.{Written}
 use Rattle.canonical.specs.Write.{writtenIn, writtenOf}
-use Rattle.reader.specs.Answer.{zeroFrame, attributesIn, describedIn, attributesOf, sampleIn, sampledIn, sampleOf}
+use Rattle.pass.specs.Scan.{zeroFrame}
+use Rattle.reader.specs.Answer.{attributesIn, describedIn, attributesOf, sampleIn, sampledIn, sampleOf}
 
 -- ---- three tests
 

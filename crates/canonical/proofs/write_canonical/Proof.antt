@@ -8,7 +8,7 @@ use Rattle.canonical.proofs.write_canonical.Tie as tie
 use Rattle.canonical.proofs.write_canonical.Reads as reads
 use Rattle.canonical.proofs.write_canonical.Lts as lts
 use Rattle.canonical.proofs.write_frames.Reads as write-frames-reads
-use Rattle.reader.proofs.scan_file.Reads as scan-file-reads
+use Rattle.pass.proofs.scan_file.Reads as scan-file-reads
 
 -- src/lib.rt:334:9
 scan-file-requires : tie.Need-scan-file-requires

@@ -14,9 +14,9 @@ use Rattle.settings.proofs.Mapped.{mapped, mapped-put}
 use Rattle.standing.specs.declared.Standing.{Standing}
 use Rattle.standing.specs.Standing.{withStart}
 use Rattle.stores.proofs.Stores.{put-long}
-use Rattle.reader.specs.Verdict.{carried, withFrame}
-use Rattle.reader.proofs.Steps.{count-found}
-use Rattle.reader.proofs.Scans.{Filling, filling-none, filling-more, reach-few, reached-one, reached-frame, records-set, records-mapped, mapped-own, does-nothing, does-order, does-count, does-sequences, does-start, does-all, does-one, does-outside, carried-by, found-as, framed-found, Summing, summing-none, summing-more, summed-up, reached-count}
+use Rattle.pass.specs.Verdict.{carried, withFrame}
+use Rattle.pass.proofs.Steps.{count-found}
+use Rattle.pass.proofs.Scans.{Filling, filling-none, filling-more, reach-few, reached-one, reached-frame, records-set, records-mapped, mapped-own, does-nothing, does-order, does-count, does-sequences, does-start, does-all, does-one, does-outside, carried-by, found-as, framed-found, Summing, summing-none, summing-more, summed-up, reached-count}
 use Rattle.canonical.proofs.Writing.{Going, head-put, going-first, going-filled, going-goes, going-carried, going-ready, going-room, going-frame, written-end, never-fault, never-refuses}
 use Rattle.canonical.proofs.write_frames.Statement.{statement}
 use Rattle.canonical.proofs.write_frames.Tie as tie

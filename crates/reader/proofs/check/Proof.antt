@@ -5,7 +5,7 @@ use Rattle.reader.proofs.check.Statement.{statement}
 use Rattle.reader.proofs.check.Tie as tie
 use Rattle.reader.proofs.check.Reads as reads
 use Rattle.reader.proofs.check.Lts as lts
-use Rattle.reader.proofs.scan_file.Reads as scan-file-reads
+use Rattle.pass.proofs.scan_file.Reads as scan-file-reads
 
 -- src/lib.rt:640:9
 scan-file-requires : tie.Need-scan-file-requires

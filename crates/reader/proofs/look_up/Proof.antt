@@ -6,7 +6,7 @@ use Rattle.reader.proofs.look_up.Statement.{statement}
 use Rattle.reader.proofs.look_up.Tie as tie
 use Rattle.reader.proofs.look_up.Reads as reads
 use Rattle.reader.proofs.look_up.Lts as lts
-use Rattle.reader.proofs.scan_file.Reads as scan-file-reads
+use Rattle.pass.proofs.scan_file.Reads as scan-file-reads
 
 -- src/lib.rt:661:9
 scan-file-requires : tie.Need-scan-file-requires

@@ -5,7 +5,7 @@ use Prim.Native.Nat.{ℕ, _+_, _*_, _/_, _%_, _≤_, _<_, _^_}
 use mathlib.Core.Path.{_≡_, ap, sym, _∙_}
 use Rattle.layout.specs.Frame.{widthIn}
 use Rattle.reader.specs.Answer.{placeSeen}
-use Rattle.reader.specs.declared.View.{View}
+use Rattle.pass.specs.declared.View.{View}
 use borrow.Author.Needs.{needs}
 use Rattle.reader.proofs.place_seen.Statement.{statement}
 use Rattle.reader.proofs.place_seen.Tie as tie

@@ -25,7 +25,7 @@ use Rattle.items.proofs.Walks.{next-later, items-found, items-end, items-refuse
 use Rattle.layout.specs.Frame.{Frame}
 use Rattle.effects.specs.Effects.{effectOf}
 use Rattle.effects.specs.Framing.{octetsLimit}
-use Rattle.reader.specs.Verdict.{State, firstState, Outcome, goes, refuses, carried, placeAt, Verdict, accepted, refused, afterItem, interpret, verdict}
+use Rattle.pass.specs.Verdict.{State, firstState, Outcome, goes, refuses, carried, placeAt, Verdict, accepted, refused, afterItem, interpret, verdict}
 
 -- What an item does.
 abbrev pub meaning : List ℕ → State → Item → Outcome

@@ -2,10 +2,10 @@
 use mathlib.Core.Path.{_≡_, ap, sym, _∙_}
 use borrow.Author.Tests.{lt-ltb, le-ltb, eq-eqb, ne-eqb}
 use native.Mathlib.Omega.{arith}
-use Rattle.reader.proofs.sequences_size.Statement.{statement}
-use Rattle.reader.proofs.sequences_size.Tie as tie
-use Rattle.reader.proofs.sequences_size.Reads as reads
-use Rattle.reader.proofs.sequences_size.Lts as lts
+use Rattle.pass.proofs.sequences_size.Statement.{statement}
+use Rattle.pass.proofs.sequences_size.Tie as tie
+use Rattle.pass.proofs.sequences_size.Reads as reads
+use Rattle.pass.proofs.sequences_size.Lts as lts
 
 -- src/lib.rt:506:1
 returns : tie.Need-returns

@@ -2,10 +2,10 @@
 use mathlib.Core.Path.{_≡_, ap, sym, _∙_}
 use borrow.Author.Tests.{lt-ltb, le-ltb, eq-eqb, ne-eqb}
 use native.Mathlib.Omega.{arith}
-use Rattle.reader.proofs.length_size.Statement.{statement}
-use Rattle.reader.proofs.length_size.Tie as tie
-use Rattle.reader.proofs.length_size.Reads as reads
-use Rattle.reader.proofs.length_size.Lts as lts
+use Rattle.pass.proofs.length_size.Statement.{statement}
+use Rattle.pass.proofs.length_size.Tie as tie
+use Rattle.pass.proofs.length_size.Reads as reads
+use Rattle.pass.proofs.length_size.Lts as lts
 
 -- src/lib.rt:491:9
 returns : tie.Need-returns

@@ -1,11 +1,11 @@
 -- By the arm of the match.
 use mathlib.Core.Path.{_≡_, ap, sym, _∙_}
-use Rattle.reader.specs.Verdict.{placeAt}
+use Rattle.pass.specs.Verdict.{placeAt}
 use borrow.Author.Needs.{needs}
-use Rattle.reader.proofs.place_of.Statement.{statement}
-use Rattle.reader.proofs.place_of.Tie as tie
-use Rattle.reader.proofs.place_of.Reads as reads
-use Rattle.reader.proofs.place_of.Lts as lts
+use Rattle.pass.proofs.place_of.Statement.{statement}
+use Rattle.pass.proofs.place_of.Tie as tie
+use Rattle.pass.proofs.place_of.Reads as reads
+use Rattle.pass.proofs.place_of.Lts as lts
 
 -- src/lib.rt:469:13
 enum-known-item : tie.Need-enum-known-item

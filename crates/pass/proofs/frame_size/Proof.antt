@@ -3,12 +3,12 @@ use mathlib.Core.Path.{_≡_, ap, sym, _∙_}
 use native.Mathlib.Omega.{arith}
 use Rattle.layout.specs.Size.{frameSize}
 use borrow.Author.Needs.{needs}
-use Rattle.reader.proofs.frame_size.Statement.{statement}
-use Rattle.reader.proofs.frame_size.Tie as tie
-use Rattle.reader.proofs.frame_size.Reads as reads
-use Rattle.reader.proofs.frame_size.Lts as lts
-use Rattle.reader.proofs.length_size.Reads as length-size-reads
-use Rattle.reader.proofs.sequences_size.Reads as sequences-size-reads
+use Rattle.pass.proofs.frame_size.Statement.{statement}
+use Rattle.pass.proofs.frame_size.Tie as tie
+use Rattle.pass.proofs.frame_size.Reads as reads
+use Rattle.pass.proofs.frame_size.Lts as lts
+use Rattle.pass.proofs.length_size.Reads as length-size-reads
+use Rattle.pass.proofs.sequences_size.Reads as sequences-size-reads
 
 -- src/lib.rt:517:10
 sequences-size-requires : tie.Need-sequences-size-requires

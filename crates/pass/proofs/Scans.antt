@@ -42,19 +42,19 @@ use Rattle.standing.specs.declared.Standing.{Standing}
 use Rattle.effects.specs.declared.Effect.{Effect}
 use Rattle.effects.specs.declared.Framed.{Framed}
 use Rattle.effects.specs.declared.Framed.the-variants.{Taken}
-use Rattle.reader.specs.declared.Asked.{Asked}
-use Rattle.reader.specs.declared.View.{View}
-use Rattle.reader.specs.declared.Found.{Found}
-use Rattle.reader.specs.declared.Found.the-variants.{Nothing}
-use Rattle.reader.specs.declared.Checked.{Checked}
-use Rattle.reader.specs.declared.Scan.{Scan}
+use Rattle.pass.specs.declared.Asked.{Asked}
+use Rattle.pass.specs.declared.View.{View}
+use Rattle.pass.specs.declared.Found.{Found}
+use Rattle.pass.specs.declared.Found.the-variants.{Nothing}
+use Rattle.pass.specs.declared.Checked.{Checked}
+use Rattle.pass.specs.declared.Scan.{Scan}
 use Rattle.standing.specs.Standing.{firstStanding, withOrder, withCount, withSequences, withStart, withRoot, withContinued}
 use Rattle.effects.specs.Effects.{valueAt, effectOf}
 use Rattle.effects.specs.Reach.{reachOf}
 use Rattle.effects.specs.Framing.{octetsLimit, framesLimit, channelsOf, sequencesOf, pointerFits, pointerAfter, framedAs}
-use Rattle.reader.specs.Verdict.{State, state, firstState, Outcome, goes, refuses, oneChanged, frameChannels, frameAt, withFrame, carried, placeAt, Verdict, accepted, refused, afterItem, interpret, verdict}
-use Rattle.reader.proofs.Keeps.{interpret-goes, interpret-refuses}
-use Rattle.reader.specs.Answer.{zeroFrame, viewOf, foundIn, sizeOf, sizes, refusedScan, scannedIn, scanOf}
+use Rattle.pass.specs.Verdict.{State, state, firstState, Outcome, goes, refuses, oneChanged, frameChannels, frameAt, withFrame, carried, placeAt, Verdict, accepted, refused, afterItem, interpret, verdict}
+use Rattle.pass.proofs.Keeps.{interpret-goes, interpret-refuses}
+use Rattle.pass.specs.Scan.{zeroFrame, viewOf, foundIn, sizeOf, sizes, refusedScan, scannedIn, scanOf}
 
 -- ---- a frame that is taken
 

@@ -32,8 +32,8 @@ use Rattle.effects.specs.declared.Framed.{Framed}
 use Rattle.standing.specs.Standing.{withOrder, withCount, withSequences, withStart, withRoot, withContinued}
 use Rattle.effects.specs.Effects.{orderEffect, countEffect, sequencesEffect, startEffect, compressedEffect, allEffect, oneEffect, rootEffect, plainEffect, memberEffect, groupEffect, valueAt, effectOf}
 use Rattle.effects.specs.Framing.{octetsLimit, framesLimit, sequencesOf, pointerFits, pointerAfter, framedAs}
-use Rattle.reader.specs.Verdict.{State, state, Outcome, goes, refuses, oneChanged, frameChannels, frameAt, withFrame, carried}
-use Rattle.reader.proofs.Keeps.{meaning}
+use Rattle.pass.specs.Verdict.{State, state, Outcome, goes, refuses, oneChanged, frameChannels, frameAt, withFrame, carried}
+use Rattle.pass.proofs.Keeps.{meaning}
 
 -- ---- definitions
 

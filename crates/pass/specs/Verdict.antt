@@ -13,8 +13,8 @@ use Rattle.settings.specs.Settings.{channelLimit, defaultTable, zeroSettings, a
 use Rattle.standing.specs.declared.Standing.{Standing}
 use Rattle.effects.specs.declared.Effect.{Effect}
 use Rattle.effects.specs.declared.Framed.{Framed}
-use Rattle.reader.specs.declared.Checked.{Checked}
-use Rattle.reader.specs.declared.Checked.the-variants.{Frames}
+use Rattle.pass.specs.declared.Checked.{Checked}
+use Rattle.pass.specs.declared.Checked.the-variants.{Frames}
 use Rattle.standing.specs.Standing.{firstStanding, withOrder, withCount, withSequences, withStart, withRoot}
 use Rattle.effects.specs.Effects.{valueAt, effectOf}
 use Rattle.layout.specs.Frame.{Frame, sequenceOctets, allAgree}

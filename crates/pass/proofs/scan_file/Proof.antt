@@ -16,13 +16,13 @@ use Rattle.standing.specs.Standing.{withStart}
 use lib.Dec.{ltb}
 use Rattle.octets.specs.Pick.{pick}
 use Rattle.settings.specs.Settings.{defaultSettings}
-use Rattle.reader.specs.Verdict.{carried, withFrame}
-use Rattle.reader.proofs.Steps.{count-found}
-use Rattle.reader.proofs.Scans.{Filling, filling-none, filling-more, reach-few, reached-one, reached-frame, records-set, records-mapped, mapped-own, does-nothing, does-order, does-count, does-sequences, does-start, does-all, does-one, does-outside, carried-by, found-as, framed-found, Summing, summing-none, summing-more, summed-up, reached-count, Passing, passing-first, passing-filled, passing-goes, passing-carried, passing-groups, passing-frame, scanned-large, scanned-end, scanned-fault, scanned-refuses, view-read}
-use Rattle.reader.proofs.scan_file.Statement.{statement}
-use Rattle.reader.proofs.scan_file.Tie as tie
-use Rattle.reader.proofs.scan_file.Reads as reads
-use Rattle.reader.proofs.scan_file.Lts as lts
+use Rattle.pass.specs.Verdict.{carried, withFrame}
+use Rattle.pass.proofs.Steps.{count-found}
+use Rattle.pass.proofs.Scans.{Filling, filling-none, filling-more, reach-few, reached-one, reached-frame, records-set, records-mapped, mapped-own, does-nothing, does-order, does-count, does-sequences, does-start, does-all, does-one, does-outside, carried-by, found-as, framed-found, Summing, summing-none, summing-more, summed-up, reached-count, Passing, passing-first, passing-filled, passing-goes, passing-carried, passing-groups, passing-frame, scanned-large, scanned-end, scanned-fault, scanned-refuses, view-read}
+use Rattle.pass.proofs.scan_file.Statement.{statement}
+use Rattle.pass.proofs.scan_file.Tie as tie
+use Rattle.pass.proofs.scan_file.Reads as reads
+use Rattle.pass.proofs.scan_file.Lts as lts
 use Rattle.standing.proofs.Standing.first.Reads as Standing-first-reads
 use Rattle.standing.proofs.Standing.with_count.Reads as with-count-reads
 use Rattle.standing.proofs.Standing.with_order.Reads as with-order-reads
@@ -38,12 +38,12 @@ use Rattle.items.proofs.Cursor.renewed.Reads as renewed-reads
 use Rattle.items.proofs.next_item.Reads as next-item-reads
 use Rattle.layout.proofs.Layout.more.Reads as more-reads
 use Rattle.layout.proofs.Layout.none.Reads as none-reads
-use Rattle.reader.proofs.frame_size.Reads as frame-size-reads
-use Rattle.reader.proofs.index.Reads as index-reads
-use Rattle.reader.proofs.keep.Reads as keep-reads
-use Rattle.reader.proofs.place_of.Reads as place-of-reads
-use Rattle.reader.proofs.refused_scan.Reads as refused-scan-reads
-use Rattle.reader.proofs.seen.Reads as seen-reads
+use Rattle.pass.proofs.frame_size.Reads as frame-size-reads
+use Rattle.pass.proofs.index.Reads as index-reads
+use Rattle.pass.proofs.keep.Reads as keep-reads
+use Rattle.pass.proofs.place_of.Reads as place-of-reads
+use Rattle.pass.proofs.refused_scan.Reads as refused-scan-reads
+use Rattle.pass.proofs.seen.Reads as seen-reads
 use Rattle.settings.proofs.Settings.table.Reads as table-reads
 use Rattle.settings.proofs.apply.Reads as apply-reads
 
