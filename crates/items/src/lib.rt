@@ -399,7 +399,7 @@ fn left(at: usize, end: usize) -> usize
 }
 
 // The octets up to the end of the file or of the definite group around.
-fn rest(s: &[u8], at: usize, within: Within) -> &[u8]
+pub fn rest(s: &[u8], at: usize, within: Within) -> &[u8]
     ensures { λ r. ⌜ now r ≡ extent (now (s .entry)) at within ⌝ }
 {
     match within {

@@ -18,7 +18,9 @@ use Rattle.settings.specs.declared.Tagged.{Tagged}
 use Rattle.settings.specs.declared.Tagged.the-variants.{Defines, Other}
 use Rattle.settings.specs.declared.Defined.{Defined}
 use Rattle.settings.specs.declared.Defined.the-variants.{Changed, Refused}
-use Rattle.settings.specs.Settings.{blockLimit, lastKind, lastIntervalUnit, lastResolutionUnit}
+use Rattle.settings.specs.declared.Settled.{Settled}
+use Rattle.settings.specs.declared.Settled.the-variants.{Record}
+use Rattle.settings.specs.Settings.{applied, blockLimit, lastKind, lastIntervalUnit, lastResolutionUnit}
 
 -- The column "Tag": 04, 08, 09, 0A, 0B, 0C, 0D, 12 may stand in a group.
 unfoldable pub tagged : ℕ → Tagged
@@ -113,3 +115,8 @@ defined a little base v =
     pick (not (lengthFits a (length v))) (Refused unfitLength)
     (pick (eqb (length v) 0) (Changed (standingIn a base))
     (pick (inRange (changeOf a little v)) (Changed (changeOf a little v)) (Refused unfitValue)))
+
+-- The record that a definition leaves, or its refusal.
+unfoldable pub settledAs : Settings → Defined → Settled
+settledAs s (Changed c) = Record (applied c s)
+settledAs s (Refused number) = Settled.Refused number

@@ -2,12 +2,12 @@
 // one way in which a definition changes them.
 //
 // Promises, for any octets at all: `define` answers the change that a definition asks for, or 6 or 7; `apply` carries a change out in
-// one record. A new attribute is one more case of `Attribute` and `Change`.
+// one record; `settle` does both at once. A new attribute is one more case of `Attribute` and `Change`.
 // Read first: specs/Settings.antt, then specs/Define.antt.
 ghost use mathlib.Core.Path.{_≡_};
 ghost use lib.ListN.{getD};
 ghost use Rattle.settings.specs.Settings.{defaultSettings, defaultTable, applied};
-ghost use Rattle.settings.specs.Define.{tagged, scaleLength, bitsLength, lengthFits, standingIn, scaleOf, bitsOf, changeOf, blockFits, scaleFits, inRange, defined};
+ghost use Rattle.settings.specs.Define.{tagged, scaleLength, bitsLength, lengthFits, standingIn, scaleOf, bitsOf, changeOf, blockFits, scaleFits, inRange, defined, settledAs};
 use items::Refusal;
 use values::Bits;
 
@@ -23,9 +23,9 @@ pub struct Settings {
     pub block: u32,
     pub class: u16,
     pub lead: u16,
-    pub kind: u8,
     pub interval: Scale,
     pub resolution: Scale,
+    pub kind: u8,
     pub offset: Bits,
     pub null: Bits,
 }
@@ -295,5 +295,65 @@ pub fn define(a: Attribute, v: &[u8], little: bool, base: Settings) -> Defined
         Defined::Changed(c)
     } else {
         Defined::Refused(Refusal::VALUE)
+    }
+}
+
+// The same scale and the same bits, put together from their parts.
+fn scale_renewed(x: Scale) -> Scale
+    ensures { λ r. ⌜ r ≡ x ⌝ }
+{
+    Scale {
+        unit: x.unit,
+        exponent: x.exponent,
+        mantissa: x.mantissa,
+    }
+}
+
+fn bits_renewed(x: Bits) -> Bits
+    ensures { λ r. ⌜ r ≡ x ⌝ }
+{
+    Bits {
+        width: x.width,
+        bits: x.bits,
+    }
+}
+
+// The same change, put together from its parts, for the reason that `items::Cursor::renewed` has.
+fn renewed(c: Change) -> Change
+    ensures { λ r. ⌜ r ≡ c ⌝ }
+{
+    match c {
+        Change::Block(n) => Change::Block(n),
+        Change::Class(n) => Change::Class(n),
+        Change::Lead(n) => Change::Lead(n),
+        Change::Kind(n) => Change::Kind(n),
+        Change::Interval(x) => Change::Interval(scale_renewed(x)),
+        Change::Resolution(x) => Change::Resolution(scale_renewed(x)),
+        Change::Offset(x) => Change::Offset(bits_renewed(x)),
+        Change::Null(x) => Change::Null(bits_renewed(x)),
+    }
+}
+
+// A record after a definition.
+pub enum Settled {
+    Record(Settings),
+    Refused(u8),
+}
+
+// The record s after the definition of an attribute. It is `define` and then `apply`, without a change that is handed on.
+pub fn settle(a: Attribute, v: &[u8], little: bool, base: Settings, s: Settings) -> Settled
+    ensures { λ r. ⌜ r ≡ settledAs s (defined a «little» base (now (v .entry))) ⌝ }
+{
+    if !length_fits(a, v.len()) {
+        return Settled::Refused(Refusal::LENGTH);
+    }
+    if v.len() == 0 {
+        return Settled::Record(apply(s, standing_in(a, base)));
+    }
+    let c = renewed(change_of(a, v, little));
+    if in_range(c) {
+        Settled::Record(apply(s, c))
+    } else {
+        Settled::Refused(Refusal::VALUE)
     }
 }
