@@ -87,10 +87,20 @@ fn channel_from(u: &[u8], at: usize, allowed: u32, value: u32) -> Channel
     }
 }
 
-// The channel number at the front of u, of at most four octets.
+// The channel number at the front of u, of at most four octets. Mostly it is one octet.
 fn channel_number(u: &[u8]) -> Channel
     ensures { λ r. ⌜ r ≡ channelOf 4 0 0 (now (u .entry)) ⌝ }
 {
+    if u.len() == 0 {
+        return Channel::PastEnd;
+    }
+    let b = u[0];
+    if b < 128 {
+        return Channel::Number {
+            value: b as u32,
+            octets: 1,
+        };
+    }
     channel_from(u, 0, 4, 0)
 }
 
