@@ -7,7 +7,7 @@ ghost use mathlib.Core.Path.{_≡_};
 ghost use Prim.Native.Nat.{_+_, _%_, _^_};
 ghost use lib.Dec.{ltb};
 ghost use Rattle.octets.specs.Pick.{pick, both};
-ghost use Rattle.layout.specs.Frame.{blockOctets, widthAgrees, channelAgrees};
+ghost use Rattle.layout.specs.Frame.{widthIn, blockOctets, widthAgrees, channelAgrees};
 ghost use Rattle.layout.specs.Size.{channelSize, nullSize, groupSize};
 ghost use Rattle.layout.specs.Measure.{noLayout, Small, More};
 use settings::Settings;
@@ -21,11 +21,11 @@ pub struct Layout {
     pub groups: u64,
 }
 
-// Block length times octets per sample, below 2^36.
-fn block_octets(c: Settings) -> u64
+// Block length times octets per sample, below 2^36. In what follows w is the octets per sample of channel c.
+fn block_octets(c: Settings, w: usize) -> u64
+    requires { ⌜ w ≡ widthIn c ⌝ }
     ensures { λ r. ⌜ Small (blockOctets c) r ⌝ }
 {
-    let w = values::width(c.kind);
     c.block as u64 * w as u64
 }
 
@@ -37,12 +37,12 @@ fn width_agrees(w: usize, b: Bits) -> bool
 }
 
 // A channel's offset and null have its sample width, where they are defined.
-fn channel_agrees(c: Settings) -> bool
+fn channel_agrees(c: Settings, w: usize) -> bool
+    requires { ⌜ w ≡ widthIn c ⌝ }
     ensures { λ r. ⌜ r ≡ channelAgrees c ⌝ }
 {
     let offset = c.offset;
     let null = c.null;
-    let w = values::width(c.kind);
     if width_agrees(w, offset) {
         return width_agrees(w, null);
     }
@@ -57,23 +57,24 @@ fn channel_size(k: usize) -> u64
 }
 
 // The octets of a null's value.
-fn null_size(c: Settings) -> u64
+fn null_size(c: Settings, w: usize) -> u64
+    requires { ⌜ w ≡ widthIn c ⌝ }
     ensures { λ r. ⌜ r ≡ nullSize c ⌝ }
 {
     let null = c.null;
     if null.width == 0 {
         return 0;
     }
-    values::width(c.kind) as u64
+    w as u64
 }
 
 // The octets of channel k's group in the canonical file.
-fn group_size(k: usize, c: Settings) -> u64
+fn group_size(k: usize, c: Settings, w: usize) -> u64
+    requires { ⌜ w ≡ widthIn c ⌝ }
     ensures { λ r. ⌜ Small (groupSize k c) r ⌝ }
 {
-    let w = values::width(c.kind) as u64;
-    let null = null_size(c);
-    2 + channel_size(k) + (37 + w + null)
+    let null = null_size(c, w);
+    2 + channel_size(k) + (37 + w as u64 + null)
 }
 
 // Octets of a channel that lies below another one are added.
@@ -111,12 +112,13 @@ impl Layout {
     pub fn more(self, i: usize, channel: u32, c: Settings) -> Layout
         ensures { λ r. ⌜ More i channel c self r ⌝ }
     {
-        let octets = block_octets(c);
+        let w = values::width(c.kind);
+        let octets = block_octets(c, w);
         Layout {
-            agree: agree_both(self.agree, channel_agrees(c)),
+            agree: agree_both(self.agree, channel_agrees(c, w)),
             octets: std::num::wrapping_add_u64(self.octets, octets),
             below: added_below(i, channel, self.below, octets),
-            groups: std::num::wrapping_add_u64(self.groups, group_size(i, c)),
+            groups: std::num::wrapping_add_u64(self.groups, group_size(i, c, w)),
         }
     }
 }

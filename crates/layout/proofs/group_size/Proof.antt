@@ -1,37 +1,24 @@
 -- Its parts are small: a width is at most 8.
-use mathlib.Core.Path.{_≡_, ap, sym, _∙_}
-use Prim.Native.Nat.{ℕ, _≤_, _+_}
+use mathlib.Core.Path.{_≡_}
+use Prim.Native.Nat.{ℕ, _≤_}
 use native.Mathlib.Omega.{arith}
 use lib.Dec.{ltb, eqb}
-use Rattle.octets.specs.Pick.{pick}
 use Rattle.octets.proofs.Pick.{pick-cases}
 use Rattle.values.proofs.Laws.{width-le}
-use Rattle.values.specs.Sample.{widthOf}
 use Rattle.settings.specs.declared.Settings.{Settings}
 use Rattle.layout.specs.Frame.{widthIn}
 use Rattle.layout.specs.Size.{channelSize, nullSize, groupSize}
 use borrow.Author.Needs.{needs}
 use Rattle.layout.proofs.group_size.Statement.{statement}
 use Rattle.layout.proofs.group_size.Tie as tie
-use Rattle.layout.proofs.group_size.Reads as reads
-use Rattle.layout.proofs.group_size.Lts as lts
-use Rattle.layout.proofs.channel_size.Reads as channel-size-reads
-use Rattle.layout.proofs.null_size.Reads as null-size-reads
-use Rattle.values.proofs.width.Reads as width-reads
 
--- src/lib.rt:76:13
-width-requires : tie.Need-width-requires
-width-requires c κs = search needs
-
--- src/lib.rt:77:9
 null-size-requires : tie.Need-null-size-requires
 null-size-requires c κs = search needs
 
--- src/lib.rt:78:9
 channel-size-requires : tie.Need-channel-size-requires
 channel-size-requires c κs = search needs
 
-narrow : (c : Settings) (w : ℕ) → w ≡ widthOf (c .kind) → w ≤ 8
+narrow : (c : Settings) (w : ℕ) → w ≡ widthIn c → w ≤ 8
 narrow c w e = rw e (width-le (c .kind))
 
 null-narrow : (c : Settings) (r : ℕ) → r ≡ nullSize c → r ≤ 8
@@ -40,32 +27,26 @@ null-narrow c r e = rw e (pick-cases (λ (n : ℕ). n ≤ 8) (eqb (c .null .widt
 channel-narrow : (k r : ℕ) → r ≡ channelSize k → r ≤ 2
 channel-narrow k r e = rw e (pick-cases (λ (n : ℕ). n ≤ 2) (ltb k 128) (λ _. omega arith) (λ _. omega arith))
 
--- src/lib.rt:78:5
 add-result : tie.Need-add-result
-add-result c = omega (arith, channel-narrow (c .before .before .before .args .k) _ (c .channel-size .ensures))
+add-result c = omega (arith, channel-narrow (c .before .before .args .k) _ (c .channel-size .ensures))
 
--- src/lib.rt:78:28
 add-result-2 : tie.Need-add-result-2
-add-result-2 c = omega (arith, narrow (c .before .before .before .args .c) _ (c .before .before .width .ensures))
+add-result-2 c = omega (arith, narrow (c .before .before .args .c) _ (c .before .before .pre))
 
--- src/lib.rt:78:28
 add-result-3 : tie.Need-add-result-3
-add-result-3 c = omega (arith, narrow (c .before .before .before .args .c) _ (c .before .before .width .ensures), null-narrow (c .before .before .before .args .c) _ (c .before .null-size .ensures))
+add-result-3 c = omega (arith, narrow (c .before .before .args .c) _ (c .before .before .pre), null-narrow (c .before .before .args .c) _ (c .before .null-size .ensures))
 
--- src/lib.rt:78:5
 add-result-4 : tie.Need-add-result-4
-add-result-4 c = omega (arith, channel-narrow (c .before .before .before .args .k) _ (c .channel-size .ensures), narrow (c .before .before .before .args .c) _ (c .before .before .width .ensures), null-narrow (c .before .before .before .args .c) _ (c .before .null-size .ensures))
+add-result-4 c = omega (arith, channel-narrow (c .before .before .args .k) _ (c .channel-size .ensures), narrow (c .before .before .args .c) _ (c .before .before .pre), null-narrow (c .before .before .args .c) _ (c .before .null-size .ensures))
 
--- src/lib.rt:73:1
 returns : tie.Need-returns
 unfolding groupSize
-returns c = record { value = simp (c .channel-size .ensures, c .before .before .width .ensures, c .before .null-size .ensures); below = omega (arith, channel-narrow (c .before .before .before .args .k) _ (c .channel-size .ensures), narrow (c .before .before .before .args .c) _ (c .before .before .width .ensures), null-narrow (c .before .before .before .args .c) _ (c .before .null-size .ensures)) }
+returns c = record { value = simp (c .channel-size .ensures, c .before .before .pre, c .before .null-size .ensures); below = omega (arith, channel-narrow (c .before .before .args .k) _ (c .channel-size .ensures), narrow (c .before .before .args .c) _ (c .before .before .pre), null-narrow (c .before .before .args .c) _ (c .before .null-size .ensures)) }
 
 pub group-size-spec : {M : Type 1} → statement M
 group-size-spec =
     tie.close
     (tie.spec
-    width-requires
     null-size-requires
     channel-size-requires
     add-result
