@@ -1,5 +1,4 @@
 -- What the proofs of several functions use.
 pub mod Placing
-pub mod Octets
 pub mod Walks
 pub mod Reading

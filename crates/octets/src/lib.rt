@@ -3,10 +3,10 @@
 // For the crates that read items, attributes and samples: none of them turns octets into numbers by itself.
 // Promises: each public function answers for every input and its whole answer is a definition of specs/. What lies past
 // the end is not there, and octets past the eighth (of a signed number, the fourth) are not looked at.
-// Read first: specs/Number.antt; then the laws of proofs/Laws.antt, which callers cite.
+// Read first: specs/Number.antt; then the laws of proofs/Laws.antt and proofs/Octets.antt, which callers cite.
 ghost use mathlib.Core.Path.{_≡_};
 ghost use mathlib.Core.Bool.{true, false};
-ghost use Prim.Native.Nat.{_<_, _≤_};
+ghost use Prim.Native.Nat.{_+_, _*_, _<_, _≤_};
 ghost use lib.ListN.{length, take, drop};
 ghost use Rattle.octets.specs.Number.{range, numberOf, twos, signedOf, Read};
 
@@ -60,10 +60,60 @@ fn little_endian(s: &[u8]) -> u64
     n
 }
 
-// The number of the first eight octets.
+// The number of octets, highest first.
+fn two_octets(a: u8, b: u8) -> u64
+    ensures { λ r. ⌜ r ≡ a * 256 + b ⌝ }
+{
+    a as u64 * 256 + b as u64
+}
+
+fn four_octets(a: u8, b: u8, c: u8, d: u8) -> u64
+    ensures { λ r. ⌜ r ≡ ((a * 256 + b) * 256 + c) * 256 + d ⌝ }
+{
+    ((a as u64 * 256 + b as u64) * 256 + c as u64) * 256 + d as u64
+}
+
+// The number of the first two octets, and of the first four. The compiler makes one load of such straight-line reads.
+fn number_two(s: &[u8], little: bool) -> u64
+    requires { ⌜ 2 ≤ length (now s) ⌝ }
+    ensures { λ r. ⌜ r ≡ numberOf «little» (take 2 (now (s .entry))) ⌝ }
+{
+    let a = s[0];
+    let b = s[1];
+    if little {
+        return two_octets(b, a);
+    }
+    two_octets(a, b)
+}
+
+fn number_four(s: &[u8], little: bool) -> u64
+    requires { ⌜ 4 ≤ length (now s) ⌝ }
+    ensures { λ r. ⌜ r ≡ numberOf «little» (take 4 (now (s .entry))) ⌝ }
+{
+    let a = s[0];
+    let b = s[1];
+    let c = s[2];
+    let d = s[3];
+    if little {
+        return four_octets(d, c, b, a);
+    }
+    four_octets(a, b, c, d)
+}
+
+// The number of the first eight octets. Octets of a common width are read with no loop.
 pub fn number(s: &[u8], little: bool) -> u64
     ensures { λ r. ⌜ Read «little» (take 8 (now (s .entry))) r ⌝ }
 {
+    let l = s.len();
+    if l == 1 {
+        return wide(s[0]);
+    }
+    if l == 2 {
+        return number_two(s, little);
+    }
+    if l == 4 {
+        return number_four(s, little);
+    }
     let x = part(s, 0, 8);
     if little {
         little_endian(x)

@@ -1,7 +1,7 @@
 -- The octets at the place make the sample's bits, from the front or from the back.
 use mathlib.Core.Path.{refl}
 use Rattle.octets.specs.Number.{bigFrom}
-use Rattle.bulk.proofs.Octets.{here-big, here-little}
+use Rattle.octets.proofs.Octets.{here-big, here-little}
 use borrow.Author.Needs.{needs}
 use Rattle.bulk.proofs.eight.Statement.{statement}
 use Rattle.bulk.proofs.eight.Tie as tie
