@@ -73,46 +73,30 @@ fn four_octets(a: u8, b: u8, c: u8, d: u8) -> u64
     ((a as u64 * 256 + b as u64) * 256 + c as u64) * 256 + d as u64
 }
 
-// The number of the first two octets, and of the first four. The compiler makes one load of such straight-line reads.
-fn number_two(s: &[u8], little: bool) -> u64
-    requires { ⌜ 2 ≤ length (now s) ⌝ }
-    ensures { λ r. ⌜ r ≡ numberOf «little» (take 2 (now (s .entry))) ⌝ }
-{
-    let a = s[0];
-    let b = s[1];
-    if little {
-        return two_octets(b, a);
-    }
-    two_octets(a, b)
-}
-
-fn number_four(s: &[u8], little: bool) -> u64
-    requires { ⌜ 4 ≤ length (now s) ⌝ }
-    ensures { λ r. ⌜ r ≡ numberOf «little» (take 4 (now (s .entry))) ⌝ }
-{
-    let a = s[0];
-    let b = s[1];
-    let c = s[2];
-    let d = s[3];
-    if little {
-        return four_octets(d, c, b, a);
-    }
-    four_octets(a, b, c, d)
-}
-
 // The number of the first eight octets. Octets of a common width are read with no loop.
 pub fn number(s: &[u8], little: bool) -> u64
     ensures { λ r. ⌜ Read «little» (take 8 (now (s .entry))) r ⌝ }
 {
-    let l = s.len();
-    if l == 1 {
+    if s.len() == 1 {
         return wide(s[0]);
     }
-    if l == 2 {
-        return number_two(s, little);
+    if s.len() == 2 {
+        let a = s[0];
+        let b = s[1];
+        if little {
+            return two_octets(b, a);
+        }
+        return two_octets(a, b);
     }
-    if l == 4 {
-        return number_four(s, little);
+    if s.len() == 4 {
+        let a = s[0];
+        let b = s[1];
+        let c = s[2];
+        let d = s[3];
+        if little {
+            return four_octets(d, c, b, a);
+        }
+        return four_octets(a, b, c, d);
     }
     let x = part(s, 0, 8);
     if little {

@@ -1,3 +1,5 @@
 pub mod Keeps
 pub mod Steps
 pub mod Scans
+pub mod Stretches
+pub mod Ahead

@@ -1,6 +1,5 @@
 -- Laws of the one pass over a file.
 --     framed-with      what is known of a frame that is taken
---     Scanning         the loop's invariant: what is left of the file gives the verdict
 --     scanning-first, -goes, -frame    before the first item, after an item, after a frame
 --     scanned-end, -refuses, -fault    the three ways out
 -- Assumes nothing.
@@ -53,6 +52,7 @@ use Rattle.effects.specs.Effects.{valueAt, effectOf}
 use Rattle.effects.specs.Reach.{reachOf}
 use Rattle.effects.specs.Framing.{octetsLimit, framesLimit, channelsOf, sequencesOf, pointerFits, pointerAfter, framedAs}
 use Rattle.pass.specs.Verdict.{State, state, firstState, Outcome, goes, refuses, oneChanged, frameChannels, frameAt, withFrame, carried, placeAt, Verdict, accepted, refused, afterItem, interpret, verdict}
+use Rattle.pass.specs.Passing.{Scanning}
 use Rattle.pass.proofs.Keeps.{interpret-goes, interpret-refuses}
 use Rattle.pass.specs.Scan.{zeroFrame, viewOf, foundIn, sizeOf, sizes, refusedScan, scannedIn, scanOf}
 
@@ -83,19 +83,6 @@ unfolding channelsOf
 channels-few counted h = pick-cases (λ (n : ℕ). n ≤ channelLimit) (eqb counted 0) (λ _. omega arith) (λ _. h)
 
 -- ---- the pass
-
--- What is known where the pass stands before the item at a cursor.
-pub record Scanning (s : List ℕ) (q : Asked) (table : List Settings) (c : Cursor) (st : Standing) (frames : ℕ) (found : Found) (size : ℕ) : Type 0 where
-  pub long : length s ≤ octetsLimit
-  pub counted : st .counted ≤ channelLimit
-  pub full : length table ≡ channelLimit
-  pub met : List Frame
-  pub count : frames ≡ length met
-  pub limit : frames ≤ framesLimit
-  pub kept : found ≡ foundIn q met
-  pub sized : size ≡ sizes met
-  pub room : size ≤ frames * 2 ^ 32
-  pub same : interpret s (state st table met) (itemsFrom s c) ≡ verdict s
 
 -- Before the first item.
 pub scanning-first : (s : List ℕ) (q : Asked) (table : List Settings) (c : Cursor) (st : Standing) → length s ≤ octetsLimit → table ≡ defaultTable → c ≡ cursor 0 Root → st ≡ firstStanding → Scanning s q table c st 0 Nothing 0

@@ -6,16 +6,19 @@
 ghost use mathlib.Core.Path.{_≡_};
 ghost use Prim.Native.Nat.{_≤_, _<_, min};
 ghost use Rattle.octets.specs.Pick.{pick};
-ghost use Rattle.settings.specs.Settings.{defaultSettings};
+ghost use lib.ListN.{replicate};
+ghost use Rattle.settings.specs.Settings.{defaultSettings, channelLimit};
 ghost use Rattle.layout.specs.Size.{lengthSize, sequencesSize, frameSize};
 ghost use Rattle.pass.specs.Verdict.{placeAt};
 ghost use Rattle.pass.specs.Scan.{refusedScan, scanOf};
+ghost use Rattle.pass.specs.Passing.{Scanning, openedBy, beginsAt};
 use effects::Effect;
 use effects::Framed;
 use items::Cursor;
 use items::Item;
 use items::Next;
 use items::Refusal;
+use items::Within;
 use layout::Layout;
 use settings::Settings;
 use standing::Standing;
@@ -146,24 +149,78 @@ fn keep(asked: bool, view: View, found: Found) -> Found
     if asked { Found::Frame(view) } else { found }
 }
 
-// One pass over a file: its frames counted or its refusal, the frame and channel that are asked for, and the canonical size.
-pub fn scan_file(s: &[u8], asked: Asked) -> Scan
+// The channel of a group that takes effect here; 256 for every other item.
+fn opened(item: Item, counted: u32) -> usize
+    ensures { λ r. ⌜ r ≡ openedBy counted item ⌝ }
+{
+    match item {
+        Item::Plain {
+            place: _,
+            tag: _,
+            start: _,
+            len: _,
+        } => 256,
+        Item::Group { place: _, channel } => {
+            if channel < counted {
+                channel as usize
+            } else {
+                256
+            }
+        }
+        Item::Member {
+            place: _,
+            channel: _,
+            tag: _,
+            start: _,
+            len: _,
+        } => 256,
+        Item::Mark { place: _ } => 256,
+    }
+}
+
+// A stretch of root definitions may begin at a cursor.
+fn begins(s: &[u8], c: Cursor) -> bool
+    ensures { λ r. ⌜ r ≡ beginsAt (now (s .entry)) c ⌝ }
+{
+    let at = c.at;
+    let within = c.within;
+    match within {
+        Within::Root => {
+            if at < s.len() {
+                stretch::stepped_over(s[at])
+            } else {
+                false
+            }
+        }
+        Within::Definite { channel: _, end: _ } => false,
+        Within::Open {
+            channel: _,
+            place: _,
+        } => false,
+    }
+}
+
+// The pass from the first definition in a group on, where all channels hold the root settings.
+fn scan_channels(
+    s: &[u8],
+    asked: Asked,
+    from: Cursor,
+    standing: Standing,
+    met: u32,
+    kept: Found,
+    octets: u64,
+) -> Scan
+    requires { ⌜ Scanning (now s) asked (replicate channelLimit (standing .root)) from standing met kept octets ⌝ }
     ensures { λ r. ⌜ r ≡ scanOf asked (now (s .entry)) ⌝ }
 {
-    if Standing::OCTETS < s.len() {
-        return refused_scan(Refusal {
-            number: Refusal::FILE_LIMIT,
-            place: 0,
-        });
-    }
     let mut table = Settings::table();
     // The first `own` records are kept up; every other channel holds the root settings.
     let mut own = 0usize;
-    let mut c = Cursor::first();
-    let mut st = Standing::first();
-    let mut frames = 0u32;
-    let mut found = Found::Nothing;
-    let mut size = 0u64;
+    let mut c = from;
+    let mut st = standing;
+    let mut frames = met;
+    let mut found = kept;
+    let mut size = octets;
     loop {
         match items::next_item(s, c) {
             Next::End => {
@@ -178,6 +235,24 @@ pub fn scan_file(s: &[u8], asked: Asked) -> Scan
             }
             Next::Found(item, next) => {
                 c = next.renewed();
+                // The definitions at the front of a group are taken as a stretch.
+                let k = opened(item, st.counted);
+                if k < 256 {
+                    let within = c.within;
+                    let root = st.root;
+                    while own <= k {
+                        table[own] = root;
+                        own += 1;
+                    }
+                    let ahead = stretch::along(s, c, st.little, root, table[k]);
+                    let settled = ahead.settings;
+                    table[k] = settled;
+                    c = Cursor {
+                        at: ahead.at,
+                        within,
+                    };
+                    continue;
+                }
                 let effect = effects::item_effect(s, st, item);
                 let root = st.root;
                 let n = effects::reach(effect, st.counted);
@@ -232,6 +307,120 @@ pub fn scan_file(s: &[u8], asked: Asked) -> Scan
                             Framed::Taken(sequences, after) => {
                                 let k = index(asked.channel);
                                 let settings = seen(asked.channel < count, table[k]);
+                                let view = View {
+                                    start: st.start,
+                                    channels: count,
+                                    sequences,
+                                    little: st.little,
+                                    place: start,
+                                    octets: l.octets,
+                                    below: l.below,
+                                    settings,
+                                };
+                                found = keep(frames == asked.frame, view, found);
+                                size = size
+                                    + frame_size(sequences, l.groups, sequences as u64 * l.octets);
+                                st = after;
+                                frames = frames + 1;
+                            }
+                        }
+                    }
+                    Effect::Refused(number) => {
+                        return refused_scan(Refusal {
+                            number,
+                            place: place_of(item),
+                        });
+                    }
+                }
+            }
+        }
+    }
+}
+// One pass over a file: its frames counted or its refusal, the frame and channel that are asked for, and the canonical size.
+pub fn scan_file(s: &[u8], asked: Asked) -> Scan
+    ensures { λ r. ⌜ r ≡ scanOf asked (now (s .entry)) ⌝ }
+{
+    if Standing::OCTETS < s.len() {
+        return refused_scan(Refusal {
+            number: Refusal::FILE_LIMIT,
+            place: 0,
+        });
+    }
+    // Up to the first definition in a group all channels hold the root settings, and no record is needed.
+    let mut c = Cursor::first();
+    let mut st = Standing::first();
+    let mut frames = 0u32;
+    let mut found = Found::Nothing;
+    let mut size = 0u64;
+    loop {
+        if begins(s, c) {
+            let base = Settings::default();
+            let held = st.root;
+            let ahead = stretch::along(s, c, st.little, base, held);
+            if c.at < ahead.at {
+                let settled = ahead.settings;
+                st = st.with_root(settled);
+                c = Cursor {
+                    at: ahead.at,
+                    within: Within::Root,
+                };
+                continue;
+            }
+        }
+        match items::next_item(s, c) {
+            Next::End => {
+                return Scan {
+                    checked: Checked::Frames(frames),
+                    found,
+                    size,
+                };
+            }
+            Next::Refused(x) => {
+                return refused_scan(x);
+            }
+            Next::Found(item, next) => {
+                let here = c;
+                c = next.renewed();
+                let effect = effects::item_effect(s, st, item);
+                let root = st.root;
+                let n = effects::reach(effect, st.counted);
+                match effect {
+                    Effect::Pass => {}
+                    Effect::Order(little) => {
+                        st = st.with_order(little);
+                    }
+                    Effect::Count(counted) => {
+                        st = st.with_count(counted);
+                    }
+                    Effect::Sequences(sequences) => {
+                        st = st.with_sequences(sequences);
+                    }
+                    Effect::Start(start) => {
+                        st = st.with_start(start);
+                    }
+                    Effect::All(change) => {
+                        st = st.with_root(settings::apply(root, change));
+                    }
+                    Effect::One(_, _) => {
+                        return scan_channels(s, asked, here, st, frames, found, size);
+                    }
+                    Effect::Frame { start, len } => {
+                        let count = effects::channels_of(st.counted);
+                        let mut l = Layout::none();
+                        let mut i = 0usize;
+                        while i < n {
+                            l = l.more(i, asked.channel, root);
+                            i += 1;
+                        }
+                        match effects::frame_of(frames, st, l.agree, l.octets, len) {
+                            Framed::Refused(number) => {
+                                return refused_scan(Refusal {
+                                    number,
+                                    place: place_of(item),
+                                });
+                            }
+                            Framed::Taken(sequences, after) => {
+                                let settings = seen(asked.channel < count, root);
                                 let view = View {
                                     start: st.start,
                                     channels: count,

@@ -1,7 +1,7 @@
 -- What a table of n records shows where only its first `own` ones are kept up to date and every other one holds the same: one law for any element.
 --     shown-none, shown-long    before the first one; there are always n
 --     shown-fill    one more record laid down changes nothing
---     shown-map    a change of the records that are kept and of the rest
+--     map-replicate, shown-map    a change of the same everywhere; of the records that are kept and of the rest
 --     shown-set, shown-get, shown-take    a record that is kept, stored and read; the first ones
 -- Assumes nothing.
 use mathlib.Core.Path.{_≡_, refl, ap, sym, _∙_}
@@ -42,7 +42,7 @@ module _ {A : Type 0} where
   pub shown-fill : (n : ℕ) (x : A) (own : ℕ) (t : List A) → length t ≡ n → own < n → shown n x (own + 1) (set t own x) ≡ shown n x own t
   shown-fill n x own t e h = rw (add-one, ← e) (fill x own t (rw e h))
 
-  map-replicate : (f : A → A) (n : ℕ) (x : A) → map f (replicate n x) ≡ replicate n (f x)
+  pub map-replicate : (f : A → A) (n : ℕ) (x : A) → map f (replicate n x) ≡ replicate n (f x)
   map-replicate f zero x = refl
   map-replicate f (suc n) x = ap (λ (u : List A). f x ∷ u) (map-replicate f n x)
 

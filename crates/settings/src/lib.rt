@@ -23,9 +23,9 @@ pub struct Settings {
     pub block: u32,
     pub class: u16,
     pub lead: u16,
+    pub kind: u8,
     pub interval: Scale,
     pub resolution: Scale,
-    pub kind: u8,
     pub offset: Bits,
     pub null: Bits,
 }

@@ -20,7 +20,7 @@ pub struct Stretch {
 }
 
 // The tags of other items that a stretch may hold.
-fn stepped_over(tag: u8) -> bool
+pub fn stepped_over(tag: u8) -> bool
     ensures { λ r. ⌜ r ≡ steppedOver tag ⌝ }
 {
     match tag {

@@ -1,0 +1,45 @@
+-- What a pass knows and asks on its way. None of it is a rule of document 01.
+use mathlib.Core.Path.{_≡_}
+use mathlib.Core.List.{List}
+use mathlib.Core.Bool.{Bool, false}
+use Prim.Native.Nat.{ℕ, _*_, _^_, _≤_}
+use lib.Dec.{ltb}
+use lib.ListN.{length, getD}
+use Rattle.octets.specs.Pick.{pick}
+use Rattle.items.specs.declared.Item.{Item}
+use Rattle.items.specs.declared.Cursor.{Cursor}
+use Rattle.items.specs.Walk.{itemsFrom, isInside}
+use Rattle.settings.specs.declared.Settings.{Settings}
+use Rattle.settings.specs.Settings.{channelLimit}
+use Rattle.layout.specs.Frame.{Frame}
+use Rattle.standing.specs.declared.Standing.{Standing}
+use Rattle.effects.specs.Framing.{octetsLimit, framesLimit}
+use Rattle.stretch.specs.Stretch.{steppedOver}
+use Rattle.pass.specs.declared.Asked.{Asked}
+use Rattle.pass.specs.declared.Found.{Found}
+use Rattle.pass.specs.Verdict.{state, interpret, verdict}
+use Rattle.pass.specs.Scan.{foundIn, sizes}
+
+-- What is known where a pass stands before the item at a cursor: what is left of the file gives the verdict.
+pub record Scanning (s : List ℕ) (q : Asked) (table : List Settings) (c : Cursor) (st : Standing) (frames : ℕ) (found : Found) (size : ℕ) : Type 0 where
+  pub long : length s ≤ octetsLimit
+  pub counted : st .counted ≤ channelLimit
+  pub full : length table ≡ channelLimit
+  pub met : List Frame
+  pub count : frames ≡ length met
+  pub limit : frames ≤ framesLimit
+  pub kept : found ≡ foundIn q met
+  pub sized : size ≡ sizes met
+  pub room : size ≤ frames * 2 ^ 32
+  pub same : interpret s (state st table met) (itemsFrom s c) ≡ verdict s
+
+-- The channel of a group that takes effect here; 256, which is no channel, for every other item.
+unfoldable pub openedBy : ℕ → Item → ℕ
+openedBy counted (Item.Plain place tag start len) = channelLimit
+openedBy counted (Item.Group place channel) = pick (ltb channel counted) channel channelLimit
+openedBy counted (Item.Member place channel tag start len) = channelLimit
+openedBy counted (Item.Mark place) = channelLimit
+
+-- A stretch of root definitions may begin at a cursor.
+unfoldable pub beginsAt : List ℕ → Cursor → Bool
+beginsAt s c = pick (isInside (c .within)) false (pick (ltb (c .at) (length s)) (steppedOver (getD s (c .at) 0)) false)
