@@ -13,7 +13,7 @@ use Rattle.io.specs.Digits.{digits, Fewest}
 use Rattle.stores.specs.Storing.{Putting, put-fits}
 use Rattle.stores.proofs.Stores.{sets-front, put-long, putting-then}
 use Rattle.octets.proofs.Pick.{pick-cases}
-use Rattle.items.specs.declared.Refusal.{Refusal}
+use Rattle.heads.specs.declared.Refusal.{Refusal}
 use Rattle.pass.specs.declared.Checked.{Checked}
 use Rattle.pass.specs.declared.Checked.the-variants.{Frames}
 use Rattle.bench.specs.Line.{decimalIn, decimalOf, frames, refused, at-place, line-end, lineOf}

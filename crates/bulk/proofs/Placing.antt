@@ -14,8 +14,8 @@ use lib.Dec.{ltb}
 use lib.ListN.{length, getD, take, drop}
 use Rattle.octets.specs.Pick.{pick}
 use Rattle.octets.specs.Number.{numberOf}
-use Rattle.items.specs.declared.Refusal.{Refusal}
-use Rattle.items.specs.Refusals.{noSample}
+use Rattle.heads.specs.declared.Refusal.{Refusal}
+use Rattle.heads.specs.Refusals.{noSample}
 use Rattle.items.specs.Walk.{refusal}
 use Rattle.layout.specs.Frame.{Frame, widthIn, offsetOf, placeOf}
 use Rattle.reader.specs.declared.LookedUp.{LookedUp}

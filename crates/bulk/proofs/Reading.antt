@@ -16,8 +16,8 @@ use lib.ListN.{length, getD, drop}
 use lib.Seq.{sets}
 use Rattle.octets.specs.Pick.{pick}
 use Rattle.stores.proofs.Stores.{sets-front}
-use Rattle.items.specs.declared.Refusal.{Refusal}
-use Rattle.items.specs.Refusals.{noFrame, noChannel, noSample}
+use Rattle.heads.specs.declared.Refusal.{Refusal}
+use Rattle.heads.specs.Refusals.{noFrame, noChannel, noSample}
 use Rattle.items.specs.Walk.{refusal}
 use Rattle.values.specs.Sample.{widthOf}
 use Rattle.layout.specs.Frame.{widthIn, blockOctets, sequenceOctets, channelIn, samplesOf, offsetOf, placeOf}

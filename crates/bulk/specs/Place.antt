@@ -3,7 +3,7 @@ use mathlib.Core.List.{List}
 use Prim.Native.Nat.{ℕ, _*_}
 use lib.Dec.{ltb}
 use Rattle.octets.specs.Pick.{pick}
-use Rattle.items.specs.Refusals.{noSample}
+use Rattle.heads.specs.Refusals.{noSample}
 use Rattle.items.specs.Walk.{refusal}
 use Rattle.reader.specs.declared.LookedUp.{LookedUp}
 use Rattle.pass.specs.declared.View.{View}

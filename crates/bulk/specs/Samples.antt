@@ -5,7 +5,7 @@ use lib.Dec.{ltb}
 use lib.ListN.{length, getD, take, drop}
 use Rattle.octets.specs.Pick.{pick}
 use Rattle.octets.specs.Number.{numberOf}
-use Rattle.items.specs.Refusals.{noFrame, noChannel, noSample}
+use Rattle.heads.specs.Refusals.{noFrame, noChannel, noSample}
 use Rattle.items.specs.Walk.{refusal}
 use Rattle.layout.specs.Frame.{Frame, widthIn, channelIn, samplesOf, placeOf}
 use Rattle.pass.specs.Verdict.{Verdict, accepted, refused, verdict}

@@ -13,7 +13,7 @@ ghost use Rattle.reader.specs.Answer.{placeSeen};
 ghost use Rattle.bulk.specs.Place.{placedOf};
 ghost use Rattle.bulk.specs.Samples.{bitsFrom, readOf, bufferAfter};
 ghost use Rattle.bulk.specs.Walked.{bitsHere, spaced, blocked, Wide, Within, InBlocks};
-use items::Refusal;
+use heads::Refusal;
 use pass::View;
 use reader::LookedUp;
 

@@ -24,17 +24,17 @@ use Rattle.octets.specs.Pick.{pick, both}
 use Rattle.octets.specs.Number.{bigFrom, numberOf}
 use Rattle.stores.specs.Number.{be, length-be}
 use Rattle.stores.specs.Length.{holding, holding-one, holding-two, holding-three, holding-four, shortest, shortest-short, shortest-long}
-use Rattle.items.specs.declared.Channel.the-variants.{Number}
-use Rattle.items.specs.declared.Length.the-variants.{Known}
-use Rattle.items.specs.declared.Head.{Head}
-use Rattle.items.specs.declared.Head.the-variants.{Primitive, Definite}
+use Rattle.heads.specs.declared.Channel.the-variants.{Number}
+use Rattle.heads.specs.declared.Length.the-variants.{Known}
+use Rattle.heads.specs.declared.Head.{Head}
+use Rattle.heads.specs.declared.Head.the-variants.{Primitive, Definite}
 use Rattle.items.specs.declared.Within.{Within}
 use Rattle.items.specs.declared.Within.the-variants.{Root}
 use Rattle.items.specs.declared.Item.{Item}
 use Rattle.items.specs.declared.Item.the-variants.{Plain, Member}
 use Rattle.items.specs.declared.Next.the-variants.{Found, End}
-use Rattle.items.specs.Head.{channelOf, lengthOf, unknownContext, rootOnly, primitiveHead, groupLength, groupHead, headOf}
-use Rattle.items.specs.Refusals.{contextTag, notInGroup}
+use Rattle.heads.specs.Head.{channelOf, lengthOf, unknownContext, rootOnly, primitiveHead, groupLength, groupHead, headOf}
+use Rattle.heads.specs.Refusals.{contextTag, notInGroup}
 use Rattle.items.specs.Walk.{cursor, itemOf, nextIn, nextOf}
 use Rattle.effects.specs.Effects.{valueAt}
 use Rattle.effects.specs.Framing.{octetsLimit}

@@ -20,11 +20,11 @@ use Rattle.octets.proofs.Pick.{both-false}
 use Rattle.octets.proofs.Laws.{take-octets, drop-octets}
 use Rattle.items.specs.declared.Item.{Item}
 use Rattle.items.specs.declared.Cursor.{Cursor}
-use Rattle.items.specs.declared.Refusal.{Refusal}
+use Rattle.heads.specs.declared.Refusal.{Refusal}
 use Rattle.items.specs.declared.Next.{Next}
 use Rattle.items.specs.declared.Next.the-variants.{Found, End}
 use Rattle.items.specs.declared.Within.the-variants.{Root}
-use Rattle.items.specs.Refusals.{bufferShort}
+use Rattle.heads.specs.Refusals.{bufferShort}
 use Rattle.items.specs.Walk.{nextOf, itemsFrom, itemsOf, cursor, refusal, fault}
 use Rattle.items.proofs.Walks.{items-found, items-end, items-refused}
 use Rattle.stores.specs.Number.{field}

@@ -21,9 +21,9 @@ ghost use Rattle.canonical.specs.Write.{canonicalOf, Ready, writtenOf, l
 ghost use Rattle.canonical.specs.Parts.{unsignedBy, firstItems, scaleItems, lastItems, headItems, samplesTurned, frameParts};
 use effects::Effect;
 use effects::Framed;
+use heads::Refusal;
 use items::Cursor;
 use items::Next;
-use items::Refusal;
 use layout::Layout;
 use pass::Asked;
 use pass::Checked;

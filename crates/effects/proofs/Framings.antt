@@ -13,7 +13,7 @@ use lib.Dec.{ltb, leb}
 use lib.IntN.{ℤ, pos, negsuc, _+ℤ_}
 use lib.Signed.{leZ, mag}
 use Rattle.octets.specs.Pick.{pick, both}
-use Rattle.items.specs.Refusals.{fileLimit, frameLimit, widthDiffers, pointerRange, waveformShort}
+use Rattle.heads.specs.Refusals.{fileLimit, frameLimit, widthDiffers, pointerRange, waveformShort}
 use Rattle.standing.specs.declared.Standing.{Standing}
 use Rattle.effects.specs.declared.Framed.{Framed}
 use Rattle.effects.specs.declared.Framed.the-variants.{Taken, Refused}

@@ -8,7 +8,7 @@ use lib.ListN.{length, getD, take, drop}
 use Rattle.octets.specs.Pick.{pick}
 use Rattle.octets.specs.Number.{numberOf, signedOf}
 use Rattle.items.specs.declared.Item.{Item}
-use Rattle.items.specs.Refusals.{unfitLength, unfitValue, channelRange, compressed}
+use Rattle.heads.specs.Refusals.{unfitLength, unfitValue, channelRange, compressed}
 use Rattle.settings.specs.declared.Tagged.{Tagged}
 use Rattle.settings.specs.declared.Defined.{Defined}
 use Rattle.settings.specs.Settings.{defaultSettings, channelLimit}

@@ -16,17 +16,17 @@ use lib.Dec.{ltb}
 use lib.ListN.{length, take, drop, length-take, length-drop}
 use Rattle.octets.specs.Pick.{pick}
 use Rattle.octets.proofs.Pick.{pick-cases}
-use Rattle.items.specs.declared.Head.{Head}
+use Rattle.heads.specs.declared.Head.{Head}
 use Rattle.items.specs.declared.Within.{Within}
 use Rattle.items.specs.declared.Cursor.{Cursor}
 use Rattle.items.specs.declared.Item.{Item}
-use Rattle.items.specs.declared.Refusal.{Refusal}
+use Rattle.heads.specs.declared.Refusal.{Refusal}
 use Rattle.items.specs.declared.Next.{Next}
 use Rattle.items.specs.declared.Next.the-variants.{Found, End}
-use Rattle.items.specs.Refusals.{groupOpen}
-use Rattle.items.specs.Head.{headOf}
+use Rattle.heads.specs.Refusals.{groupOpen}
+use Rattle.heads.specs.Head.{headOf}
 use Rattle.items.specs.Walk.{Items, item, finished, fault, standsIn, isInside, extent, ended, endsOpen, itemOf, nextIn, nextOf, follow, walk, itemsFrom}
-use Rattle.items.proofs.Heads.{HeadWithin, head-within}
+use Rattle.heads.proofs.Heads.{HeadWithin, head-within}
 
 -- ---- what stands at a cursor
 

@@ -5,10 +5,10 @@ use mathlib.Core.Bool.{Bool, true, false}
 use lib.ListN.{length, take, drop}
 use lib.Dec.{ltb, eqb}
 use Rattle.octets.specs.Pick.{pick, both}
-use Rattle.items.specs.Refusals.{groupOpen}
-use Rattle.items.specs.Head.{headOf}
-use Rattle.items.specs.declared.Head.{Head}
-use Rattle.items.specs.declared.Refusal.{Refusal}
+use Rattle.heads.specs.Refusals.{groupOpen}
+use Rattle.heads.specs.Head.{headOf}
+use Rattle.heads.specs.declared.Head.{Head}
+use Rattle.heads.specs.declared.Refusal.{Refusal}
 use Rattle.items.specs.declared.Within.{Within}
 use Rattle.items.specs.declared.Within.the-variants.{Root}
 use Rattle.items.specs.declared.Cursor.{Cursor}

@@ -15,7 +15,7 @@ use Rattle.octets.proofs.Laws.{part-read}
 use Rattle.values.specs.declared.Value.{Value}
 use Rattle.values.specs.Sample.{widthOf, kindOf, valueOf}
 use Rattle.values.proofs.Laws.{width-le}
-use Rattle.items.specs.declared.Refusal.{Refusal}
+use Rattle.heads.specs.declared.Refusal.{Refusal}
 use Rattle.pass.specs.declared.Checked.{Checked}
 use Rattle.reader.specs.declared.Attributes.{Attributes}
 use Rattle.reader.specs.declared.Described.{Described}

@@ -14,12 +14,12 @@ use lib.Dec.{ltb}
 use lib.ListN.{length}
 use Rattle.octets.specs.Pick.{pick}
 use Rattle.items.specs.declared.Item.{Item}
-use Rattle.items.specs.declared.Refusal.{Refusal}
+use Rattle.heads.specs.declared.Refusal.{Refusal}
 use Rattle.items.specs.declared.Cursor.{Cursor}
 use Rattle.items.specs.declared.Next.{Next}
 use Rattle.items.specs.declared.Next.the-variants.{Found, End}
 use Rattle.items.specs.declared.Within.the-variants.{Root}
-use Rattle.items.specs.Refusals.{fileLimit}
+use Rattle.heads.specs.Refusals.{fileLimit}
 use Rattle.items.specs.Walk.{Items, item, finished, fault, cursor, nextOf, itemsFrom, itemsOf, refusal}
 use Rattle.items.proofs.Walks.{next-later, items-found, items-end, items-refused}
 use Rattle.layout.specs.Frame.{Frame}

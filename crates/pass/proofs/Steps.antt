@@ -17,7 +17,7 @@ use Rattle.octets.specs.Number.{numberOf}
 use Rattle.octets.proofs.Pick.{pick-cases}
 use Rattle.items.specs.declared.Item.{Item}
 use Rattle.items.specs.declared.Item.the-variants.{Plain}
-use Rattle.items.specs.Refusals.{fileLimit}
+use Rattle.heads.specs.Refusals.{fileLimit}
 use Rattle.settings.specs.declared.Settings.{Settings}
 use Rattle.settings.specs.declared.Attribute.{Attribute}
 use Rattle.settings.specs.declared.Change.{Change}

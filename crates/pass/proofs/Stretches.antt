@@ -21,10 +21,10 @@ use Rattle.items.specs.declared.Item.{Item}
 use Rattle.items.specs.declared.Item.the-variants.{Plain, Member}
 use Rattle.items.specs.declared.Within.{Within}
 use Rattle.items.specs.declared.Cursor.{Cursor}
-use Rattle.items.specs.declared.Head.{Head}
+use Rattle.heads.specs.declared.Head.{Head}
 use Rattle.items.specs.declared.Next.{Next}
 use Rattle.items.specs.declared.Next.the-variants.{Found}
-use Rattle.items.specs.Head.{rootOnly, headOf}
+use Rattle.heads.specs.Head.{rootOnly, headOf}
 use Rattle.items.specs.Walk.{cursor, standsIn, isInside, extent, endsOpen, ended, itemOf, nextIn, nextOf, itemsFrom}
 use Rattle.items.proofs.Walks.{items-found}
 use Rattle.settings.specs.declared.Settings.{Settings}

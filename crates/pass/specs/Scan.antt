@@ -7,7 +7,7 @@ use lib.Dec.{ltb}
 use lib.IntN.{pos}
 use lib.ListN.{length, getD}
 use Rattle.octets.specs.Pick.{pick}
-use Rattle.items.specs.declared.Refusal.{Refusal}
+use Rattle.heads.specs.declared.Refusal.{Refusal}
 use Rattle.settings.specs.Settings.{defaultSettings}
 use Rattle.layout.specs.Frame.{Frame, sequenceOctets, octetsBelow, channelIn}
 use Rattle.layout.specs.Size.{frameSize, groupsSize}

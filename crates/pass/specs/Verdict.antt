@@ -5,8 +5,8 @@ use lib.Dec.{ltb}
 use lib.ListN.{length, getD, set, take, replicate}
 use Rattle.octets.specs.Pick.{pick}
 use Rattle.items.specs.declared.Item.{Item}
-use Rattle.items.specs.declared.Refusal.{Refusal}
-use Rattle.items.specs.Refusals.{fileLimit}
+use Rattle.heads.specs.declared.Refusal.{Refusal}
+use Rattle.heads.specs.Refusals.{fileLimit}
 use Rattle.items.specs.Walk.{Items, item, finished, fault, itemsOf, refusal}
 use Rattle.settings.specs.declared.Settings.{Settings}
 use Rattle.settings.specs.Settings.{channelLimit, defaultTable, zeroSettings, applied, allApplied}

@@ -15,8 +15,8 @@ use lib.Dec.{ltb}
 use lib.ListN.{length, getD, take, drop}
 use Rattle.octets.specs.Pick.{pick}
 use Rattle.octets.proofs.Pick.{pick-cases}
-use Rattle.items.specs.declared.Refusal.{Refusal}
-use Rattle.items.specs.Refusals.{noFrame, noChannel, noSample}
+use Rattle.heads.specs.declared.Refusal.{Refusal}
+use Rattle.heads.specs.Refusals.{noFrame, noChannel, noSample}
 use Rattle.items.specs.Walk.{refusal}
 use Rattle.values.specs.declared.Value.{Value}
 use Rattle.values.specs.Sample.{widthOf, valueOf}

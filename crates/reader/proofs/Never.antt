@@ -16,8 +16,8 @@ use lib.ListN.{length}
 use Rattle.octets.specs.Pick.{pick}
 use Rattle.values.specs.Sample.{widthOf}
 use Rattle.items.specs.declared.Cursor.{Cursor}
-use Rattle.items.specs.declared.Refusal.{Refusal}
-use Rattle.items.specs.Refusals.{fileLimit}
+use Rattle.heads.specs.declared.Refusal.{Refusal}
+use Rattle.heads.specs.Refusals.{fileLimit}
 use Rattle.items.specs.Walk.{refusal, itemsOf}
 use Rattle.items.proofs.Walks.{next-refused}
 use Rattle.settings.specs.declared.Settings.{Settings}

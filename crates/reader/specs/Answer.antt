@@ -7,7 +7,7 @@ use lib.ListN.{length, getD, take, drop}
 use Rattle.octets.specs.Pick.{pick}
 use Rattle.values.specs.declared.Bits.{Bits}
 use Rattle.values.specs.Sample.{valueOf}
-use Rattle.items.specs.Refusals.{noFrame, noChannel, noSample}
+use Rattle.heads.specs.Refusals.{noFrame, noChannel, noSample}
 use Rattle.items.specs.Walk.{refusal}
 use Rattle.settings.specs.declared.Settings.{Settings}
 use Rattle.layout.specs.Frame.{Frame, widthIn, channelIn, samplesOf, placeOf}

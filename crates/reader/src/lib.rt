@@ -8,7 +8,7 @@ ghost use mathlib.Core.Path.{_≡_};
 ghost use Prim.Native.Nat.{_^_, _<_};
 ghost use Rattle.pass.specs.Verdict.{checkOf};
 ghost use Rattle.reader.specs.Answer.{offsetBits, attributesSeen, attributesOf, placeSeen, sampleOf, seenOf};
-use items::Refusal;
+use heads::Refusal;
 use pass::Asked;
 use pass::Checked;
 use pass::Found;

@@ -3,7 +3,7 @@
 // For a file that is refused it writes one line there instead, `refused R at P`; for a longer file nothing, and `too long` to standard error.
 // `refused 23 at 0` is also its line where the canonical file is longer than 120,000 octets.
 use canonical::Written;
-use items::Refusal;
+use heads::Refusal;
 use libc::STDERR_FILENO;
 use libc::STDIN_FILENO;
 use libc::STDOUT_FILENO;

@@ -9,7 +9,7 @@ use Prim.Native.Nat.{ℕ, _<_}
 use borrow.Author.Tests.{eq-eqb, ne-eqb}
 use lib.ListN.{length, getD, getD-replicate}
 use Rattle.octets.specs.Pick.{pick}
-use Rattle.items.specs.Refusals.{unfitLength, unfitValue}
+use Rattle.heads.specs.Refusals.{unfitLength, unfitValue}
 use Rattle.settings.specs.declared.Settings.{Settings}
 use Rattle.settings.specs.declared.Attribute.{Attribute}
 use Rattle.settings.specs.declared.Change.{Change}

@@ -9,7 +9,7 @@ use lib.ListN.{length, getD, take, drop}
 use Rattle.octets.specs.Pick.{pick, both, either}
 use Rattle.octets.specs.Number.{numberOf, signedOf, twos}
 use Rattle.values.specs.declared.Bits.{Bits}
-use Rattle.items.specs.Refusals.{unfitLength, unfitValue}
+use Rattle.heads.specs.Refusals.{unfitLength, unfitValue}
 use Rattle.settings.specs.declared.Scale.{Scale}
 use Rattle.settings.specs.declared.Settings.{Settings}
 use Rattle.settings.specs.declared.Attribute.{Attribute}

@@ -8,7 +8,7 @@ ghost use mathlib.Core.Path.{_≡_};
 ghost use lib.ListN.{getD};
 ghost use Rattle.settings.specs.Settings.{defaultSettings, defaultTable, applied};
 ghost use Rattle.settings.specs.Define.{tagged, scaleLength, bitsLength, lengthFits, standingIn, scaleOf, bitsOf, changeOf, blockFits, scaleFits, inRange, defined, settledAs};
-use items::Refusal;
+use heads::Refusal;
 use values::Bits;
 
 // A unit, an exponent of ten and a mantissa.

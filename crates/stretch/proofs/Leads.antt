@@ -20,12 +20,12 @@ use Rattle.octets.proofs.Pick.{pick-cases, both-false}
 use Rattle.items.specs.declared.Item.{Item}
 use Rattle.items.specs.declared.Item.the-variants.{Plain, Member}
 use Rattle.items.specs.declared.Within.{Within}
-use Rattle.items.specs.declared.Head.the-variants.{Primitive}
-use Rattle.items.specs.declared.Length.the-variants.{Known}
+use Rattle.heads.specs.declared.Head.the-variants.{Primitive}
+use Rattle.heads.specs.declared.Length.the-variants.{Known}
 use Rattle.items.specs.declared.Next.the-variants.{Found}
-use Rattle.items.specs.Head.{unknownContext, rootOnly, lengthOf, primitiveHead, headOf}
+use Rattle.heads.specs.Head.{unknownContext, rootOnly, lengthOf, primitiveHead, headOf}
 use Rattle.items.specs.Walk.{cursor, standsIn, isInside, extent, endsOpen, itemOf, nextIn, nextOf}
-use Rattle.items.proofs.Heads.{length-short, head-primitive}
+use Rattle.heads.proofs.Heads.{length-short, head-primitive}
 use Rattle.settings.specs.declared.Settings.{Settings}
 use Rattle.settings.specs.declared.Attribute.{Attribute}
 use Rattle.settings.specs.declared.Change.{Change}

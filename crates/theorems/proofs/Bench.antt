@@ -7,7 +7,7 @@ use Rattle.octets.specs.Number.{bigFrom, littleOf, numberOf, twos, signedOf}
 use Rattle.values.specs.declared.Value.the-variants.{Whole}
 use Rattle.values.specs.Sample.{widthOf, plainOf, isNull, valueOf}
 use Rattle.items.specs.declared.Item.{Item}
-use Rattle.items.specs.Head.{channelOf, lengthOf, unknownContext, rootOnly, primitiveHead, groupLength, groupHead, headOf}
+use Rattle.heads.specs.Head.{channelOf, lengthOf, unknownContext, rootOnly, primitiveHead, groupLength, groupHead, headOf}
 use Rattle.items.specs.Walk.{Items, item, finished, fault, refusal, itemOf, nextIn, nextOf, follow, walk, itemsFrom, itemsOf}
 use Rattle.settings.specs.Define.{tagged, scaleOf, defined}
 use Rattle.settings.specs.Settings.{allApplied}

@@ -17,8 +17,8 @@ use lib.Dec.{ltb}
 use lib.ListN.{length, getD}
 use Rattle.octets.specs.Pick.{pick}
 use Rattle.values.specs.declared.Value.{Value}
-use Rattle.items.specs.declared.Refusal.{Refusal}
-use Rattle.items.specs.Refusals.{fileLimit, noFrame, noChannel, noSample}
+use Rattle.heads.specs.declared.Refusal.{Refusal}
+use Rattle.heads.specs.Refusals.{fileLimit, noFrame, noChannel, noSample}
 use Rattle.items.specs.Walk.{refusal, itemsOf}
 use Rattle.layout.specs.Frame.{Frame, samplesOf}
 use Rattle.pass.specs.declared.Checked.{Checked}

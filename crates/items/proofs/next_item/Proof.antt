@@ -2,7 +2,7 @@
 use mathlib.Core.Path.{sym, ap, _∙_}
 use native.Mathlib.Omega.{arith}
 use Rattle.items.specs.Walk.{itemOf}
-use Rattle.items.proofs.Heads.{head-found}
+use Rattle.heads.proofs.Heads.{head-found}
 use Rattle.items.proofs.Walks.{next-none, next-head, extent-found}
 use borrow.Author.Needs.{needs}
 use Rattle.items.proofs.next_item.Statement.{statement}
@@ -11,7 +11,7 @@ use Rattle.items.proofs.next_item.Reads as reads
 use Rattle.items.proofs.next_item.Lts as lts
 use Rattle.items.proofs.end_of.Reads as end-of-reads
 use Rattle.items.proofs.is_inside.Reads as is-inside-reads
-use Rattle.items.proofs.item_head.Reads as item-head-reads
+use Rattle.heads.proofs.item_head.Reads as item-head-reads
 use Rattle.items.proofs.primitive_item.Reads as primitive-item-reads
 use Rattle.items.proofs.rest.Reads as rest-reads
 use Rattle.items.proofs.stands_in.Reads as stands-in-reads

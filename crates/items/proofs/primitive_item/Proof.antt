@@ -2,7 +2,7 @@
 use mathlib.Core.Path.{sym, ap, _∙_}
 use Rattle.items.specs.Walk.{itemOf}
 use Rattle.items.specs.declared.Within.{Within}
-use Rattle.items.specs.declared.Head.{Head}
+use Rattle.heads.specs.declared.Head.{Head}
 use borrow.Author.Needs.{needs}
 use Rattle.items.proofs.primitive_item.Statement.{statement}
 use Rattle.items.proofs.primitive_item.Tie as tie

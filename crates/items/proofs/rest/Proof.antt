@@ -1,7 +1,7 @@
 -- A part as long as the whole goes to its end; in a definite group it ends with the group.
 use mathlib.Core.Path.{sym, ap, _∙_}
 use Rattle.items.specs.Walk.{extent}
-use Rattle.items.proofs.Heads.{rest-whole}
+use Rattle.heads.proofs.Heads.{rest-whole}
 use borrow.Author.Needs.{needs}
 use Rattle.items.proofs.rest.Statement.{statement}
 use Rattle.items.proofs.rest.Tie as tie

@@ -2,14 +2,14 @@
 use mathlib.Core.Path.{sym, ap, _∙_}
 use native.Mathlib.Omega.{arith}
 use borrow.Author.Tests.{lt-ltb, le-ltb}
-use Rattle.items.specs.Head.{groupLength}
-use Rattle.items.proofs.Heads.{length-found}
+use Rattle.heads.specs.Head.{groupLength}
+use Rattle.heads.proofs.Heads.{length-found}
 use borrow.Author.Needs.{needs}
-use Rattle.items.proofs.group_length.Statement.{statement}
-use Rattle.items.proofs.group_length.Tie as tie
-use Rattle.items.proofs.group_length.Reads as reads
-use Rattle.items.proofs.group_length.Lts as lts
-use Rattle.items.proofs.length_field.Reads as length-field-reads
+use Rattle.heads.proofs.group_length.Statement.{statement}
+use Rattle.heads.proofs.group_length.Tie as tie
+use Rattle.heads.proofs.group_length.Reads as reads
+use Rattle.heads.proofs.group_length.Lts as lts
+use Rattle.heads.proofs.length_field.Reads as length-field-reads
 
 -- src/lib.rt:215:11
 length-field-requires : tie.Need-length-field-requires

@@ -3,11 +3,11 @@ use Prim.Native.Nat.{ℕ, _+_, _*_, _%_, _<_}
 use mathlib.Core.Path.{_≡_, ap, _∙_}
 use native.Mathlib.Omega.{arith}
 use lib.ListN.{length, getD}
-use Rattle.items.specs.declared.Channel.the-variants.{Number}
-use Rattle.items.proofs.Heads.{channel-past, channel-last}
+use Rattle.heads.specs.declared.Channel.the-variants.{Number}
+use Rattle.heads.proofs.Heads.{channel-past, channel-last}
 use borrow.Author.Needs.{needs}
-use Rattle.items.proofs.channel_number.Statement.{statement}
-use Rattle.items.proofs.channel_number.Tie as tie
+use Rattle.heads.proofs.channel_number.Statement.{statement}
+use Rattle.heads.proofs.channel_number.Tie as tie
 
 returns : tie.Need-returns
 returns c =

@@ -1,10 +1,10 @@
 -- Each way out is what its tests say.
 use borrow.Author.Tests.{eq-eqb, ne-eqb}
-use Rattle.items.specs.Head.{unknownContext}
-use Rattle.items.proofs.unknown_context.Statement.{statement}
-use Rattle.items.proofs.unknown_context.Tie as tie
-use Rattle.items.proofs.unknown_context.Reads as reads
-use Rattle.items.proofs.unknown_context.Lts as lts
+use Rattle.heads.specs.Head.{unknownContext}
+use Rattle.heads.proofs.unknown_context.Statement.{statement}
+use Rattle.heads.proofs.unknown_context.Tie as tie
+use Rattle.heads.proofs.unknown_context.Reads as reads
+use Rattle.heads.proofs.unknown_context.Lts as lts
 
 -- src/lib.rt:137:1
 returns : tie.Need-returns

@@ -1,10 +1,10 @@
 -- Each way out is what its tests say.
 use borrow.Author.Tests.{eq-eqb, ne-eqb}
-use Rattle.items.specs.Head.{rootOnly}
-use Rattle.items.proofs.root_only.Statement.{statement}
-use Rattle.items.proofs.root_only.Tie as tie
-use Rattle.items.proofs.root_only.Reads as reads
-use Rattle.items.proofs.root_only.Lts as lts
+use Rattle.heads.specs.Head.{rootOnly}
+use Rattle.heads.proofs.root_only.Statement.{statement}
+use Rattle.heads.proofs.root_only.Tie as tie
+use Rattle.heads.proofs.root_only.Reads as reads
+use Rattle.heads.proofs.root_only.Lts as lts
 
 -- src/lib.rt:144:1
 returns : tie.Need-returns

@@ -7,13 +7,13 @@ use lib.ListN.{length, take, drop}
 use lib.Dec.{ltb, eqb}
 use Rattle.octets.specs.Pick.{pick, both, either}
 use Rattle.octets.specs.Number.{bigFrom}
-use Rattle.items.specs.Refusals.{contextTag, lengthForm, pastEnd, channelForm, notInGroup}
-use Rattle.items.specs.declared.Channel.{Channel}
-use Rattle.items.specs.declared.Channel.the-variants.{Number, TooLong}
-use Rattle.items.specs.declared.Length.{Length}
-use Rattle.items.specs.declared.Length.the-variants.{Known, Bad}
-use Rattle.items.specs.declared.Head.{Head}
-use Rattle.items.specs.declared.Head.the-variants.{Primitive, Definite, Refused}
+use Rattle.heads.specs.Refusals.{contextTag, lengthForm, pastEnd, channelForm, notInGroup}
+use Rattle.heads.specs.declared.Channel.{Channel}
+use Rattle.heads.specs.declared.Channel.the-variants.{Number, TooLong}
+use Rattle.heads.specs.declared.Length.{Length}
+use Rattle.heads.specs.declared.Length.the-variants.{Known, Bad}
+use Rattle.heads.specs.declared.Head.{Head}
+use Rattle.heads.specs.declared.Head.the-variants.{Primitive, Definite, Refused}
 
 -- Seven bits an octet, highest first; each octet but the last has its top bit set; at most four octets. Here `allowed` octets may
 -- still come, `passed` are behind, and `value` is what those say.

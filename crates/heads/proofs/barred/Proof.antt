@@ -1,10 +1,10 @@
 -- Outside a group nothing is barred; inside, what `root_only` says.
 use borrow.Author.Needs.{needs}
-use Rattle.items.proofs.barred.Statement.{statement}
-use Rattle.items.proofs.barred.Tie as tie
-use Rattle.items.proofs.barred.Reads as reads
-use Rattle.items.proofs.barred.Lts as lts
-use Rattle.items.proofs.root_only.Reads as root-only-reads
+use Rattle.heads.proofs.barred.Statement.{statement}
+use Rattle.heads.proofs.barred.Tie as tie
+use Rattle.heads.proofs.barred.Reads as reads
+use Rattle.heads.proofs.barred.Lts as lts
+use Rattle.heads.proofs.root_only.Reads as root-only-reads
 
 -- src/lib.rt:156:15
 root-only-requires : tie.Need-root-only-requires

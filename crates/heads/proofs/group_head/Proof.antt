@@ -1,15 +1,15 @@
 -- By the answer of `channel_number`; the length stands behind its octets.
 use mathlib.Core.Path.{sym, ap, _∙_}
 use native.Mathlib.Omega.{arith}
-use Rattle.items.specs.Head.{groupHead}
-use Rattle.items.proofs.Heads.{channel-found, rest-is}
+use Rattle.heads.specs.Head.{groupHead}
+use Rattle.heads.proofs.Heads.{channel-found, rest-is}
 use borrow.Author.Needs.{needs}
-use Rattle.items.proofs.group_head.Statement.{statement}
-use Rattle.items.proofs.group_head.Tie as tie
-use Rattle.items.proofs.group_head.Reads as reads
-use Rattle.items.proofs.group_head.Lts as lts
-use Rattle.items.proofs.channel_number.Reads as channel-number-reads
-use Rattle.items.proofs.group_length.Reads as group-length-reads
+use Rattle.heads.proofs.group_head.Statement.{statement}
+use Rattle.heads.proofs.group_head.Tie as tie
+use Rattle.heads.proofs.group_head.Reads as reads
+use Rattle.heads.proofs.group_head.Lts as lts
+use Rattle.heads.proofs.channel_number.Reads as channel-number-reads
+use Rattle.heads.proofs.group_length.Reads as group-length-reads
 
 -- src/lib.rt:246:11
 channel-number-requires : tie.Need-channel-number-requires

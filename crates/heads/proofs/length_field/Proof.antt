@@ -1,7 +1,7 @@
 -- Each way out is a law of the length field, by its first octet.
 use Rattle.octets.proofs.Laws.{read-all, part-short}
 use Rattle.octets.specs.Number.{bigFrom, numberOf, Read}
-use Rattle.items.specs.declared.Length.the-variants.{Known}
+use Rattle.heads.specs.declared.Length.the-variants.{Known}
 use Prim.Native.Nat.{ℕ, _+_, _-_, _≤_}
 use mathlib.Core.List.{List}
 use mathlib.Core.Bool.{false}
@@ -10,12 +10,12 @@ use native.Mathlib.Nat.{le-trans}
 use lib.Dec.{lit≤}
 use mathlib.Core.Path.{_≡_, sym, ap, _∙_}
 use native.Mathlib.Omega.{arith}
-use Rattle.items.proofs.Heads.{length-none, length-short, length-open, length-bad, length-past, length-long}
+use Rattle.heads.proofs.Heads.{length-none, length-short, length-open, length-bad, length-past, length-long}
 use borrow.Author.Needs.{needs}
-use Rattle.items.proofs.length_field.Statement.{statement}
-use Rattle.items.proofs.length_field.Tie as tie
-use Rattle.items.proofs.length_field.Reads as reads
-use Rattle.items.proofs.length_field.Lts as lts
+use Rattle.heads.proofs.length_field.Statement.{statement}
+use Rattle.heads.proofs.length_field.Tie as tie
+use Rattle.heads.proofs.length_field.Reads as reads
+use Rattle.heads.proofs.length_field.Lts as lts
 use Rattle.octets.proofs.number.Reads as number-reads
 use Rattle.octets.proofs.part.Reads as part-reads
 

@@ -18,13 +18,13 @@ use lib.Seq.{drop-cons, take-all}
 use Rattle.octets.specs.Pick.{pick, both}
 use Rattle.octets.specs.Number.{bigFrom}
 use Rattle.octets.proofs.Pick.{pick-cases}
-use Rattle.items.specs.declared.Channel.{Channel}
-use Rattle.items.specs.declared.Channel.the-variants.{Number, PastEnd, TooLong}
-use Rattle.items.specs.declared.Length.{Length}
-use Rattle.items.specs.declared.Length.the-variants.{Known, Bad}
-use Rattle.items.specs.declared.Head.{Head}
-use Rattle.items.specs.Refusals.{contextTag, pastEnd, notInGroup}
-use Rattle.items.specs.Head.{channelOf, lengthOf, unknownContext, rootOnly, primitiveHead, groupLength, groupHead, headOf}
+use Rattle.heads.specs.declared.Channel.{Channel}
+use Rattle.heads.specs.declared.Channel.the-variants.{Number, PastEnd, TooLong}
+use Rattle.heads.specs.declared.Length.{Length}
+use Rattle.heads.specs.declared.Length.the-variants.{Known, Bad}
+use Rattle.heads.specs.declared.Head.{Head}
+use Rattle.heads.specs.Refusals.{contextTag, pastEnd, notInGroup}
+use Rattle.heads.specs.Head.{channelOf, lengthOf, unknownContext, rootOnly, primitiveHead, groupLength, groupHead, headOf}
 
 -- ---- the channel number, octet by octet
 

@@ -1,15 +1,15 @@
 -- Each way out is a law of the head, by its first octet.
 use mathlib.Core.Path.{sym, ap, _∙_}
-use Rattle.items.proofs.Heads.{head-none, head-context, head-barred, head-group, head-primitive, rest-is}
+use Rattle.heads.proofs.Heads.{head-none, head-context, head-barred, head-group, head-primitive, rest-is}
 use borrow.Author.Needs.{needs}
-use Rattle.items.proofs.item_head.Statement.{statement}
-use Rattle.items.proofs.item_head.Tie as tie
-use Rattle.items.proofs.item_head.Reads as reads
-use Rattle.items.proofs.item_head.Lts as lts
-use Rattle.items.proofs.barred.Reads as barred-reads
-use Rattle.items.proofs.group_head.Reads as group-head-reads
-use Rattle.items.proofs.primitive_head.Reads as primitive-head-reads
-use Rattle.items.proofs.unknown_context.Reads as unknown-context-reads
+use Rattle.heads.proofs.item_head.Statement.{statement}
+use Rattle.heads.proofs.item_head.Tie as tie
+use Rattle.heads.proofs.item_head.Reads as reads
+use Rattle.heads.proofs.item_head.Lts as lts
+use Rattle.heads.proofs.barred.Reads as barred-reads
+use Rattle.heads.proofs.group_head.Reads as group-head-reads
+use Rattle.heads.proofs.primitive_head.Reads as primitive-head-reads
+use Rattle.heads.proofs.unknown_context.Reads as unknown-context-reads
 
 -- src/lib.rt:262:9
 returns : tie.Need-returns

@@ -6,14 +6,14 @@ use mathlib.Core.Path.{_∙_}
 use borrow.Author.Needs.{needs}
 use lib.ListN.{getD}
 use lib.Dec.{lit<}
-use Rattle.items.proofs.Heads.{channel-none, channel-past, channel-last, channel-more, room, room-fits}
+use Rattle.heads.proofs.Heads.{channel-none, channel-past, channel-last, channel-more, room, room-fits}
 use borrow.Fn.Kinds.{In}
 use borrow.Fn.PlainCycle.{Measures, is, falls, and}
-use Rattle.items.proofs.channel_from.Reads as channel-from
-use Rattle.items.proofs.channel_from.Kinds as channel-from-kinds
-use Rattle.items.proofs.+channel_from.Lts-channel_from as channel-from-lts
-use Rattle.items.proofs.+channel_from.{statement}
-use Rattle.items.proofs.+channel_from.Tie.{close}
+use Rattle.heads.proofs.channel_from.Reads as channel-from
+use Rattle.heads.proofs.channel_from.Kinds as channel-from-kinds
+use Rattle.heads.proofs.+channel_from.Lts-channel_from as channel-from-lts
+use Rattle.heads.proofs.+channel_from.{statement}
+use Rattle.heads.proofs.+channel_from.Tie.{close}
 
 abbrev μ-channel-from : Measures 1 channel-from-kinds.ps ℕ
 μ-channel-from κs a = a .1 .1 .0

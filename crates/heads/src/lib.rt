@@ -1,0 +1,291 @@
+// One item's head: tag, channel number and length; and `Refusal` with its numbers.
+//
+// Promises, for any octets at all: `item_head` answers where the value of the item at their front stands, or the first fault of
+// form (refusals 1 to 5 of document 01). What a tag means is not looked at here.
+// Read first: specs/Head.antt.
+ghost use mathlib.Core.Path.{_≡_};
+ghost use Prim.Native.Nat.{_+_, _*_, _^_, _≤_};
+ghost use lib.ListN.{length, drop};
+ghost use Rattle.octets.specs.Pick.{both};
+ghost use Rattle.heads.specs.Head.{channelOf, lengthOf, unknownContext, rootOnly, primitiveHead, groupLength, groupHead, headOf};
+
+// A refusal: its number in document 01's table, and the place in the file.
+pub struct Refusal {
+    pub number: u8,
+    pub place: usize,
+}
+
+impl Refusal {
+    pub const CONTEXT_TAG: u8 = 1;
+
+    pub const LENGTH_FORM: u8 = 2;
+
+    pub const PAST_END: u8 = 3;
+
+    pub const CHANNEL_FORM: u8 = 4;
+
+    pub const NOT_IN_GROUP: u8 = 5;
+
+    pub const LENGTH: u8 = 6;
+
+    pub const VALUE: u8 = 7;
+
+    pub const CHANNEL_RANGE: u8 = 8;
+
+    pub const COMPRESSED: u8 = 9;
+
+    pub const GROUP_OPEN: u8 = 10;
+
+    pub const FRAME_LIMIT: u8 = 11;
+
+    pub const WIDTH: u8 = 12;
+
+    pub const POINTER_RANGE: u8 = 13;
+
+    pub const WAVEFORM_SHORT: u8 = 14;
+
+    pub const FILE_LIMIT: u8 = 15;
+
+    pub const NO_FRAME: u8 = 20;
+
+    pub const NO_CHANNEL: u8 = 21;
+
+    pub const NO_SAMPLE: u8 = 22;
+
+    pub const BUFFER: u8 = 23;
+}
+
+// A channel number and how many octets it takes, or why there is none.
+pub enum Channel {
+    Number { value: u32, octets: usize },
+    PastEnd,
+    TooLong,
+}
+
+// The channel number that goes on with the octet at `at`; `value` is what the octets before it say, and `allowed` octets may
+// still come.
+fn channel_from(u: &[u8], at: usize, allowed: u32, value: u32) -> Channel
+    requires { ⌜ (value + 1) * 128 ^ allowed ≤ 2 ^ 28 ⌝ }
+    ensures { λ r. ⌜ r ≡ channelOf allowed at value (drop at (now (u .entry))) ⌝ }
+{
+    if allowed == 0 {
+        return Channel::TooLong;
+    }
+    if u.len() <= at {
+        return Channel::PastEnd;
+    }
+    let b = u[at];
+    let more = value * 128 + (b % 128) as u32;
+    if b < 128 {
+        Channel::Number {
+            value: more,
+            octets: at + 1,
+        }
+    } else {
+        channel_from(u, at + 1, allowed - 1, more)
+    }
+}
+
+// The channel number at the front of u, of at most four octets. Mostly it is one octet.
+fn channel_number(u: &[u8]) -> Channel
+    ensures { λ r. ⌜ r ≡ channelOf 4 0 0 (now (u .entry)) ⌝ }
+{
+    if u.len() == 0 {
+        return Channel::PastEnd;
+    }
+    let b = u[0];
+    if b < 128 {
+        return Channel::Number {
+            value: b as u32,
+            octets: 1,
+        };
+    }
+    channel_from(u, 0, 4, 0)
+}
+
+// A length and how many octets its field takes, or why there is none.
+pub enum Length {
+    Known { value: usize, octets: usize },
+    Open { octets: usize },
+    PastEnd,
+    Bad,
+}
+
+// The length at the front of u. Lengths are always big-endian.
+fn length_field(u: &[u8]) -> Length
+    ensures { λ r. ⌜ r ≡ lengthOf (now (u .entry)) ⌝ }
+{
+    if u.len() == 0 {
+        return Length::PastEnd;
+    }
+    let b = u[0] as usize;
+    if b < 128 {
+        return Length::Known {
+            value: b,
+            octets: 1,
+        };
+    }
+    let n = b - 128;
+    if n == 0 {
+        return Length::Open { octets: 1 };
+    }
+    if 4 < n {
+        return Length::Bad;
+    }
+    if u.len() - 1 < n {
+        return Length::PastEnd;
+    }
+    let value = octets::number(octets::part(u, 1, n), false) as usize;
+    Length::Known {
+        value,
+        octets: n + 1,
+    }
+}
+
+// Bit 6 of a tag marks a context tag, and only 3Fh is known.
+fn unknown_context(tag: u8) -> bool
+    ensures { λ r. ⌜ r ≡ unknownContext tag ⌝ }
+{
+    tag / 32 % 2 == 1 && tag != 0x3F
+}
+
+// A tag that may not stand inside a group.
+fn root_only(tag: u8) -> bool
+    ensures { λ r. ⌜ r ≡ rootOnly tag ⌝ }
+{
+    tag == 0x01
+        || (tag == 0x05
+            || (tag == 0x06 || (tag == 0x07 || (tag == 0x0E || (tag == 0x1E || tag == 0x3F)))))
+}
+
+// A tag that may not stand where it does.
+fn barred(inside: bool, tag: u8) -> bool
+    ensures { λ r. ⌜ r ≡ both inside (rootOnly tag) ⌝ }
+{
+    inside && root_only(tag)
+}
+
+// What stands before an item's value, or the number of its refusal. `start` counts from the item's tag.
+pub enum Head {
+    Primitive {
+        tag: u8,
+        start: usize,
+        len: usize,
+    },
+    Definite {
+        channel: u32,
+        start: usize,
+        len: usize,
+    },
+    Open {
+        channel: u32,
+        start: usize,
+    },
+    Refused {
+        number: u8,
+    },
+}
+
+// The head of a primitive item; u is what follows its tag.
+fn primitive_head(tag: u8, u: &[u8]) -> Head
+    ensures { λ r. ⌜ r ≡ primitiveHead tag (length (now (u .entry))) (lengthOf (now (u .entry))) ⌝ }
+{
+    match length_field(u) {
+        Length::Known { value, octets } => {
+            if u.len() - octets < value {
+                Head::Refused {
+                    number: Refusal::PAST_END,
+                }
+            } else {
+                Head::Primitive {
+                    tag,
+                    start: octets + 1,
+                    len: value,
+                }
+            }
+        }
+        Length::Open { octets: _ } => Head::Refused {
+            number: Refusal::LENGTH_FORM,
+        },
+        Length::PastEnd => Head::Refused {
+            number: Refusal::PAST_END,
+        },
+        Length::Bad => Head::Refused {
+            number: Refusal::LENGTH_FORM,
+        },
+    }
+}
+
+// The head of a group whose channel number took k octets; v is what follows them.
+fn group_length(channel: u32, k: usize, v: &[u8]) -> Head
+    requires { ⌜ k ≤ 4 ⌝ }
+    ensures { λ r. ⌜ r ≡ groupLength channel k (length (now (v .entry))) (lengthOf (now (v .entry))) ⌝ }
+{
+    match length_field(v) {
+        Length::Known { value, octets } => {
+            if v.len() - octets < value {
+                Head::Refused {
+                    number: Refusal::PAST_END,
+                }
+            } else {
+                Head::Definite {
+                    channel,
+                    start: k + octets + 1,
+                    len: value,
+                }
+            }
+        }
+        Length::Open { octets } => Head::Open {
+            channel,
+            start: k + octets + 1,
+        },
+        Length::PastEnd => Head::Refused {
+            number: Refusal::PAST_END,
+        },
+        Length::Bad => Head::Refused {
+            number: Refusal::LENGTH_FORM,
+        },
+    }
+}
+
+// The head of a group; u is what follows its tag.
+fn group_head(u: &[u8]) -> Head
+    ensures { λ r. ⌜ r ≡ groupHead (now (u .entry)) (channelOf 4 0 0 (now (u .entry))) ⌝ }
+{
+    match channel_number(u) {
+        Channel::Number { value, octets } => group_length(value, octets, &u[octets..]),
+        Channel::PastEnd => Head::Refused {
+            number: Refusal::PAST_END,
+        },
+        Channel::TooLong => Head::Refused {
+            number: Refusal::CHANNEL_FORM,
+        },
+    }
+}
+
+// The head of the item at the front of u, where u ends with the file or with the definite group around it.
+pub fn item_head(inside: bool, u: &[u8]) -> Head
+    ensures { λ r. ⌜ r ≡ headOf inside (now (u .entry)) ⌝ }
+{
+    if u.len() == 0 {
+        return Head::Refused {
+            number: Refusal::PAST_END,
+        };
+    }
+    let tag = u[0];
+    if unknown_context(tag) {
+        return Head::Refused {
+            number: Refusal::CONTEXT_TAG,
+        };
+    }
+    if barred(inside, tag) {
+        return Head::Refused {
+            number: Refusal::NOT_IN_GROUP,
+        };
+    }
+    if tag == 0x3F {
+        group_head(&u[1..])
+    } else {
+        primitive_head(tag, &u[1..])
+    }
+}
