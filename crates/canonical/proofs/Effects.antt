@@ -24,12 +24,12 @@ use Rattle.values.specs.Sample.{widthOf}
 use Rattle.values.proofs.Laws.{width-le}
 use Rattle.settings.specs.declared.Scale.{Scale}
 use Rattle.settings.specs.declared.Settings.{Settings}
-use Rattle.settings.specs.declared.Attribute.{Attribute}
+use Rattle.definitions.specs.declared.Attribute.{Attribute}
 use Rattle.settings.specs.declared.Change.{Change}
-use Rattle.settings.specs.declared.Defined.the-variants.{Changed}
+use Rattle.definitions.specs.declared.Defined.the-variants.{Changed}
 use Rattle.settings.specs.Settings.{blockLimit, channelLimit, lastKind, lastIntervalUnit, lastResolutionUnit, defaultSettings}
-use Rattle.settings.specs.Define.{lengthFits, bitsLength, bitsOf, scaleOf, scaleFits, changeOf, inRange, defined}
-use Rattle.settings.proofs.Laws.{define-back, define-changed}
+use Rattle.definitions.specs.Define.{lengthFits, bitsLength, bitsOf, scaleOf, scaleFits, changeOf, inRange, defined}
+use Rattle.definitions.proofs.Laws.{define-back, define-changed}
 use Rattle.layout.specs.Frame.{widthIn}
 use Rattle.standing.specs.declared.Standing.{Standing}
 use Rattle.effects.specs.declared.Effect.the-variants.{Order, Count, Sequences, Start}

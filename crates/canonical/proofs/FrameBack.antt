@@ -21,7 +21,7 @@ use Rattle.items.specs.declared.Within.the-variants.{Root}
 use Rattle.items.specs.Walk.{cursor}
 use Rattle.settings.specs.declared.Settings.{Settings}
 use Rattle.settings.specs.Settings.{channelLimit, defaultTable}
-use Rattle.settings.specs.Define.{tagged}
+use Rattle.definitions.specs.Define.{tagged}
 use Rattle.layout.specs.Frame.{Frame, sequenceOctets, allAgree}
 use Rattle.standing.specs.declared.Standing.{Standing}
 use Rattle.effects.specs.declared.Framed.the-variants.{Taken}

@@ -13,7 +13,7 @@ use Rattle.items.specs.declared.Within.the-variants.{Root}
 use Rattle.items.specs.Walk.{cursor, itemsOf}
 use Rattle.settings.specs.declared.Settings.{Settings}
 use Rattle.settings.specs.Settings.{defaultTable}
-use Rattle.settings.specs.Define.{tagged}
+use Rattle.definitions.specs.Define.{tagged}
 use Rattle.layout.specs.Frame.{Frame}
 use Rattle.effects.specs.Framing.{octetsLimit, framesLimit}
 use Rattle.pass.specs.Verdict.{State, state, firstState, Verdict, accepted, carried, verdict}

@@ -20,12 +20,12 @@ use Rattle.items.specs.declared.Next.the-variants.{Found, End}
 use Rattle.items.specs.Walk.{cursor, follow, walk, nextOf, itemsFrom}
 use Rattle.items.proofs.Walks.{items-found, items-end}
 use Rattle.settings.specs.declared.Settings.{Settings}
-use Rattle.settings.specs.declared.Attribute.{Attribute}
+use Rattle.definitions.specs.declared.Attribute.{Attribute}
 use Rattle.settings.specs.declared.Change.{Change}
-use Rattle.settings.specs.declared.Tagged.the-variants.{Defines, Other}
-use Rattle.settings.specs.declared.Defined.the-variants.{Changed}
+use Rattle.definitions.specs.declared.Tagged.the-variants.{Defines, Other}
+use Rattle.definitions.specs.declared.Defined.the-variants.{Changed}
 use Rattle.settings.specs.Settings.{zeroSettings, applied}
-use Rattle.settings.specs.Define.{tagged, defined}
+use Rattle.definitions.specs.Define.{tagged, defined}
 use Rattle.layout.specs.Frame.{Frame}
 use Rattle.standing.specs.declared.Standing.{Standing}
 use Rattle.effects.specs.Effects.{effectOf, plainEffect, rootEffect, memberEffect, oneEffect, groupEffect}

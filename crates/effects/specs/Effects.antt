@@ -9,10 +9,10 @@ use Rattle.octets.specs.Pick.{pick}
 use Rattle.octets.specs.Number.{numberOf, signedOf}
 use Rattle.items.specs.declared.Item.{Item}
 use Rattle.heads.specs.Refusals.{unfitLength, unfitValue, channelRange, compressed}
-use Rattle.settings.specs.declared.Tagged.{Tagged}
-use Rattle.settings.specs.declared.Defined.{Defined}
+use Rattle.definitions.specs.declared.Tagged.{Tagged}
+use Rattle.definitions.specs.declared.Defined.{Defined}
 use Rattle.settings.specs.Settings.{defaultSettings, channelLimit}
-use Rattle.settings.specs.Define.{tagged, defined}
+use Rattle.definitions.specs.Define.{tagged, defined}
 use Rattle.standing.specs.declared.Standing.{Standing}
 use Rattle.effects.specs.declared.Effect.{Effect}
 use Rattle.effects.specs.declared.Effect.the-variants.{Pass, Order, Count, Sequences, Start, All, One, Refused}

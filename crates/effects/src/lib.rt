@@ -8,16 +8,16 @@ ghost use Prim.Native.Nat.{_*_, _<_, min};
 ghost use lib.Dec.{ltb};
 ghost use lib.IntN.{pos, _+ℤ_};
 ghost use lib.Signed.{mag};
-ghost use Rattle.settings.specs.Define.{tagged};
+ghost use Rattle.definitions.specs.Define.{tagged};
 ghost use Rattle.effects.specs.Effects.{orderEffect, countEffect, sequencesEffect, startEffect, compressedEffect, allEffect, oneEffect, rootEffect, plainEffect, memberEffect, groupEffect, effectOf};
 ghost use Rattle.effects.specs.Framing.{channelsOf, sequencesOf, pointerFits, framedAs};
 ghost use Rattle.effects.specs.Reach.{reachOf};
+use definitions::Defined;
+use definitions::Tagged;
 use heads::Refusal;
 use items::Item;
 use settings::Change;
-use settings::Defined;
 use settings::Settings;
-use settings::Tagged;
 use standing::Standing;
 
 // What an item asks for.
@@ -161,10 +161,10 @@ fn root_effect(st: Standing, tag: u8, start: usize, v: &[u8]) -> Effect
 fn plain_effect(st: Standing, tag: u8, start: usize, v: &[u8]) -> Effect
     ensures { λ r. ⌜ r ≡ plainEffect st tag start (now (v .entry)) (tagged tag) ⌝ }
 {
-    match settings::attribute_of(tag) {
+    match definitions::attribute_of(tag) {
         Tagged::Defines(a) => {
             let base = Settings::default();
-            all_effect(settings::define(a, v, st.little, base))
+            all_effect(definitions::define(a, v, st.little, base))
         }
         Tagged::Other => root_effect(st, tag, start, v),
     }
@@ -174,10 +174,10 @@ fn plain_effect(st: Standing, tag: u8, start: usize, v: &[u8]) -> Effect
 fn member_effect(st: Standing, channel: u32, tag: u8, v: &[u8]) -> Effect
     ensures { λ r. ⌜ r ≡ memberEffect st channel (now (v .entry)) (tagged tag) ⌝ }
 {
-    match settings::attribute_of(tag) {
+    match definitions::attribute_of(tag) {
         Tagged::Defines(a) => {
             let base = st.root;
-            one_effect(channel, settings::define(a, v, st.little, base))
+            one_effect(channel, definitions::define(a, v, st.little, base))
         }
         Tagged::Other => Effect::Pass,
     }

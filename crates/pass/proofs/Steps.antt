@@ -19,12 +19,12 @@ use Rattle.items.specs.declared.Item.{Item}
 use Rattle.items.specs.declared.Item.the-variants.{Plain}
 use Rattle.heads.specs.Refusals.{fileLimit}
 use Rattle.settings.specs.declared.Settings.{Settings}
-use Rattle.settings.specs.declared.Attribute.{Attribute}
+use Rattle.definitions.specs.declared.Attribute.{Attribute}
 use Rattle.settings.specs.declared.Change.{Change}
-use Rattle.settings.specs.declared.Tagged.{Tagged}
-use Rattle.settings.specs.declared.Defined.{Defined}
+use Rattle.definitions.specs.declared.Tagged.{Tagged}
+use Rattle.definitions.specs.declared.Defined.{Defined}
 use Rattle.settings.specs.Settings.{channelLimit, defaultSettings, applied, allApplied}
-use Rattle.settings.specs.Define.{tagged, lengthFits, changeOf, standingIn, inRange, defined}
+use Rattle.definitions.specs.Define.{tagged, lengthFits, changeOf, standingIn, inRange, defined}
 use Rattle.layout.specs.Frame.{sequenceOctets, allAgree}
 use Rattle.standing.specs.declared.Standing.{Standing}
 use Rattle.effects.specs.declared.Effect.{Effect}

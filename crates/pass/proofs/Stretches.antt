@@ -28,12 +28,12 @@ use Rattle.heads.specs.Head.{rootOnly, headOf}
 use Rattle.items.specs.Walk.{cursor, standsIn, isInside, extent, endsOpen, ended, itemOf, nextIn, nextOf, itemsFrom}
 use Rattle.items.proofs.Walks.{items-found}
 use Rattle.settings.specs.declared.Settings.{Settings}
-use Rattle.settings.specs.declared.Attribute.{Attribute}
+use Rattle.definitions.specs.declared.Attribute.{Attribute}
 use Rattle.settings.specs.declared.Change.{Change}
-use Rattle.settings.specs.declared.Tagged.{Tagged}
-use Rattle.settings.specs.declared.Defined.{Defined}
+use Rattle.definitions.specs.declared.Tagged.{Tagged}
+use Rattle.definitions.specs.declared.Defined.{Defined}
 use Rattle.settings.specs.Settings.{channelLimit, defaultSettings, zeroSettings, applied, allApplied}
-use Rattle.settings.specs.Define.{tagged, defined}
+use Rattle.definitions.specs.Define.{tagged, defined}
 use Rattle.settings.proofs.Shown.{map-replicate}
 use Rattle.layout.specs.Frame.{Frame}
 use Rattle.standing.specs.declared.Standing.{Standing}

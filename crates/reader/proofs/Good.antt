@@ -23,10 +23,10 @@ use Rattle.values.specs.declared.Bits.{Bits}
 use Rattle.items.specs.declared.Item.{Item}
 use Rattle.settings.specs.declared.Scale.{Scale}
 use Rattle.settings.specs.declared.Settings.{Settings}
-use Rattle.settings.specs.declared.Attribute.{Attribute}
+use Rattle.definitions.specs.declared.Attribute.{Attribute}
 use Rattle.settings.specs.declared.Change.{Change}
 use Rattle.settings.specs.Settings.{blockLimit, lastKind, lastIntervalUnit, lastResolutionUnit, defaultSettings}
-use Rattle.settings.specs.Define.{bitsLength, lengthFits, scaleOf, bitsOf, changeOf, scaleFits, inRange}
+use Rattle.definitions.specs.Define.{bitsLength, lengthFits, scaleOf, bitsOf, changeOf, scaleFits, inRange}
 use Rattle.layout.specs.Frame.{Frame, sequenceOctets, channelAgrees, allAgree}
 use Rattle.standing.specs.declared.Standing.{Standing}
 use Rattle.effects.specs.Effects.{valueAt}

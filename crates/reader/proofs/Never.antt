@@ -23,7 +23,7 @@ use Rattle.items.proofs.Walks.{next-refused}
 use Rattle.settings.specs.declared.Settings.{Settings}
 use Rattle.settings.specs.declared.Change.{Change}
 use Rattle.settings.specs.Settings.{blockLimit, lastKind, defaultSettings}
-use Rattle.settings.specs.Define.{inRange}
+use Rattle.definitions.specs.Define.{inRange}
 use Rattle.layout.specs.Frame.{blockOctets, sequenceOctets}
 use Rattle.effects.specs.Framing.{octetsLimit, channelsOf}
 use Rattle.pass.specs.Verdict.{State, firstState, frameChannels, refused, interpret, verdict}

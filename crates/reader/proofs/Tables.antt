@@ -11,10 +11,10 @@ use borrow.Author.Needs.{needs}
 use lib.ListN.{length}
 use Rattle.items.specs.declared.Item.{Item}
 use Rattle.settings.specs.declared.Settings.{Settings}
-use Rattle.settings.specs.declared.Attribute.{Attribute}
+use Rattle.definitions.specs.declared.Attribute.{Attribute}
 use Rattle.settings.specs.declared.Change.{Change}
 use Rattle.settings.specs.Settings.{channelLimit, defaultSettings, zeroSettings, applied, allApplied}
-use Rattle.settings.specs.Define.{lengthFits, changeOf, standingIn, inRange}
+use Rattle.definitions.specs.Define.{lengthFits, changeOf, standingIn, inRange}
 use Rattle.effects.specs.Effects.{valueAt}
 use Rattle.pass.specs.Verdict.{State, firstState, oneChanged}
 use Rattle.reader.proofs.Every.{Every, every-replicate, every-changed, every-map}

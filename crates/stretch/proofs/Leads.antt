@@ -27,12 +27,12 @@ use Rattle.heads.specs.Head.{unknownContext, rootOnly, lengthOf, primitiveHead,
 use Rattle.items.specs.Walk.{cursor, standsIn, isInside, extent, endsOpen, itemOf, nextIn, nextOf}
 use Rattle.heads.proofs.Heads.{length-short, head-primitive}
 use Rattle.settings.specs.declared.Settings.{Settings}
-use Rattle.settings.specs.declared.Attribute.{Attribute}
+use Rattle.definitions.specs.declared.Attribute.{Attribute}
 use Rattle.settings.specs.declared.Change.{Change}
-use Rattle.settings.specs.declared.Tagged.{Tagged}
-use Rattle.settings.specs.declared.Defined.{Defined}
+use Rattle.definitions.specs.declared.Tagged.{Tagged}
+use Rattle.definitions.specs.declared.Defined.{Defined}
 use Rattle.settings.specs.Settings.{applied}
-use Rattle.settings.specs.Define.{tagged, defined, settledAs}
+use Rattle.definitions.specs.Define.{tagged, defined, settledAs}
 use Rattle.stretch.specs.Stretch.{Step, leaves, ends, steppedOver, leftBy, stepBy, stepOf}
 
 -- ---- tags

@@ -21,10 +21,10 @@ use Rattle.items.specs.declared.Cursor.{Cursor}
 use Rattle.items.specs.Walk.{extent}
 use Rattle.items.proofs.Walks.{extent-found}
 use Rattle.settings.specs.declared.Settings.{Settings}
-use Rattle.settings.specs.declared.Attribute.{Attribute}
-use Rattle.settings.specs.declared.Tagged.{Tagged}
-use Rattle.settings.specs.declared.Settled.{Settled}
-use Rattle.settings.specs.Define.{tagged, defined, settledAs}
+use Rattle.definitions.specs.declared.Attribute.{Attribute}
+use Rattle.definitions.specs.declared.Tagged.{Tagged}
+use Rattle.definitions.specs.declared.Settled.{Settled}
+use Rattle.definitions.specs.Define.{tagged, defined, settledAs}
 use Rattle.stretch.specs.declared.Stretch.{Stretch}
 use Rattle.stretch.specs.Stretch.{Step, leaves, ends, steppedOver, leftBy, stepBy, stepOf, stretch, onward, runFrom, runOf, stretchOf}
 

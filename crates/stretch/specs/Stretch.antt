@@ -9,9 +9,9 @@ use Rattle.octets.specs.Pick.{pick}
 use Rattle.items.specs.declared.Cursor.{Cursor}
 use Rattle.items.specs.Walk.{extent}
 use Rattle.settings.specs.declared.Settings.{Settings}
-use Rattle.settings.specs.declared.Settled.{Settled}
-use Rattle.settings.specs.declared.Tagged.{Tagged}
-use Rattle.settings.specs.Define.{tagged, defined, settledAs}
+use Rattle.definitions.specs.declared.Settled.{Settled}
+use Rattle.definitions.specs.declared.Tagged.{Tagged}
+use Rattle.definitions.specs.Define.{tagged, defined, settledAs}
 use Rattle.stretch.specs.declared.Stretch.{Stretch}
 
 -- The tags of other items that a stretch may hold: none that stands only outside groups, no context tag, and not 00, which may end an open group.

@@ -8,10 +8,10 @@ ghost use mathlib.Core.Path.{_≡_};
 ghost use Prim.Native.Nat.{_≤_};
 ghost use lib.ListN.{length};
 ghost use Rattle.stretch.specs.Stretch.{steppedOver, runOf, stretchOf};
+use definitions::Settled;
+use definitions::Tagged;
 use items::Cursor;
 use settings::Settings;
-use settings::Settled;
-use settings::Tagged;
 
 // Where a stretch ends, and the settings that it leaves.
 pub struct Stretch {
@@ -51,9 +51,9 @@ fn run(u: &[u8], little: bool, base: Settings, held: Settings) -> Stretch
             return Stretch { at, settings };
         }
         let next = at + 2 + n;
-        match settings::attribute_of(tag) {
+        match definitions::attribute_of(tag) {
             Tagged::Defines(a) => {
-                match settings::settle(a, octets::part(u, at + 2, n), little, base, settings) {
+                match definitions::settle(a, octets::part(u, at + 2, n), little, base, settings) {
                     Settled::Record(x) => {
                         settings = x;
                         at = next;

@@ -9,7 +9,7 @@ use Rattle.values.specs.Sample.{widthOf, plainOf, isNull, valueOf}
 use Rattle.items.specs.declared.Item.{Item}
 use Rattle.heads.specs.Head.{channelOf, lengthOf, unknownContext, rootOnly, primitiveHead, groupLength, groupHead, headOf}
 use Rattle.items.specs.Walk.{Items, item, finished, fault, refusal, itemOf, nextIn, nextOf, follow, walk, itemsFrom, itemsOf}
-use Rattle.settings.specs.Define.{tagged, scaleOf, defined}
+use Rattle.definitions.specs.Define.{tagged, scaleOf, defined}
 use Rattle.settings.specs.Settings.{allApplied}
 use Rattle.layout.specs.Frame.{blockOctets, sequenceOctets, octetsBelow, widthAgrees, channelAgrees, allAgree, samplesOf, offsetOf, placeOf}
 use Rattle.stores.specs.Number.{be}

@@ -1,6 +1,6 @@
 -- By the arm of the match.
 use Rattle.items.specs.declared.Item.{Item}
-use Rattle.settings.specs.Define.{tagged}
+use Rattle.definitions.specs.Define.{tagged}
 use Rattle.effects.specs.Effects.{effectOf, plainEffect, memberEffect}
 use Prim.Native.Nat.{ℕ}
 use mathlib.Core.List.{List}

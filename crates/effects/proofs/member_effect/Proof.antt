@@ -7,8 +7,8 @@ use Rattle.effects.proofs.member_effect.Tie as tie
 use Rattle.effects.proofs.member_effect.Reads as reads
 use Rattle.effects.proofs.member_effect.Lts as lts
 use Rattle.effects.proofs.one_effect.Reads as one-effect-reads
-use Rattle.settings.proofs.attribute_of.Reads as attribute-of-reads
-use Rattle.settings.proofs.define.Reads as define-reads
+use Rattle.definitions.proofs.attribute_of.Reads as attribute-of-reads
+use Rattle.definitions.proofs.define.Reads as define-reads
 
 -- src/lib.rt:229:11
 attribute-of-requires : tie.Need-attribute-of-requires

@@ -1,7 +1,7 @@
 -- By the attribute that the tag defines, if it defines one.
 use mathlib.Core.Path.{_≡_, ap, sym, _∙_}
 use Rattle.settings.specs.declared.Settings.{Settings}
-use Rattle.settings.specs.Define.{defined}
+use Rattle.definitions.specs.Define.{defined}
 use Rattle.effects.specs.Effects.{plainEffect, allEffect}
 use borrow.Author.Needs.{needs}
 use Rattle.effects.proofs.plain_effect.Statement.{statement}
@@ -11,8 +11,8 @@ use Rattle.effects.proofs.plain_effect.Lts as lts
 use Rattle.effects.proofs.all_effect.Reads as all-effect-reads
 use Rattle.effects.proofs.root_effect.Reads as root-effect-reads
 use Rattle.settings.proofs.Settings.default.Reads as default-reads
-use Rattle.settings.proofs.attribute_of.Reads as attribute-of-reads
-use Rattle.settings.proofs.define.Reads as define-reads
+use Rattle.definitions.proofs.attribute_of.Reads as attribute-of-reads
+use Rattle.definitions.proofs.define.Reads as define-reads
 
 -- src/lib.rt:216:11
 attribute-of-requires : tie.Need-attribute-of-requires

@@ -12,8 +12,8 @@ use Rattle.stretch.proofs.run.Tie as tie
 use Rattle.stretch.proofs.run.Reads as reads
 use Rattle.stretch.proofs.run.Lts as lts
 use Rattle.octets.proofs.part.Reads as part-reads
-use Rattle.settings.proofs.attribute_of.Reads as attribute-of-reads
-use Rattle.settings.proofs.settle.Reads as settle-reads
+use Rattle.definitions.proofs.attribute_of.Reads as attribute-of-reads
+use Rattle.definitions.proofs.settle.Reads as settle-reads
 use Rattle.stretch.proofs.stepped_over.Reads as stepped-over-reads
 
 abbrev Inv-loop : tie.InvT-loop

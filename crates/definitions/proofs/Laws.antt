@@ -1,0 +1,34 @@
+-- Laws of definitions.
+--     define-..    the ways of a definition
+-- Assumes nothing.
+use mathlib.Core.Path.{_≡_, refl, sym, ap, _∙_}
+use mathlib.Core.List.{List}
+use mathlib.Core.Bool.{Bool, true, false, not}
+use Prim.Native.Nat.{ℕ}
+use borrow.Author.Tests.{eq-eqb, ne-eqb}
+use lib.ListN.{length}
+use Rattle.octets.specs.Pick.{pick}
+use Rattle.heads.specs.Refusals.{unfitLength, unfitValue}
+use Rattle.settings.specs.declared.Settings.{Settings}
+use Rattle.definitions.specs.declared.Attribute.{Attribute}
+use Rattle.settings.specs.declared.Change.{Change}
+use Rattle.definitions.specs.declared.Defined.{Defined}
+use Rattle.definitions.specs.declared.Defined.the-variants.{Changed, Refused}
+use Rattle.definitions.specs.Define.{lengthFits, standingIn, changeOf, inRange, defined}
+
+module _ (a : Attribute) (little : Bool) (base : Settings) (v : List ℕ) where
+  pub define-length : lengthFits a (length v) ≡ false → Refused unfitLength ≡ defined a little base v
+  unfolding defined
+  define-length f = simp f
+
+  pub define-back : lengthFits a (length v) ≡ true → length v ≡ 0 → Changed (standingIn a base) ≡ defined a little base v
+  unfolding defined
+  define-back f z = simp (f, eq-eqb (length v) 0 z)
+
+  pub define-changed : lengthFits a (length v) ≡ true → (length v ≡ 0 → ⊥) → inRange (changeOf a little v) ≡ true → Changed (changeOf a little v) ≡ defined a little base v
+  unfolding defined
+  define-changed f z r = simp (f, ne-eqb (length v) 0 z, r)
+
+  pub define-value : lengthFits a (length v) ≡ true → (length v ≡ 0 → ⊥) → inRange (changeOf a little v) ≡ false → Refused unfitValue ≡ defined a little base v
+  unfolding defined
+  define-value f z r = simp (f, ne-eqb (length v) 0 z, r)
