@@ -24,12 +24,12 @@ use Rattle.settings.specs.Settings.{channelLimit, defaultTable}
 use Rattle.definitions.specs.Define.{tagged}
 use Rattle.layout.specs.Frame.{Frame, sequenceOctets, allAgree}
 use Rattle.standing.specs.declared.Standing.{Standing}
-use Rattle.effects.specs.declared.Framed.the-variants.{Taken}
+use Rattle.framing.specs.declared.Framed.the-variants.{Taken}
 use Rattle.standing.specs.Standing.{withContinued}
 use Rattle.effects.specs.Effects.{rootEffect}
-use Rattle.effects.specs.Framing.{octetsLimit, framesLimit, channelsOf, pointerAfter, framedAs}
+use Rattle.framing.specs.Framing.{octetsLimit, framesLimit, channelsOf, pointerAfter, framedAs}
 use Rattle.pass.specs.Verdict.{State, state, goes, frameChannels, withFrame, carried}
-use Rattle.effects.proofs.Framings.{pointer-small, framed-taken}
+use Rattle.framing.proofs.Framings.{pointer-small, framed-taken}
 use Rattle.canonical.specs.Recording.{Recorded}
 use Rattle.canonical.specs.Canonical.{item, numberItem, groupOctets, groupsOctets, sequencesItem, unsignedOf, waveformOf, frameOctets}
 use Rattle.canonical.proofs.Good.{AllSettled, GoodRecorded}

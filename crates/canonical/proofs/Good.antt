@@ -9,7 +9,7 @@ use Rattle.settings.specs.declared.Settings.{Settings}
 use Rattle.settings.specs.Settings.{channelLimit, blockLimit, lastKind, lastIntervalUnit, lastResolutionUnit}
 use Rattle.layout.specs.Frame.{widthIn, channelIn}
 use Rattle.laid.specs.Laid.{Named}
-use Rattle.effects.specs.Framing.{pointerFits}
+use Rattle.framing.specs.Framing.{pointerFits}
 pub use Rattle.reader.proofs.Good.{GoodScale}
 use Rattle.canonical.specs.Recording.{Recorded}
 

@@ -37,7 +37,7 @@ use Rattle.heads.specs.Head.{channelOf, lengthOf, unknownContext, rootOnly, pri
 use Rattle.heads.specs.Refusals.{contextTag, notInGroup}
 use Rattle.items.specs.Walk.{cursor, itemOf, nextIn, nextOf}
 use Rattle.effects.specs.Effects.{valueAt}
-use Rattle.effects.specs.Framing.{octetsLimit}
+use Rattle.framing.specs.Framing.{octetsLimit}
 use Rattle.canonical.specs.Canonical.{item, channelOctets}
 use Rattle.canonical.proofs.Numbers.{number-back}
 

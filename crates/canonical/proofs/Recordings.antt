@@ -21,7 +21,7 @@ use Rattle.settings.specs.declared.Settings.{Settings}
 use Rattle.layout.specs.Frame.{Frame, widthIn, blockOctets, sequenceOctets, widthAgrees, channelAgrees, allAgree, channelIn, samplesOf}
 use Rattle.laid.specs.Laid.{Named}
 use Rattle.laid.proofs.Laid.{laid-length, laid-at}
-use Rattle.effects.specs.Framing.{sequencesOf}
+use Rattle.framing.specs.Framing.{sequencesOf}
 use Rattle.reader.specs.Answer.{offsetBits}
 use Rattle.canonical.specs.Recording.{Recorded, settled, sampleBits, tabulate, recordedFrame}
 use Rattle.canonical.specs.Canonical.{waveformOf}

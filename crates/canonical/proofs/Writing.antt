@@ -39,18 +39,18 @@ use Rattle.layout.specs.Measure.{layoutOf}
 use Rattle.layout.specs.Size.{groupsSize, frameSize}
 use Rattle.standing.specs.declared.Standing.{Standing}
 use Rattle.effects.specs.declared.Effect.{Effect}
-use Rattle.effects.specs.declared.Framed.{Framed}
-use Rattle.effects.specs.declared.Framed.the-variants.{Taken}
+use Rattle.framing.specs.declared.Framed.{Framed}
+use Rattle.framing.specs.declared.Framed.the-variants.{Taken}
 use Rattle.standing.specs.Standing.{firstStanding}
 use Rattle.effects.specs.Effects.{effectOf, valueAt}
-use Rattle.effects.specs.Framing.{octetsLimit, channelsOf, framedAs}
+use Rattle.framing.specs.Framing.{octetsLimit, channelsOf, framedAs}
 use Rattle.pass.specs.Verdict.{State, state, firstState, Outcome, goes, refuses, frameChannels, frameAt, withFrame, carried, placeAt, Verdict, accepted, refused, interpret, verdict}
 use Rattle.pass.specs.Scan.{zeroFrame, sizeOf, sizes, scannedIn, scanOf}
 use Rattle.pass.specs.declared.Asked.{Asked}
 use Rattle.pass.specs.declared.Checked.{Checked}
 use Rattle.pass.specs.declared.Scan.{Scan}
 use Rattle.pass.proofs.Keeps.{meaning, Kept, Keeps, frames-kept, accepted-by, interpret-goes, interpret-refuses, interpret-finished, interpret-fault, firstCursor}
-use Rattle.effects.proofs.Framings.{pointer-small}
+use Rattle.framing.proofs.Framings.{pointer-small}
 use Rattle.settings.proofs.Shown.{shown, shown-none}
 use Rattle.pass.proofs.Scans.{channels-few, framed-found, shownBy, Records, Filling, shown-full, frame-shown}
 use Rattle.reader.proofs.Ordered.{Lies, accepted-lies, accepted-small}

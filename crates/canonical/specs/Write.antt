@@ -9,7 +9,7 @@ use Rattle.octets.specs.Pick.{pick, both}
 use Rattle.heads.specs.Refusals.{bufferShort}
 use Rattle.items.specs.Walk.{refusal}
 use Rattle.layout.specs.Frame.{Frame}
-use Rattle.effects.specs.Framing.{octetsLimit}
+use Rattle.framing.specs.Framing.{octetsLimit}
 use Rattle.pass.specs.Scan.{sizes}
 use Rattle.pass.specs.Verdict.{Verdict, accepted, refused, verdict}
 use Rattle.canonical.specs.declared.Written.{Written}

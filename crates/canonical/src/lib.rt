@@ -20,7 +20,7 @@ ghost use Rattle.canonical.specs.Canonical.{channelOctets, scaleItem, gr
 ghost use Rattle.canonical.specs.Write.{canonicalOf, Ready, writtenOf, leftOf};
 ghost use Rattle.canonical.specs.Parts.{unsignedBy, firstItems, scaleItems, lastItems, headItems, samplesTurned, frameParts};
 use effects::Effect;
-use effects::Framed;
+use framing::Framed;
 use heads::Refusal;
 use items::Cursor;
 use items::Next;
@@ -345,14 +345,14 @@ fn write_frames(s: &[u8], out: &mut [u8]) -> usize
                         }
                     }
                     Effect::Frame { start, len } => {
-                        let count = effects::channels_of(st.counted);
+                        let count = framing::channels_of(st.counted);
                         let mut l = Layout::none();
                         let mut i = 0usize;
                         while i < n {
                             l = l.more(i, 0, table[i]);
                             i += 1;
                         }
-                        match effects::frame_of(frames, st, l.agree, l.octets, len) {
+                        match framing::frame_of(frames, st, l.agree, l.octets, len) {
                             Framed::Refused(_) => {
                                 return at;
                             }

@@ -3,7 +3,7 @@
 use Prim.Native.Nat.{ℕ, _+_, min}
 use Rattle.settings.specs.Settings.{channelLimit}
 use Rattle.effects.specs.declared.Effect.{Effect}
-use Rattle.effects.specs.Framing.{channelsOf}
+use Rattle.framing.specs.Framing.{channelsOf}
 
 -- How many records, from channel 0 on, an effect looks at: up to the channel that it changes, or those of a frame.
 unfoldable pub reachOf : ℕ → Effect → ℕ

@@ -27,10 +27,10 @@ use Rattle.layout.specs.Measure.{layoutOf, More}
 use Rattle.standing.specs.declared.Standing.{Standing}
 use Rattle.standing.specs.Standing.{withRoot}
 use Rattle.effects.specs.declared.Effect.{Effect}
-use Rattle.effects.specs.declared.Framed.{Framed}
-use Rattle.effects.specs.declared.Framed.the-variants.{Taken}
+use Rattle.framing.specs.declared.Framed.{Framed}
+use Rattle.framing.specs.declared.Framed.the-variants.{Taken}
 use Rattle.effects.specs.Effects.{effectOf}
-use Rattle.effects.specs.Framing.{channelsOf, framedAs}
+use Rattle.framing.specs.Framing.{channelsOf, framedAs}
 use Rattle.stretch.specs.declared.Stretch.{Stretch}
 use Rattle.stretch.specs.Stretch.{stretchOf}
 use Rattle.pass.specs.declared.Asked.{Asked}

@@ -24,7 +24,7 @@ use Rattle.items.specs.Walk.{Items, item, finished, fault, cursor, nextOf, item
 use Rattle.items.proofs.Walks.{next-later, items-found, items-end, items-refused}
 use Rattle.layout.specs.Frame.{Frame}
 use Rattle.effects.specs.Effects.{effectOf}
-use Rattle.effects.specs.Framing.{octetsLimit}
+use Rattle.framing.specs.Framing.{octetsLimit}
 use Rattle.pass.specs.Verdict.{State, firstState, Outcome, goes, refuses, carried, placeAt, Verdict, accepted, refused, afterItem, interpret, verdict}
 
 -- What an item does.

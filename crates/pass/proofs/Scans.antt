@@ -39,8 +39,8 @@ use Rattle.layout.specs.Measure.{layoutOf, noLayout, More}
 use Rattle.layout.proofs.Laws.{Passed, passed-none, passed-more, passed-all, groups-few}
 use Rattle.standing.specs.declared.Standing.{Standing}
 use Rattle.effects.specs.declared.Effect.{Effect}
-use Rattle.effects.specs.declared.Framed.{Framed}
-use Rattle.effects.specs.declared.Framed.the-variants.{Taken}
+use Rattle.framing.specs.declared.Framed.{Framed}
+use Rattle.framing.specs.declared.Framed.the-variants.{Taken}
 use Rattle.pass.specs.declared.Asked.{Asked}
 use Rattle.pass.specs.declared.View.{View}
 use Rattle.pass.specs.declared.Found.{Found}
@@ -50,7 +50,7 @@ use Rattle.pass.specs.declared.Scan.{Scan}
 use Rattle.standing.specs.Standing.{firstStanding, withOrder, withCount, withSequences, withStart, withRoot, withContinued}
 use Rattle.effects.specs.Effects.{valueAt, effectOf}
 use Rattle.effects.specs.Reach.{reachOf}
-use Rattle.effects.specs.Framing.{octetsLimit, framesLimit, channelsOf, sequencesOf, pointerFits, pointerAfter, framedAs}
+use Rattle.framing.specs.Framing.{octetsLimit, framesLimit, channelsOf, sequencesOf, pointerFits, pointerAfter, framedAs}
 use Rattle.pass.specs.Verdict.{State, state, firstState, Outcome, goes, refuses, oneChanged, frameChannels, frameAt, withFrame, carried, placeAt, Verdict, accepted, refused, afterItem, interpret, verdict}
 use Rattle.pass.specs.Passing.{Scanning}
 use Rattle.pass.proofs.Keeps.{interpret-goes, interpret-refuses}

@@ -28,10 +28,10 @@ use Rattle.definitions.specs.Define.{tagged, lengthFits, changeOf, standingIn, 
 use Rattle.layout.specs.Frame.{sequenceOctets, allAgree}
 use Rattle.standing.specs.declared.Standing.{Standing}
 use Rattle.effects.specs.declared.Effect.{Effect}
-use Rattle.effects.specs.declared.Framed.{Framed}
+use Rattle.framing.specs.declared.Framed.{Framed}
 use Rattle.standing.specs.Standing.{withOrder, withCount, withSequences, withStart, withRoot, withContinued}
 use Rattle.effects.specs.Effects.{orderEffect, countEffect, sequencesEffect, startEffect, compressedEffect, allEffect, oneEffect, rootEffect, plainEffect, memberEffect, groupEffect, valueAt, effectOf}
-use Rattle.effects.specs.Framing.{octetsLimit, framesLimit, sequencesOf, pointerFits, pointerAfter, framedAs}
+use Rattle.framing.specs.Framing.{octetsLimit, framesLimit, sequencesOf, pointerFits, pointerAfter, framedAs}
 use Rattle.pass.specs.Verdict.{State, state, Outcome, goes, refuses, oneChanged, frameChannels, frameAt, withFrame, carried}
 use Rattle.pass.proofs.Keeps.{meaning}
 

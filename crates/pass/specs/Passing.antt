@@ -13,7 +13,7 @@ use Rattle.settings.specs.declared.Settings.{Settings}
 use Rattle.settings.specs.Settings.{channelLimit}
 use Rattle.layout.specs.Frame.{Frame}
 use Rattle.standing.specs.declared.Standing.{Standing}
-use Rattle.effects.specs.Framing.{octetsLimit, framesLimit}
+use Rattle.framing.specs.Framing.{octetsLimit, framesLimit}
 use Rattle.stretch.specs.Stretch.{steppedOver}
 use Rattle.pass.specs.declared.Asked.{Asked}
 use Rattle.pass.specs.declared.Found.{Found}

@@ -12,13 +12,13 @@ use Rattle.settings.specs.declared.Settings.{Settings}
 use Rattle.settings.specs.Settings.{channelLimit, defaultTable, zeroSettings, applied, allApplied}
 use Rattle.standing.specs.declared.Standing.{Standing}
 use Rattle.effects.specs.declared.Effect.{Effect}
-use Rattle.effects.specs.declared.Framed.{Framed}
+use Rattle.framing.specs.declared.Framed.{Framed}
 use Rattle.pass.specs.declared.Checked.{Checked}
 use Rattle.pass.specs.declared.Checked.the-variants.{Frames}
 use Rattle.standing.specs.Standing.{firstStanding, withOrder, withCount, withSequences, withStart, withRoot}
 use Rattle.effects.specs.Effects.{valueAt, effectOf}
 use Rattle.layout.specs.Frame.{Frame, sequenceOctets, allAgree}
-use Rattle.effects.specs.Framing.{octetsLimit, channelsOf, framedAs}
+use Rattle.framing.specs.Framing.{octetsLimit, channelsOf, framedAs}
 
 -- What stands between two items: what stands outside the channels' own records, those records, and the frames met so far.
 pub record State : Type 0 where

@@ -13,7 +13,7 @@ ghost use Rattle.pass.specs.Verdict.{placeAt};
 ghost use Rattle.pass.specs.Scan.{refusedScan, scanOf};
 ghost use Rattle.pass.specs.Passing.{Scanning, openedBy, beginsAt};
 use effects::Effect;
-use effects::Framed;
+use framing::Framed;
 use heads::Refusal;
 use items::Cursor;
 use items::Item;
@@ -290,14 +290,14 @@ fn scan_channels(
                         }
                     }
                     Effect::Frame { start, len } => {
-                        let count = effects::channels_of(st.counted);
+                        let count = framing::channels_of(st.counted);
                         let mut l = Layout::none();
                         let mut i = 0usize;
                         while i < n {
                             l = l.more(i, asked.channel, table[i]);
                             i += 1;
                         }
-                        match effects::frame_of(frames, st, l.agree, l.octets, len) {
+                        match framing::frame_of(frames, st, l.agree, l.octets, len) {
                             Framed::Refused(number) => {
                                 return refused_scan(Refusal {
                                     number,
@@ -405,14 +405,14 @@ pub fn scan_file(s: &[u8], asked: Asked) -> Scan
                         return scan_channels(s, asked, here, st, frames, found, size);
                     }
                     Effect::Frame { start, len } => {
-                        let count = effects::channels_of(st.counted);
+                        let count = framing::channels_of(st.counted);
                         let mut l = Layout::none();
                         let mut i = 0usize;
                         while i < n {
                             l = l.more(i, asked.channel, root);
                             i += 1;
                         }
-                        match effects::frame_of(frames, st, l.agree, l.octets, len) {
+                        match framing::frame_of(frames, st, l.agree, l.octets, len) {
                             Framed::Refused(number) => {
                                 return refused_scan(Refusal {
                                     number,

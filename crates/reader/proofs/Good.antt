@@ -30,7 +30,7 @@ use Rattle.definitions.specs.Define.{bitsLength, lengthFits, scaleOf, bitsOf, c
 use Rattle.layout.specs.Frame.{Frame, sequenceOctets, channelAgrees, allAgree}
 use Rattle.standing.specs.declared.Standing.{Standing}
 use Rattle.effects.specs.Effects.{valueAt}
-use Rattle.effects.specs.Framing.{channelsOf}
+use Rattle.framing.specs.Framing.{channelsOf}
 use Rattle.pass.specs.Verdict.{State, firstState, frameChannels, frameAt, accepted, verdict}
 use Rattle.pass.specs.Scan.{zeroFrame}
 use Rattle.pass.proofs.Keeps.{Keeps, accepted-kept}

@@ -25,7 +25,7 @@ use Rattle.settings.specs.declared.Change.{Change}
 use Rattle.settings.specs.Settings.{blockLimit, lastKind, defaultSettings}
 use Rattle.definitions.specs.Define.{inRange}
 use Rattle.layout.specs.Frame.{blockOctets, sequenceOctets}
-use Rattle.effects.specs.Framing.{octetsLimit, channelsOf}
+use Rattle.framing.specs.Framing.{octetsLimit, channelsOf}
 use Rattle.pass.specs.Verdict.{State, firstState, frameChannels, refused, interpret, verdict}
 use Rattle.pass.proofs.Keeps.{Keeps, verdict-law, firstCursor, items-first}
 use Rattle.pass.proofs.Steps.{meaning-steps, meaning-refused}

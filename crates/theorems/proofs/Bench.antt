@@ -20,7 +20,7 @@ use Rattle.pass.specs.declared.Checked.the-variants.{Frames}
 use Rattle.reader.specs.declared.Described.{Described}
 use Rattle.reader.specs.declared.Sampled.{Sampled}
 use Rattle.reader.specs.declared.Sampled.the-variants.{Sample}
-use Rattle.effects.specs.Framing.{channelsOf, sequencesOf, pointerFits, pointerAfter, framedAs}
+use Rattle.framing.specs.Framing.{channelsOf, sequencesOf, pointerFits, pointerAfter, framedAs}
 use Rattle.effects.specs.Effects.{orderEffect, countEffect, sequencesEffect, startEffect, compressedEffect, allEffect, oneEffect, rootEffect, plainEffect, memberEffect, groupEffect, effectOf}
 use Rattle.pass.specs.Verdict.{oneChanged, withFrame, carried, placeAt, afterItem, interpret, verdict, checkedAs, checkOf}
 use Rattle.reader.specs.Answer.{offsetBits, attributesIn, describedIn, attributesOf, sampleIn, sampledIn, sampleOf}

@@ -24,7 +24,7 @@ use Rattle.heads.specs.declared.Refusal.{Refusal}
 use Rattle.heads.specs.Refusals.{bufferShort}
 use Rattle.items.specs.Walk.{refusal}
 use Rattle.layout.specs.Frame.{Frame}
-use Rattle.effects.specs.Framing.{octetsLimit}
+use Rattle.framing.specs.Framing.{octetsLimit}
 use Rattle.pass.specs.Verdict.{Verdict, accepted, refused, verdict, checkOf}
 use Rattle.reader.proofs.Ordered.{accepted-few}
 use Rattle.canonical.specs.declared.Written.{Written}

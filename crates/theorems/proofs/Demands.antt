@@ -14,7 +14,7 @@ use Rattle.items.specs.Walk.{refusal, itemsOf}
 use Rattle.layout.specs.Frame.{Frame}
 use Rattle.pass.specs.declared.Checked.{Checked}
 use Rattle.reader.specs.declared.Described.{Described}
-use Rattle.effects.specs.Framing.{octetsLimit}
+use Rattle.framing.specs.Framing.{octetsLimit}
 use Rattle.pass.specs.Verdict.{firstState, accepted, refused, interpret, verdict, checkOf}
 use Rattle.reader.specs.Answer.{attributesIn, attributesOf}
 use Rattle.canonical.specs.declared.Written.{Written}

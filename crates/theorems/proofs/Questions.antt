@@ -25,7 +25,7 @@ use Rattle.pass.specs.declared.Checked.{Checked}
 use Rattle.reader.specs.declared.Attributes.{Attributes}
 use Rattle.reader.specs.declared.Described.{Described}
 use Rattle.reader.specs.declared.Sampled.{Sampled}
-use Rattle.effects.specs.Framing.{octetsLimit}
+use Rattle.framing.specs.Framing.{octetsLimit}
 use Rattle.pass.specs.Verdict.{firstState, Verdict, accepted, refused, interpret, verdict, checkedAs, checkOf}
 use Rattle.reader.proofs.Never.{only-limit}
 use Rattle.canonical.specs.declared.Written.{Written}

@@ -29,8 +29,8 @@ use Rattle.standing.proofs.Standing.with_order.Reads as with-order-reads
 use Rattle.standing.proofs.Standing.with_root.Reads as with-root-reads
 use Rattle.standing.proofs.Standing.with_sequences.Reads as with-sequences-reads
 use Rattle.standing.proofs.Standing.with_start.Reads as with-start-reads
-use Rattle.effects.proofs.channels_of.Reads as channels-of-reads
-use Rattle.effects.proofs.frame_of.Reads as frame-of-reads
+use Rattle.framing.proofs.channels_of.Reads as channels-of-reads
+use Rattle.framing.proofs.frame_of.Reads as frame-of-reads
 use Rattle.effects.proofs.item_effect.Reads as item-effect-reads
 use Rattle.effects.proofs.reach.Reads as reach-reads
 use Rattle.items.proofs.Cursor.first.Reads as Cursor-first-reads

@@ -8,7 +8,7 @@ use Rattle.effects.proofs.reach.Tie as tie
 use Rattle.effects.proofs.reach.Reads as reads
 use Rattle.effects.proofs.reach.Lts as lts
 use Rattle.effects.proofs.at_most.Reads as at-most-reads
-use Rattle.effects.proofs.channels_of.Reads as channels-of-reads
+use Rattle.framing.proofs.channels_of.Reads as channels-of-reads
 
 -- src/lib.rt:392:25
 enum-told : tie.Need-enum-told

@@ -21,8 +21,8 @@ use Rattle.pass.proofs.scan_file.Statement.{statement}
 use Rattle.pass.proofs.scan_file.Tie as tie
 use Rattle.pass.proofs.scan_file.Reads as reads
 use Rattle.pass.proofs.scan_file.Lts as lts
-use Rattle.effects.proofs.channels_of.Reads as channels-of-reads
-use Rattle.effects.proofs.frame_of.Reads as frame-of-reads
+use Rattle.framing.proofs.channels_of.Reads as channels-of-reads
+use Rattle.framing.proofs.frame_of.Reads as frame-of-reads
 use Rattle.effects.proofs.item_effect.Reads as item-effect-reads
 use Rattle.effects.proofs.reach.Reads as reach-reads
 use Rattle.items.proofs.Cursor.first.Reads as Cursor-first-reads

@@ -4,24 +4,24 @@ use Prim.Native.Nat.{ℕ, _*_}
 use mir.Syntax.{w64}
 use mir.Val.{SFits, toZ, ofZ}
 use mir.Facts.{toZ-ofZ}
-use Rattle.effects.specs.Framing.{pointerFits, pointerAfter}
+use Rattle.framing.specs.Framing.{pointerFits, pointerAfter}
 use mathlib.Core.Path.{_≡_, ap, sym, _∙_}
 use native.Mathlib.Omega.{arith}
 use borrow.Author.Needs.{needs}
 use borrow.Author.Tests.{not-true, not-false}
 use Rattle.standing.specs.Standing.{withContinued}
 use Rattle.standing.specs.declared.Standing.{Standing}
-use Rattle.effects.specs.declared.Framed.the-variants.{Taken}
-use Rattle.effects.proofs.Framings.{pointer-small, sequences-few, framed-empty, framed-large, framed-limit, framed-width, framed-pointer, framed-short, framed-taken}
-use Rattle.effects.proofs.frame_of.Statement.{statement}
-use Rattle.effects.proofs.frame_of.Tie as tie
-use Rattle.effects.proofs.frame_of.Reads as reads
-use Rattle.effects.proofs.frame_of.Lts as lts
+use Rattle.framing.specs.declared.Framed.the-variants.{Taken}
+use Rattle.framing.proofs.Framings.{pointer-small, sequences-few, framed-empty, framed-large, framed-limit, framed-width, framed-pointer, framed-short, framed-taken}
+use Rattle.framing.proofs.frame_of.Statement.{statement}
+use Rattle.framing.proofs.frame_of.Tie as tie
+use Rattle.framing.proofs.frame_of.Reads as reads
+use Rattle.framing.proofs.frame_of.Lts as lts
 use Rattle.standing.proofs.Standing.with_continued.Reads as with-continued-reads
-use Rattle.effects.proofs.pointer_after.Reads as pointer-after-reads
-use Rattle.effects.proofs.pointer_fits.Reads as pointer-fits-reads
-use Rattle.effects.proofs.sequences_of.Reads as sequences-of-reads
-use Rattle.effects.proofs.too_short.Reads as too-short-reads
+use Rattle.framing.proofs.pointer_after.Reads as pointer-after-reads
+use Rattle.framing.proofs.pointer_fits.Reads as pointer-fits-reads
+use Rattle.framing.proofs.sequences_of.Reads as sequences-of-reads
+use Rattle.framing.proofs.too_short.Reads as too-short-reads
 
 -- src/lib.rt:360:9
 returns : tie.Need-returns

@@ -3,11 +3,11 @@ use mathlib.Core.Path.{_≡_, ap, sym, _∙_}
 use lib.IntN.{ℤ, pos, negsuc}
 use lib.Signed.{leZ}
 use mir.Facts.{toZ-ofZ}
-use Rattle.effects.specs.Framing.{pointerFits}
-use Rattle.effects.proofs.pointer_fits.Statement.{statement}
-use Rattle.effects.proofs.pointer_fits.Tie as tie
-use Rattle.effects.proofs.pointer_fits.Reads as reads
-use Rattle.effects.proofs.pointer_fits.Lts as lts
+use Rattle.framing.specs.Framing.{pointerFits}
+use Rattle.framing.proofs.pointer_fits.Statement.{statement}
+use Rattle.framing.proofs.pointer_fits.Tie as tie
+use Rattle.framing.proofs.pointer_fits.Reads as reads
+use Rattle.framing.proofs.pointer_fits.Lts as lts
 
 -- src/lib.rt:331:1
 returns : tie.Need-returns

@@ -9,11 +9,11 @@ use lib.Signed.{mag}
 use mir.Syntax.{w64}
 use mir.Val.{SFits, toZ, ofZ}
 use mir.Facts.{toZ-ofZ, toZ-pos}
-use Rattle.effects.proofs.Framings.{sum-small}
-use Rattle.effects.proofs.pointer_after.Statement.{statement}
-use Rattle.effects.proofs.pointer_after.Tie as tie
-use Rattle.effects.proofs.pointer_after.Reads as reads
-use Rattle.effects.proofs.pointer_after.Lts as lts
+use Rattle.framing.proofs.Framings.{sum-small}
+use Rattle.framing.proofs.pointer_after.Statement.{statement}
+use Rattle.framing.proofs.pointer_after.Tie as tie
+use Rattle.framing.proofs.pointer_after.Reads as reads
+use Rattle.framing.proofs.pointer_after.Lts as lts
 
 product : (b n : ℕ) → b < 2 ^ 32 → n < 2 ^ 31 → b * n + 2 ^ 31 ≤ 2 ^ 63
 product b n h l =

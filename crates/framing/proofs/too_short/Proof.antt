@@ -1,10 +1,10 @@
 -- By how many sequences fit in.
-use Rattle.effects.proofs.Framings.{short-by}
+use Rattle.framing.proofs.Framings.{short-by}
 use borrow.Author.Needs.{needs}
-use Rattle.effects.proofs.too_short.Statement.{statement}
-use Rattle.effects.proofs.too_short.Tie as tie
-use Rattle.effects.proofs.too_short.Reads as reads
-use Rattle.effects.proofs.too_short.Lts as lts
+use Rattle.framing.proofs.too_short.Statement.{statement}
+use Rattle.framing.proofs.too_short.Tie as tie
+use Rattle.framing.proofs.too_short.Reads as reads
+use Rattle.framing.proofs.too_short.Lts as lts
 
 -- src/lib.rt:352:5
 div-result : tie.Need-div-result

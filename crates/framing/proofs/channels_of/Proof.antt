@@ -1,11 +1,11 @@
 -- Each way out is what its tests say.
 use mathlib.Core.Path.{_≡_, ap, sym, _∙_}
 use borrow.Author.Tests.{lt-ltb, le-ltb, eq-eqb, ne-eqb}
-use Rattle.effects.specs.Framing.{channelsOf}
-use Rattle.effects.proofs.channels_of.Statement.{statement}
-use Rattle.effects.proofs.channels_of.Tie as tie
-use Rattle.effects.proofs.channels_of.Reads as reads
-use Rattle.effects.proofs.channels_of.Lts as lts
+use Rattle.framing.specs.Framing.{channelsOf}
+use Rattle.framing.proofs.channels_of.Statement.{statement}
+use Rattle.framing.proofs.channels_of.Tie as tie
+use Rattle.framing.proofs.channels_of.Reads as reads
+use Rattle.framing.proofs.channels_of.Lts as lts
 
 -- src/lib.rt:311:1
 returns : tie.Need-returns

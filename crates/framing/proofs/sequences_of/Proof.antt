@@ -1,10 +1,10 @@
 -- As set, or by a division.
-use Rattle.effects.proofs.Framings.{sequences-set, sequences-by}
+use Rattle.framing.proofs.Framings.{sequences-set, sequences-by}
 use borrow.Author.Needs.{needs}
-use Rattle.effects.proofs.sequences_of.Statement.{statement}
-use Rattle.effects.proofs.sequences_of.Tie as tie
-use Rattle.effects.proofs.sequences_of.Reads as reads
-use Rattle.effects.proofs.sequences_of.Lts as lts
+use Rattle.framing.proofs.sequences_of.Statement.{statement}
+use Rattle.framing.proofs.sequences_of.Tie as tie
+use Rattle.framing.proofs.sequences_of.Reads as reads
+use Rattle.framing.proofs.sequences_of.Lts as lts
 
 -- src/lib.rt:327:9
 returns : tie.Need-returns

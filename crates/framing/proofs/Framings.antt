@@ -15,10 +15,10 @@ use lib.Signed.{leZ, mag}
 use Rattle.octets.specs.Pick.{pick, both}
 use Rattle.heads.specs.Refusals.{fileLimit, frameLimit, widthDiffers, pointerRange, waveformShort}
 use Rattle.standing.specs.declared.Standing.{Standing}
-use Rattle.effects.specs.declared.Framed.{Framed}
-use Rattle.effects.specs.declared.Framed.the-variants.{Taken, Refused}
+use Rattle.framing.specs.declared.Framed.{Framed}
+use Rattle.framing.specs.declared.Framed.the-variants.{Taken, Refused}
 use Rattle.standing.specs.Standing.{withContinued}
-use Rattle.effects.specs.Framing.{octetsLimit, framesLimit, sequencesOf, pointerFits, pointerAfter, framedAs}
+use Rattle.framing.specs.Framing.{octetsLimit, framesLimit, sequencesOf, pointerFits, pointerAfter, framedAs}
 
 module _ (set long octets : ℕ) where
   pub sequences-set : (set ≡ 0 → ⊥) → set ≡ sequencesOf set long octets

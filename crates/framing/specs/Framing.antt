@@ -7,8 +7,8 @@ use lib.Signed.{leZ}
 use Rattle.octets.specs.Pick.{pick, both}
 use Rattle.heads.specs.Refusals.{fileLimit, frameLimit, widthDiffers, pointerRange, waveformShort}
 use Rattle.standing.specs.declared.Standing.{Standing}
-use Rattle.effects.specs.declared.Framed.{Framed}
-use Rattle.effects.specs.declared.Framed.the-variants.{Taken, Refused}
+use Rattle.framing.specs.declared.Framed.{Framed}
+use Rattle.framing.specs.declared.Framed.the-variants.{Taken, Refused}
 use Rattle.standing.specs.Standing.{withContinued}
 
 -- The octets of a file at most.

@@ -1,0 +1,89 @@
+// What a waveform gives.
+//
+// Promises, for any numbers at all: `frame_of` answers the sequences of a waveform and what stands after it, or 11 to 14;
+// `channels_of` answers how many channels a frame has. Nothing is carried out here.
+// Read first: specs/Framing.antt; what stands is in crate standing.
+ghost use mathlib.Core.Path.{_≡_};
+ghost use Prim.Native.Nat.{_*_, _<_};
+ghost use lib.Dec.{ltb};
+ghost use lib.IntN.{pos, _+ℤ_};
+ghost use lib.Signed.{mag};
+ghost use Rattle.framing.specs.Framing.{channelsOf, sequencesOf, pointerFits, framedAs};
+use heads::Refusal;
+use standing::Standing;
+
+// What a waveform gives: the frame's sequences and what stands after it, or a refusal.
+pub enum Framed {
+    Taken(u32, Standing),
+    Refused(u8),
+}
+
+// How many channels a frame has where this count stands.
+pub fn channels_of(counted: u32) -> u32
+    ensures { λ r. ⌜ r ≡ channelsOf counted ⌝ }
+{
+    if counted == 0 { 1 } else { counted }
+}
+
+// Sequences as set, else as many as the waveform holds.
+fn sequences_of(set: u32, long: usize, octets: u64) -> u64
+    requires { ⌜ 0 < octets ⌝ }
+    ensures { λ r. ⌜ r ≡ sequencesOf set long octets ⌝ }
+{
+    if set != 0 {
+        return set as u64;
+    }
+    long as u64 / octets
+}
+
+// Signed 32 bits.
+fn pointer_fits(z: i64) -> bool
+    ensures { λ r. ⌜ r ≡ pointerFits z ⌝ }
+{
+    -2_147_483_648 <= z && z <= 2_147_483_647
+}
+
+// The pointer after a frame: its start plus root block length times its sequences.
+fn pointer_after(start: i64, block: u32, sequences: u64) -> i64
+    requires { ⌜ (mag start < 2147483648) × (sequences < 2147483648) ⌝ }
+    ensures { λ r. ⌜ r ≡ start +ℤ pos (block * sequences) ⌝ }
+{
+    start + (block as u64 * sequences) as i64
+}
+
+// A waveform is shorter than so many sequences.
+fn too_short(long: usize, sequences: u64, octets: u64) -> bool
+    requires { ⌜ 0 < octets ⌝ }
+    ensures { λ r. ⌜ r ≡ ltb long (sequences * octets) ⌝ }
+{
+    long as u64 / octets < sequences
+}
+
+// A waveform of `long` octets after `frames` frames, where a sequence takes `octets` octets.
+pub fn frame_of(frames: u32, st: Standing, agree: bool, octets: u64, long: usize) -> Framed
+    ensures { λ r. ⌜ r ≡ framedAs frames st agree octets long ⌝ }
+{
+    if octets == 0 {
+        return Framed::Refused(Refusal::FILE_LIMIT);
+    }
+    if Standing::OCTETS < long {
+        return Framed::Refused(Refusal::FILE_LIMIT);
+    }
+    if Standing::FRAMES <= frames {
+        return Framed::Refused(Refusal::FRAME_LIMIT);
+    }
+    if !agree {
+        return Framed::Refused(Refusal::WIDTH);
+    }
+    let start = st.start;
+    if !pointer_fits(start) {
+        return Framed::Refused(Refusal::POINTER_RANGE);
+    }
+    let sequences = sequences_of(st.sequences, long, octets);
+    if too_short(long, sequences, octets) {
+        return Framed::Refused(Refusal::WAVEFORM_SHORT);
+    }
+    let root = st.root;
+    let z = pointer_after(start, root.block, sequences);
+    Framed::Taken(sequences as u32, st.with_continued(z))
+}
