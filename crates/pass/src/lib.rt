@@ -336,6 +336,7 @@ fn scan_channels(
         }
     }
 }
+
 // One pass over a file: its frames counted or its refusal, the frame and channel that are asked for, and the canonical size.
 pub fn scan_file(s: &[u8], asked: Asked) -> Scan
     ensures { λ r. ⌜ r ≡ scanOf asked (now (s .entry)) ⌝ }
