@@ -47,7 +47,7 @@ fn main() -> ExitCode {
     let mut rows = 0;
     let mut show = |row: Row| {
         println!("{row}");
-        rows += 1;
+        rows += u32::from(row.has_bar());
         missed += u32::from(row.missed());
     };
     checks(&course, &mut show);
@@ -86,7 +86,7 @@ fn checks(course: &Course, show: &mut impl FnMut(Row)) {
             || ffi::check(black_box(file)),
             || reader::check(black_box(file)),
         );
-        show(row.named(what, "second", SECOND));
+        show(row.named(what, "second", Some(SECOND)));
     }
     // Ten times the items against ten times the smaller file.
     let tenth = files::group_items(100_000);
@@ -98,7 +98,7 @@ fn checks(course: &Course, show: &mut impl FnMut(Row)) {
             }
         },
     );
-    show(row.named("check: ten times the items", "itself", SECOND));
+    show(row.named("check: ten times the items", "itself", Some(SECOND)));
 }
 
 fn canonicals(course: &Course, show: &mut impl FnMut(Row)) {
@@ -133,12 +133,12 @@ fn canonicals(course: &Course, show: &mut impl FnMut(Row)) {
             black_box(&mut out[..files::WAVEFORM]).copy_from_slice(black_box(waveform));
         };
         let row = course.with_buffers(buffer, proved, copied);
-        show(row.named(what, "memcpy", bar));
+        show(row.named(what, "memcpy", Some(bar)));
         let second = |out: &mut Vec<u8>| {
             assert!(writer::canonical(black_box(&file), out).is_ok());
         };
         let row = course.with_buffers(buffer, proved, second);
-        show(row.named(what, "second", SECOND));
+        show(row.named(what, "second", None));
     }
 }
 
@@ -166,7 +166,7 @@ fn samples(course: &Course, show: &mut impl FnMut(Row)) {
                 assert_eq!(filled, Ok(count));
             },
         );
-        show(row.named(what, "second", SECOND));
+        show(row.named(what, "second", Some(SECOND)));
     }
     const SAMPLES: u64 = 1_000;
     let row = course.without_buffers(
@@ -181,5 +181,9 @@ fn samples(course: &Course, show: &mut impl FnMut(Row)) {
             }
         },
     );
-    show(row.named("one sample at a time, 1,000 of them", "second", SECOND));
+    show(row.named(
+        "one sample at a time, 1,000 of them",
+        "second",
+        Some(SECOND),
+    ));
 }

@@ -125,7 +125,7 @@ pub struct Times {
 }
 
 impl Times {
-    pub fn named(self, what: &'static str, against: &'static str, bar: f64) -> Row {
+    pub fn named(self, what: &'static str, against: &'static str, bar: Option<f64>) -> Row {
         Row {
             what,
             against,
@@ -140,12 +140,16 @@ pub struct Row {
     what: &'static str,
     against: &'static str,
     times: Times,
-    bar: f64,
+    bar: Option<f64>,
 }
 
 impl Row {
+    pub fn has_bar(&self) -> bool {
+        self.bar.is_some()
+    }
+
     pub fn missed(&self) -> bool {
-        self.times.ratio > self.bar
+        self.bar.is_some_and(|bar| self.times.ratio > bar)
     }
 }
 
@@ -161,14 +165,14 @@ impl fmt::Display for Row {
             best,
         } = self.times;
         let missed = if self.missed() { "  missed" } else { "" };
+        let bar = self.bar.map_or("-".into(), |bar| format!("{bar:.2}"));
         write!(
             f,
-            "{:<42} {:>11.2}  {:>11.2}  {:<7} {ratio:>6.2}  {:>4.2}  {best:>7.2}{missed}",
+            "{:<42} {:>11.2}  {:>11.2}  {:<7} {ratio:>6.2}  {bar:>4}  {best:>7.2}{missed}",
             self.what,
             proved * 1e6,
             other * 1e6,
             self.against,
-            self.bar
         )
     }
 }
