@@ -2,7 +2,9 @@
 //
 // Promises, for any octets at all: `scan_file` walks the file once and answers the number of frames or the refusal of document 01 with its
 // number and place, what it kept of the frame and channel that are asked for, and how many octets the canonical file's frames take.
-// Read first: specs/Verdict.antt (the file), specs/Scan.antt (the pass); what one item asks for is in crate effects.
+// Up to the first definition in a group it needs no channel records (`scan_file`), from there on it keeps them (`scan_channels`). Both take
+// definitions in stretches where they can, and every other item by what crate effects says of it.
+// Read first: specs/Verdict.antt (the file), specs/Scan.antt (what a pass answers), then specs/Passing.antt (what it knows on its way).
 ghost use mathlib.Core.Path.{_≡_};
 ghost use Prim.Native.Nat.{_≤_, _<_, min};
 ghost use Rattle.octets.specs.Pick.{pick};

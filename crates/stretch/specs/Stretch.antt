@@ -1,5 +1,5 @@
 -- A stretch: definitions and items that are stepped over, one after the other, each with a length of one octet. No sentence of document 01 knows
--- it; that a stretch does what its items do one by one is shown where the pass takes it (reader/proofs/Stretches.antt).
+-- it; that a stretch does what its items do one by one is shown where the pass takes it (pass/proofs/Stretches.antt).
 use mathlib.Core.List.{List}
 use mathlib.Core.Bool.{Bool, false}
 use Prim.Native.Nat.{ℕ, zero, suc, _+_, _-_, _/_, _%_}
