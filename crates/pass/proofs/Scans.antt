@@ -11,7 +11,7 @@ use native.Mathlib.Nat.{add-zero, add-assoc, zero-add}
 use native.Mathlib.Numerals.{add-one}
 use native.Mathlib.Omega.{arith}
 use native.Mathlib.Decide.{decLt}
-use borrow.Author.Tests.{lt-ltb, le-ltb, ltb-true, ltb-false, leb-false, eqb-true, eqb-false}
+use borrow.Author.Tests.{lt-ltb, le-ltb, ltb-true, ltb-false, leb-false, eqb-true, eqb-false, eq-eqb, ne-eqb}
 use lib.Dec.{ltb, leb, eqb}
 use lib.IntN.{ℤ}
 use lib.ListN.{length, getD, take, drop, set, replicate, length-append, length-take, length-set, length-map, length-replicate, List·getD-append, List·getD-eq-default}
@@ -166,6 +166,13 @@ found-more q fs g =
         let m : length fs + 1 ≤ q .frame = omega arith in
         let k : length fs ≤ q .frame = omega arith in
         simp (length-append, le-ltb (q .frame) (length fs) k, le-ltb (q .frame) (length fs + 1) m)
+
+-- A frame is kept where it is the one that is asked for.
+pub kept-this : {a b : ℕ} (x y : Found) → a ≡ b → x ≡ pick (eqb a b) x y
+kept-this {a = a} {b = b} x y e = sym (ap (λ (t : Bool). pick t x y) (eq-eqb a b e))
+
+pub kept-before : {a b : ℕ} (x y : Found) → (a ≡ b → ⊥) → y ≡ pick (eqb a b) x y
+kept-before {a = a} {b = b} x y n = sym (ap (λ (t : Bool). pick t x y) (ne-eqb a b n))
 
 -- The channel that is asked for, as the table has it and as the frame has it.
 channel-seen : (channel count : ℕ) (table : List Settings) → count ≤ channelLimit → length table ≡ channelLimit → pick (ltb channel count) (getD table (min channel 255) zeroSettings) defaultSettings ≡ pick (ltb channel (length (take count table))) (channelIn channel (take count table)) defaultSettings

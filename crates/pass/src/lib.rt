@@ -144,13 +144,6 @@ fn index(channel: u32) -> usize
     if channel < 255 { channel as usize } else { 255 }
 }
 
-// What is kept of a frame: this one where it is asked for, else what was kept before.
-fn keep(asked: bool, view: View, found: Found) -> Found
-    ensures { λ r. ⌜ r ≡ pick asked (Found.Frame view) found ⌝ }
-{
-    if asked { Found::Frame(view) } else { found }
-}
-
 // The channel of a group that takes effect here; 256 for every other item.
 fn opened(item: Item, counted: u32) -> usize
     ensures { λ r. ⌜ r ≡ openedBy counted item ⌝ }
@@ -307,23 +300,27 @@ fn scan_channels(
                                 });
                             }
                             Framed::Taken(sequences, after) => {
-                                let k = index(asked.channel);
-                                let settings = seen(asked.channel < count, table[k]);
-                                let view = View {
-                                    start: st.start,
-                                    channels: count,
-                                    sequences,
-                                    little: st.little,
-                                    place: start,
-                                    octets: l.octets,
-                                    below: l.below,
-                                    settings,
-                                };
-                                found = keep(frames == asked.frame, view, found);
+                                let number = frames;
+                                let pointer = st.start;
+                                let little = st.little;
                                 size = size
                                     + frame_size(sequences, l.groups, sequences as u64 * l.octets);
                                 st = after;
                                 frames = frames + 1;
+                                if number == asked.frame {
+                                    let k = index(asked.channel);
+                                    let settings = seen(asked.channel < count, table[k]);
+                                    found = Found::Frame(View {
+                                        start: pointer,
+                                        channels: count,
+                                        sequences,
+                                        little,
+                                        place: start,
+                                        octets: l.octets,
+                                        below: l.below,
+                                        settings,
+                                    });
+                                }
                             }
                         }
                     }
@@ -423,22 +420,26 @@ pub fn scan_file(s: &[u8], asked: Asked) -> Scan
                                 });
                             }
                             Framed::Taken(sequences, after) => {
-                                let settings = seen(asked.channel < count, root);
-                                let view = View {
-                                    start: st.start,
-                                    channels: count,
-                                    sequences,
-                                    little: st.little,
-                                    place: start,
-                                    octets: l.octets,
-                                    below: l.below,
-                                    settings,
-                                };
-                                found = keep(frames == asked.frame, view, found);
+                                let number = frames;
+                                let pointer = st.start;
+                                let little = st.little;
                                 size = size
                                     + frame_size(sequences, l.groups, sequences as u64 * l.octets);
                                 st = after;
                                 frames = frames + 1;
+                                if number == asked.frame {
+                                    let settings = seen(asked.channel < count, root);
+                                    found = Found::Frame(View {
+                                        start: pointer,
+                                        channels: count,
+                                        sequences,
+                                        little,
+                                        place: start,
+                                        octets: l.octets,
+                                        below: l.below,
+                                        settings,
+                                    });
+                                }
                             }
                         }
                     }

@@ -13,10 +13,10 @@ use definitions::Tagged;
 use items::Cursor;
 use settings::Settings;
 
-// Where a stretch ends, and the settings that it leaves.
+// The settings that a stretch leaves, and where it ends.
 pub struct Stretch {
-    pub at: usize,
     pub settings: Settings,
+    pub at: usize,
 }
 
 // The tags of other items that a stretch may hold.

@@ -31,9 +31,18 @@ pub struct Bits {
 pub fn width(kind: u8) -> usize
     ensures { λ r. ⌜ r ≡ widthOf kind ⌝ }
 {
-    let widths: [usize; 9] = [2, 2, 4, 1, 2, 1, 4, 4, 8];
-    let k = kind as usize;
-    if k < 9 { widths[k] } else { 0 }
+    match kind {
+        0 => 2,
+        1 => 2,
+        2 => 4,
+        3 => 1,
+        4 => 2,
+        5 => 1,
+        6 => 4,
+        7 => 4,
+        8 => 8,
+        _ => 0,
+    }
 }
 
 // A whole number with a sign.

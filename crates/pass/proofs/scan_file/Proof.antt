@@ -14,17 +14,17 @@ use Rattle.standing.specs.Standing.{withStart}
 use Rattle.settings.specs.Settings.{channelLimit, defaultTable}
 use Rattle.pass.specs.Verdict.{carried, withFrame}
 use Rattle.pass.proofs.Steps.{count-found}
-use Rattle.pass.proofs.Scans.{reach-few, does-nothing, does-order, does-count, does-sequences, does-start, does-all, carried-by, found-as, framed-found, Summing, summing-none, summed-up, reached-count, Passing, passing-first, passing-goes, passing-carried, passing-groups, scanned-large, scanned-end, scanned-fault, scanned-refuses, view-read}
+use Rattle.pass.proofs.Scans.{reach-few, does-nothing, does-order, does-count, does-sequences, does-start, does-all, carried-by, found-as, framed-found, Summing, summing-none, summed-up, reached-count, Passing, passing-first, passing-goes, passing-carried, passing-groups, scanned-large, scanned-end, scanned-fault, scanned-refuses, view-read, kept-this, kept-before}
 use Rattle.pass.proofs.Stretches.{begins-root}
 use Rattle.pass.proofs.Ahead.{passing-root, bare-scanning, bare-records, bare-full, bare-few, bare-more, bare-frame}
 use Rattle.pass.proofs.scan_file.Statement.{statement}
 use Rattle.pass.proofs.scan_file.Tie as tie
 use Rattle.pass.proofs.scan_file.Reads as reads
 use Rattle.pass.proofs.scan_file.Lts as lts
-use Rattle.framing.proofs.channels_of.Reads as channels-of-reads
-use Rattle.framing.proofs.frame_of.Reads as frame-of-reads
 use Rattle.effects.proofs.item_effect.Reads as item-effect-reads
 use Rattle.effects.proofs.reach.Reads as reach-reads
+use Rattle.framing.proofs.channels_of.Reads as channels-of-reads
+use Rattle.framing.proofs.frame_of.Reads as frame-of-reads
 use Rattle.items.proofs.Cursor.first.Reads as Cursor-first-reads
 use Rattle.items.proofs.Cursor.renewed.Reads as renewed-reads
 use Rattle.items.proofs.next_item.Reads as next-item-reads
@@ -32,7 +32,6 @@ use Rattle.layout.proofs.Layout.more.Reads as more-reads
 use Rattle.layout.proofs.Layout.none.Reads as none-reads
 use Rattle.pass.proofs.begins.Reads as begins-reads
 use Rattle.pass.proofs.frame_size.Reads as frame-size-reads
-use Rattle.pass.proofs.keep.Reads as keep-reads
 use Rattle.pass.proofs.place_of.Reads as place-of-reads
 use Rattle.pass.proofs.refused_scan.Reads as refused-scan-reads
 use Rattle.pass.proofs.scan_channels.Reads as scan-channels-reads
@@ -310,58 +309,62 @@ returns-5 c = c .refused-scan3 .ensures ∙ scanned-refuses ((bare-full (c .befo
 enum-known-sequences : tie.Need-enum-known-sequences Inv-loop2 μ-loop2 Inv-loop μ-loop
 enum-known-sequences c = search needs
 
--- src/lib.rt:423:37
-seen-requires : tie.Need-seen-requires Inv-loop2 μ-loop2 Inv-loop μ-loop
-seen-requires c κs = search needs
-
--- src/lib.rt:434:33
-keep-requires : tie.Need-keep-requires Inv-loop2 μ-loop2 Inv-loop μ-loop
-keep-requires c κs = search needs
-
--- src/lib.rt:436:71
+-- src/lib.rt:427:71
 cast-frame-size : tie.Need-cast-frame-size Inv-loop2 μ-loop2 Inv-loop μ-loop
 cast-frame-size c = search needs
 
--- src/lib.rt:436:71
+-- src/lib.rt:427:71
 mul-frame-size : tie.Need-mul-frame-size Inv-loop2 μ-loop2 Inv-loop μ-loop
-mul-frame-size c = omega (arith, framed-found (c .before .before .before .before .before .before .before .before .before .before .before .before .before .before .before .before .before .before .before .before .before .before .before .before .before .before .before .loop .frames) (c .before .before .before .before .before .before .before .before .before .before .before .before .before .before .before .before .before .before .before .before .before .before .before .before .before .before .before .loop .st) (c .before .before .before .before .before .before .before .before .before .before .before .loop2 .l .agree) (c .before .before .before .before .before .before .before .before .before .before .before .loop2 .l .octets) (c .before .before .before .before .before .before .before .before .before .before .before .before .before .before .before .effect6 .given .0 .1 .0) (c .before .before .before .before .before .before .before .before .before .frame-of .ensures) (c .before .before .before .before .before .before .before .sequences .given .1))
+mul-frame-size c = omega (arith, framed-found (c .before .before .before .before .before .before .before .before .before .before .before .before .before .before .before .before .before .before .before .before .before .before .before .loop .frames) (c .before .before .before .before .before .before .before .before .before .before .before .before .before .before .before .before .before .before .before .before .before .before .before .loop .st) (c .before .before .before .before .before .before .before .loop2 .l .agree) (c .before .before .before .before .before .before .before .loop2 .l .octets) (c .before .before .before .before .before .before .before .before .before .before .before .effect6 .given .0 .1 .0) (c .before .before .before .before .before .frame-of .ensures) (c .before .before .before .sequences .given .1))
 
--- src/lib.rt:436:39
+-- src/lib.rt:427:39
 frame-size-requires : tie.Need-frame-size-requires Inv-loop2 μ-loop2 Inv-loop μ-loop
-frame-size-requires c κs = (passing-groups (bare-full (c .before .before .before .before .before .before .before .before .before .before .before .before .before .before .before .before .before .before .before .before .before .before .before .before .before .before .before .loop .inv)) (c .before .before .before .before .before .before .before .before .before .before .before .before .before .channels-of .result) (c .before .before .before .before .before .before .before .before .before .before .before .loop2 .l) (c .before .before .before .before .before .before .before .before .before .before .before .before .before .channels-of .ensures) (summed-up (c .before .before .before .before .before .before .before .before .before .before .before .loop2 .inv) _ (reached-count _ (c .before .before .before .before .before .before .before .before .before .before .before .before .before .before .before .before .before .reach .ensures) (c .before .before .before .before .before .before .before .before .before .before .before .before .before .before .before .effect6 .given .1) (c .before .before .before .before .before .before .before .before .before .before .before .before .before .before .before .before .before .before .before .before .before .before .before .before .before .before .before .loop .inv .pass .counted) (c .before .before .before .before .before .before .before .before .before .before .before .before .before .channels-of .ensures)) (c .before .before .before .before .before .before .before .before .before .before .loop2-test .left)) (bare-few (c .before .before .before .before .before .before .before .before .before .before .before .before .before .before .before .before .before .before .before .before .before .before .before .before .before .before .before .loop .inv) _ (c .before .before .before .before .before .before .before .before .before .before .before .before .before .channels-of .ensures)), omega (arith, framed-found (c .before .before .before .before .before .before .before .before .before .before .before .before .before .before .before .before .before .before .before .before .before .before .before .before .before .before .before .loop .frames) (c .before .before .before .before .before .before .before .before .before .before .before .before .before .before .before .before .before .before .before .before .before .before .before .before .before .before .before .loop .st) (c .before .before .before .before .before .before .before .before .before .before .before .loop2 .l .agree) (c .before .before .before .before .before .before .before .before .before .before .before .loop2 .l .octets) (c .before .before .before .before .before .before .before .before .before .before .before .before .before .before .before .effect6 .given .0 .1 .0) (c .before .before .before .before .before .before .before .before .before .frame-of .ensures) (c .before .before .before .before .before .before .before .sequences .given .1)))
+frame-size-requires c κs = (passing-groups (bare-full (c .before .before .before .before .before .before .before .before .before .before .before .before .before .before .before .before .before .before .before .before .before .before .before .loop .inv)) (c .before .before .before .before .before .before .before .before .before .channels-of .result) (c .before .before .before .before .before .before .before .loop2 .l) (c .before .before .before .before .before .before .before .before .before .channels-of .ensures) (summed-up (c .before .before .before .before .before .before .before .loop2 .inv) _ (reached-count _ (c .before .before .before .before .before .before .before .before .before .before .before .before .before .reach .ensures) (c .before .before .before .before .before .before .before .before .before .before .before .effect6 .given .1) (c .before .before .before .before .before .before .before .before .before .before .before .before .before .before .before .before .before .before .before .before .before .before .before .loop .inv .pass .counted) (c .before .before .before .before .before .before .before .before .before .channels-of .ensures)) (c .before .before .before .before .before .before .loop2-test .left)) (bare-few (c .before .before .before .before .before .before .before .before .before .before .before .before .before .before .before .before .before .before .before .before .before .before .before .loop .inv) _ (c .before .before .before .before .before .before .before .before .before .channels-of .ensures)), omega (arith, framed-found (c .before .before .before .before .before .before .before .before .before .before .before .before .before .before .before .before .before .before .before .before .before .before .before .loop .frames) (c .before .before .before .before .before .before .before .before .before .before .before .before .before .before .before .before .before .before .before .before .before .before .before .loop .st) (c .before .before .before .before .before .before .before .loop2 .l .agree) (c .before .before .before .before .before .before .before .loop2 .l .octets) (c .before .before .before .before .before .before .before .before .before .before .before .effect6 .given .0 .1 .0) (c .before .before .before .before .before .frame-of .ensures) (c .before .before .before .sequences .given .1)))
 
--- src/lib.rt:435:40
+-- src/lib.rt:426:40
 add-size : tie.Need-add-size Inv-loop2 μ-loop2 Inv-loop μ-loop
-add-size c = omega (arith, c .before .before .before .before .before .before .before .before .before .before .before .before .before .before .before .before .before .before .before .before .before .before .before .before .before .before .before .before .loop .inv .pass .room, c .before .before .before .before .before .before .before .before .before .before .before .before .before .before .before .before .before .before .before .before .before .before .before .before .before .before .before .before .loop .inv .pass .limit, c .frame-size .ensures .1)
+add-size c = omega (arith, c .before .before .before .before .before .before .before .before .before .before .before .before .before .before .before .before .before .before .before .before .before .before .before .before .loop .inv .pass .room, c .before .before .before .before .before .before .before .before .before .before .before .before .before .before .before .before .before .before .before .before .before .before .before .before .loop .inv .pass .limit, c .frame-size .ensures .1)
 
--- src/lib.rt:438:42
+-- src/lib.rt:429:42
 add-frames : tie.Need-add-frames Inv-loop2 μ-loop2 Inv-loop μ-loop
-add-frames c = omega (arith, c .before .before .before .before .before .before .before .before .before .before .before .before .before .before .before .before .before .before .before .before .before .before .before .before .before .before .before .before .loop .inv .pass .limit)
+add-frames c = omega (arith, c .before .before .before .before .before .before .before .before .before .before .before .before .before .before .before .before .before .before .before .before .before .before .before .before .loop .inv .pass .limit)
+
+-- src/lib.rt:431:41
+seen-requires : tie.Need-seen-requires Inv-loop2 μ-loop2 Inv-loop μ-loop
+seen-requires c κs = search needs
 
 -- src/lib.rt:355:5
 loop-less-8 : tie.Need-loop-less-8 Inv-loop2 μ-loop2 Inv-loop μ-loop
 loop-less-8 c = omega (arith, next-later _ _ (c .before .before .before .before .before .before .before .before .before .before .before .before .before .before .before .before .before .before .before .before .before .before .before .before .before .next-item .ensures) (found-as (c .before .before .before .before .before .before .before .before .before .before .before .before .before .before .before .before .before .before .before .before .before .before .before .item .given .1) (c .before .before .before .before .before .before .before .before .before .before .before .before .before .before .before .before .before .before .before .before .before .renewed .ensures)))
 
-pointer-fits : (c : tie.After-frame-size Inv-loop2 μ-loop2 Inv-loop μ-loop) → SFits w64 (c .before .before .before .before .before .before .before .before .before .before .before .before .before .before .before .before .before .before .before .before .before .before .before .before .before .before .before .before .loop .st .start)
+pointer-fits : (c : tie.After-frame-size Inv-loop2 μ-loop2 Inv-loop μ-loop) → SFits w64 (c .before .before .before .before .before .before .before .before .before .before .before .before .before .before .before .before .before .before .before .before .before .before .before .before .loop .st .start)
 pointer-fits c = search needs
 
 -- src/lib.rt:355:5
 loop-again-8 : tie.Need-loop-again-8 Inv-loop2 μ-loop2 Inv-loop μ-loop
-loop-again-8 c = bare-frame (c .before .before .before .before .before .before .before .before .before .before .before .before .before .before .before .before .before .before .before .before .before .before .before .before .before .before .before .before .loop .inv) (c .before .before .before .before .before .before .before .before .before .before .before .before .before .before .channels-of .result) (c .before .before .before .before .before .before .before .before .before .before .before .before .loop2 .l) (c .before .before .before .before .before .before .before .before .before .before .before .before .before .before .channels-of .ensures) (summed-up (c .before .before .before .before .before .before .before .before .before .before .before .before .loop2 .inv) _ (reached-count _ (c .before .before .before .before .before .before .before .before .before .before .before .before .before .before .before .before .before .before .reach .ensures) (c .before .before .before .before .before .before .before .before .before .before .before .before .before .before .before .before .effect6 .given .1) (c .before .before .before .before .before .before .before .before .before .before .before .before .before .before .before .before .before .before .before .before .before .before .before .before .before .before .before .before .loop .inv .pass .counted) (c .before .before .before .before .before .before .before .before .before .before .before .before .before .before .channels-of .ensures)) (c .before .before .before .before .before .before .before .before .before .before .before .loop2-test .left)) (c .before .before .before .before .before .before .before .before .before .before .before .before .before .before .before .before .before .before .before .before .before .before .before .before .before .next-item .ensures) (found-as (c .before .before .before .before .before .before .before .before .before .before .before .before .before .before .before .before .before .before .before .before .before .before .before .item .given .1) (c .before .before .before .before .before .before .before .before .before .before .before .before .before .before .before .before .before .before .before .before .before .renewed .ensures)) (c .before .before .before .before .before .before .before .before .before .before .before .before .before .before .before .before .before .before .before .before .item-effect .ensures) (c .before .before .before .before .before .before .before .before .before .before .before .before .before .before .before .before .effect6 .given .1) (c .before .before .before .before .before .before .before .before .before .before .frame-of .ensures) (c .before .before .before .before .before .before .before .before .sequences .given .1) (c .before .before .before .before .before .seen .ensures) (view-read (record { start = c .before .before .before .before .before .before .before .before .before .before .before .before .before .before .before .before .before .before .before .before .before .before .before .before .before .before .before .before .loop .st .start; channels = c .before .before .before .before .before .before .before .before .before .before .before .before .before .before .channels-of .result; sequences = c .before .before .before .before .before .before .before .before .sequences .given .0 .0; little = c .before .before .before .before .before .before .before .before .before .before .before .before .before .before .before .before .before .before .before .before .before .before .before .before .before .before .before .before .loop .st .little; place = c .before .before .before .before .before .before .before .before .before .before .before .before .before .before .before .before .effect6 .given .0 .0; octets = c .before .before .before .before .before .before .before .before .before .before .before .before .loop2 .l .octets; below = c .before .before .before .before .before .before .before .before .before .before .before .before .loop2 .l .below; settings = c .before .before .before .before .before .seen .result }) (toZ-ofZ (pointer-fits c))) (c .before .before .keep .ensures) (c .frame-size .ensures)
+loop-again-8 c = bare-frame (c .before .before .before .before .before .before .before .before .before .before .before .before .before .before .before .before .before .before .before .before .before .before .before .before .before .before .before .before .loop .inv) (c .before .before .before .before .before .before .before .before .before .before .before .before .before .before .channels-of .result) (c .before .before .before .before .before .before .before .before .before .before .before .before .loop2 .l) (c .before .before .before .before .before .before .before .before .before .before .before .before .before .before .channels-of .ensures) (summed-up (c .before .before .before .before .before .before .before .before .before .before .before .before .loop2 .inv) _ (reached-count _ (c .before .before .before .before .before .before .before .before .before .before .before .before .before .before .before .before .before .before .reach .ensures) (c .before .before .before .before .before .before .before .before .before .before .before .before .before .before .before .before .effect6 .given .1) (c .before .before .before .before .before .before .before .before .before .before .before .before .before .before .before .before .before .before .before .before .before .before .before .before .before .before .before .before .loop .inv .pass .counted) (c .before .before .before .before .before .before .before .before .before .before .before .before .before .before .channels-of .ensures)) (c .before .before .before .before .before .before .before .before .before .before .before .loop2-test .left)) (c .before .before .before .before .before .before .before .before .before .before .before .before .before .before .before .before .before .before .before .before .before .before .before .before .before .next-item .ensures) (found-as (c .before .before .before .before .before .before .before .before .before .before .before .before .before .before .before .before .before .before .before .before .before .before .before .item .given .1) (c .before .before .before .before .before .before .before .before .before .before .before .before .before .before .before .before .before .before .before .before .before .renewed .ensures)) (c .before .before .before .before .before .before .before .before .before .before .before .before .before .before .before .before .before .before .before .before .item-effect .ensures) (c .before .before .before .before .before .before .before .before .before .before .before .before .before .before .before .before .effect6 .given .1) (c .before .before .before .before .before .before .before .before .before .before .frame-of .ensures) (c .before .before .before .before .before .before .before .before .sequences .given .1) (c .seen .ensures) (view-read (record { start = c .before .before .before .before .before .before .before .before .before .before .before .before .before .before .before .before .before .before .before .before .before .before .before .before .before .before .before .before .loop .st .start; channels = c .before .before .before .before .before .before .before .before .before .before .before .before .before .before .channels-of .result; sequences = c .before .before .before .before .before .before .before .before .sequences .given .0 .0; little = c .before .before .before .before .before .before .before .before .before .before .before .before .before .before .before .before .before .before .before .before .before .before .before .before .before .before .before .before .loop .st .little; place = c .before .before .before .before .before .before .before .before .before .before .before .before .before .before .before .before .effect6 .given .0 .0; octets = c .before .before .before .before .before .before .before .before .before .before .before .before .loop2 .l .octets; below = c .before .before .before .before .before .before .before .before .before .before .before .before .loop2 .l .below; settings = c .seen .result }) (toZ-ofZ (pointer-fits (c .before .before .before .before)))) (kept-this _ _ (c .before .before .if4 .taken)) (c .before .before .before .before .frame-size .ensures)
 
--- src/lib.rt:442:37
+-- src/lib.rt:355:5
+loop-less-9 : tie.Need-loop-less-9 Inv-loop2 μ-loop2 Inv-loop μ-loop
+loop-less-9 c = omega (arith, next-later _ _ (c .before .before .before .before .before .before .before .before .before .before .before .before .before .before .before .before .before .before .before .before .before .before .before .next-item .ensures) (found-as (c .before .before .before .before .before .before .before .before .before .before .before .before .before .before .before .before .before .before .before .before .before .item .given .1) (c .before .before .before .before .before .before .before .before .before .before .before .before .before .before .before .before .before .before .before .renewed .ensures)))
+
+-- src/lib.rt:355:5
+loop-again-9 : tie.Need-loop-again-9 Inv-loop2 μ-loop2 Inv-loop μ-loop
+loop-again-9 c = bare-frame (c .before .before .before .before .before .before .before .before .before .before .before .before .before .before .before .before .before .before .before .before .before .before .before .before .before .before .loop .inv) (c .before .before .before .before .before .before .before .before .before .before .before .before .channels-of .result) (c .before .before .before .before .before .before .before .before .before .before .loop2 .l) (c .before .before .before .before .before .before .before .before .before .before .before .before .channels-of .ensures) (summed-up (c .before .before .before .before .before .before .before .before .before .before .loop2 .inv) _ (reached-count _ (c .before .before .before .before .before .before .before .before .before .before .before .before .before .before .before .before .reach .ensures) (c .before .before .before .before .before .before .before .before .before .before .before .before .before .before .effect6 .given .1) (c .before .before .before .before .before .before .before .before .before .before .before .before .before .before .before .before .before .before .before .before .before .before .before .before .before .before .loop .inv .pass .counted) (c .before .before .before .before .before .before .before .before .before .before .before .before .channels-of .ensures)) (c .before .before .before .before .before .before .before .before .before .loop2-test .left)) (c .before .before .before .before .before .before .before .before .before .before .before .before .before .before .before .before .before .before .before .before .before .before .before .next-item .ensures) (found-as (c .before .before .before .before .before .before .before .before .before .before .before .before .before .before .before .before .before .before .before .before .before .item .given .1) (c .before .before .before .before .before .before .before .before .before .before .before .before .before .before .before .before .before .before .before .renewed .ensures)) (c .before .before .before .before .before .before .before .before .before .before .before .before .before .before .before .before .before .before .item-effect .ensures) (c .before .before .before .before .before .before .before .before .before .before .before .before .before .before .effect6 .given .1) (c .before .before .before .before .before .before .before .before .frame-of .ensures) (c .before .before .before .before .before .before .sequences .given .1) refl refl (kept-before _ _ (c .if4 .left)) (c .before .before .frame-size .ensures)
+
+-- src/lib.rt:446:37
 enum-known-effect-7 : tie.Need-enum-known-effect-7 Inv-loop2 μ-loop2 Inv-loop μ-loop
 enum-known-effect-7 c = search needs
 
--- src/lib.rt:445:36
+-- src/lib.rt:449:36
 place-of-requires-2 : tie.Need-place-of-requires-2 Inv-loop2 μ-loop2 Inv-loop μ-loop
 place-of-requires-2 c κs = search needs
 
--- src/lib.rt:443:25
+-- src/lib.rt:447:25
 refused-scan-requires-4 : tie.Need-refused-scan-requires-4 Inv-loop2 μ-loop2 Inv-loop μ-loop
 refused-scan-requires-4 c κs = search needs
 
--- src/lib.rt:443:25
+-- src/lib.rt:447:25
 returns-6 : tie.Need-returns-6 Inv-loop2 μ-loop2 Inv-loop μ-loop
 unfolding carried
 returns-6 c = c .refused-scan4 .ensures ∙ scanned-refuses (c .before .before .before .before .before .before .before .before .before .before .before .before .before .before .before .loop .inv .pass) _ _ (c .before .before .before .before .before .before .before .before .before .before .before .before .next-item .ensures) (found-as (c .before .before .before .before .before .before .before .before .before .before .item .given .1) (c .before .before .before .before .before .before .before .before .renewed .ensures)) (c .before .place-of2 .ensures) (carried-by _ _ _ (c .before .before .before .before .before .before .before .item-effect .ensures) (c .before .before .before .effect7 .given .1))
@@ -436,15 +439,16 @@ scan-file-spec =
     refused-scan-requires-3
     returns-5
     enum-known-sequences
-    seen-requires
-    keep-requires
     cast-frame-size
     mul-frame-size
     frame-size-requires
     add-size
     add-frames
+    seen-requires
     loop-less-8
     loop-again-8
+    loop-less-9
+    loop-again-9
     enum-known-effect-7
     place-of-requires-2
     refused-scan-requires-4
