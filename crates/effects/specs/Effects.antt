@@ -11,9 +11,10 @@ use Rattle.items.specs.declared.Item.{Item}
 use Rattle.heads.specs.Refusals.{unfitLength, unfitValue, channelRange, compressed}
 use Rattle.definitions.specs.declared.Tagged.{Tagged}
 use Rattle.definitions.specs.declared.Defined.{Defined}
-use Rattle.settings.specs.Settings.{defaultSettings, channelLimit}
+use Rattle.settings.specs.Settings.{defaultSettings, channelLimit, applied}
 use Rattle.definitions.specs.Define.{tagged, defined}
 use Rattle.standing.specs.declared.Standing.{Standing}
+use Rattle.standing.specs.Standing.{withOrder, withCount, withSequences, withStart, withRoot}
 use Rattle.effects.specs.declared.Effect.{Effect}
 use Rattle.effects.specs.declared.Effect.the-variants.{Pass, Order, Count, Sequences, Start, All, One, Refused}
 
@@ -98,3 +99,15 @@ effectOf s st (Item.Group place channel) = groupEffect st channel
 effectOf s st (Item.Member place channel tag start len) =
     pick (eqb (st .counted) 0) Pass (memberEffect st channel (valueAt s start len) (tagged tag))
 effectOf s st (Item.Mark place) = Pass
+
+-- What stands after an effect. A definition outside a group changes the root settings; what a frame leaves is for `framedAs` to say.
+abbrev pub standingAfter : Standing → Effect → Standing
+standingAfter st Effect.Pass = st
+standingAfter st (Effect.Order little) = withOrder little st
+standingAfter st (Effect.Count counted) = withCount counted st
+standingAfter st (Effect.Sequences sequences) = withSequences sequences st
+standingAfter st (Effect.Start start) = withStart start st
+standingAfter st (Effect.All c) = withRoot (applied c (st .root)) st
+standingAfter st (Effect.One channel c) = st
+standingAfter st (Effect.Frame start len) = st
+standingAfter st (Effect.Refused number) = st

@@ -1,12 +1,12 @@
 // What an item of a file asks for.
 //
 // Promises, for any octets at all: `item_effect` answers what an item asks for where this stands before it, or its refusal (6 to 9);
-// `reach` answers how many records an effect looks at. Nothing is carried out here.
+// `standing_after` answers what stands after an effect, and `reach` how many records an effect looks at. No record is changed here.
 // Read first: specs/Effects.antt; what stands is in crate standing, and what a waveform gives in crate framing.
 ghost use mathlib.Core.Path.{_≡_};
 ghost use Prim.Native.Nat.{min};
 ghost use Rattle.definitions.specs.Define.{tagged};
-ghost use Rattle.effects.specs.Effects.{orderEffect, countEffect, sequencesEffect, startEffect, compressedEffect, allEffect, oneEffect, rootEffect, plainEffect, memberEffect, groupEffect, effectOf};
+ghost use Rattle.effects.specs.Effects.{orderEffect, countEffect, sequencesEffect, startEffect, compressedEffect, allEffect, oneEffect, rootEffect, plainEffect, memberEffect, groupEffect, effectOf, standingAfter};
 ghost use Rattle.effects.specs.Reach.{reachOf};
 use definitions::Defined;
 use definitions::Tagged;
@@ -218,6 +218,33 @@ pub fn item_effect(s: &[u8], st: Standing, item: Item) -> Effect
         }
         Item::Mark { place: _ } => Effect::Pass,
     }
+}
+
+// What stands after an effect that gives no frame.
+pub fn standing_after(st: Standing, e: Effect) -> Standing
+    ensures { λ r. ⌜ r ≡ standingAfter st e ⌝ }
+{
+    let mut x = st;
+    match e {
+        Effect::Order(little) => {
+            x.little = little;
+        }
+        Effect::Count(counted) => {
+            x.counted = counted;
+        }
+        Effect::Sequences(sequences) => {
+            x.sequences = sequences;
+        }
+        Effect::Start(start) => {
+            x.start = start;
+        }
+        Effect::All(change) => {
+            let root = settings::apply(st.root, change);
+            x.root = root;
+        }
+        _ => {}
+    }
+    x
 }
 
 // As many records as there are.

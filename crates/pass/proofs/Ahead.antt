@@ -6,7 +6,7 @@
 use mathlib.Core.Path.{_≡_, refl, sym, ap, subst, _∙_}
 use mathlib.Core.List.{List, append-nil}
 use mathlib.Core.Bool.{Bool, false}
-use Prim.Native.Nat.{ℕ, _+_, _-_, _*_, _≤_, _<_, min}
+use Prim.Native.Nat.{ℕ, _+_, _-_, _*_, _^_, _≤_, _<_, min}
 use native.Mathlib.Omega.{arith}
 use lib.Dec.{ltb, eqb}
 use lib.ListN.{length, getD, take, set, replicate, length-set, length-replicate, getD-replicate}
@@ -30,15 +30,16 @@ use Rattle.effects.specs.declared.Effect.{Effect}
 use Rattle.framing.specs.declared.Framed.{Framed}
 use Rattle.framing.specs.declared.Framed.the-variants.{Taken}
 use Rattle.effects.specs.Effects.{effectOf}
-use Rattle.framing.specs.Framing.{channelsOf, framedAs}
+use Rattle.framing.specs.Framing.{framesLimit, channelsOf, framedAs}
 use Rattle.stretch.specs.declared.Stretch.{Stretch}
 use Rattle.stretch.specs.Stretch.{stretchOf}
 use Rattle.pass.specs.declared.Asked.{Asked}
 use Rattle.pass.specs.declared.View.{View}
 use Rattle.pass.specs.declared.Found.{Found}
 use Rattle.pass.specs.Verdict.{state, interpret, verdict}
-use Rattle.pass.specs.Passing.{Scanning}
-use Rattle.pass.proofs.Scans.{Records, Filling, Passing, Summing, shownBy, shown-full, framed-found, channels-few, passing-filled, passing-frame, summing-more}
+use Rattle.pass.specs.declared.Met.{Met}
+use Rattle.pass.specs.Passing.{Scanning, metWith}
+use Rattle.pass.proofs.Scans.{Records, Filling, Passing, Summing, shownBy, shown-full, framed-found, channels-few, passing-filled, passing-frame, met-room, summing-more}
 use Rattle.pass.proofs.Stretches.{InGroup, root-law, group-law}
 
 -- ---- where a pass goes on
@@ -143,3 +144,19 @@ module _ {s : List ℕ} {q : Asked} {table : List Settings} {c : Cursor} {st : S
         records = p .records;
         same = shown-none channelLimit (x .root) table ∙ sym (ap (λ (y : Settings). shown channelLimit (x .root) channelLimit (replicate channelLimit y)) (sym (w .4)) ∙ shown-all (x .root));
       })
+
+-- A frame that is taken, and what the pass keeps of it.
+module _ {s : List ℕ} {q : Asked} {table : List Settings} {c : Cursor} {st : Standing} {m : Met} (p : Passing s q table 0 c st (m .frames) (m .found) (m .size))
+    (l : Layout) (el : l ≡ layoutOf (q .channel) (take (channelsOf (st .counted)) (replicate channelLimit (st .root))))
+    (len : ℕ) {sequences : ℕ} {x : Standing} {r : Framed} (er : r ≡ framedAs (m .frames) st (l .agree) (l .octets) len) (fr : r ≡ Taken sequences x) where
+  pub bare-room : (m .frames ≤ framesLimit) × (m .size ≤ m .frames * 2 ^ 32) × (l .groups ≤ 16384) × (sequences * l .octets < 2147483648)
+  bare-room = met-room (bare-full p) l el (bare-few p (channelsOf (st .counted)) refl) len er fr
+
+  pub bare-met : {n : Next} {i : Item} {d : Cursor} {start : ℕ} {m' : Met} {e : Effect}
+      → n ≡ nextOf s c → n ≡ FoundItem i d
+      → e ≡ effectOf s st i → e ≡ Effect.Frame start len
+      → (m' ≡ metWith q st sequences start l (st .root) m) × (frameSize sequences (l .groups) (sequences * l .octets) < 4294967296)
+      → Passing s q table 0 d x (m' .frames) (m' .found) (m' .size)
+  bare-met {d = d} en fn ee fe em =
+      subst (λ (y : Met). Passing s q table 0 d x (y .frames) (y .found) (y .size)) (sym (em .0))
+      (bare-frame p (channelsOf (st .counted)) l refl el en fn ee fe er fr refl refl refl (refl, em .1))

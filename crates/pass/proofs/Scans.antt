@@ -11,6 +11,8 @@ use native.Mathlib.Nat.{add-zero, add-assoc, zero-add}
 use native.Mathlib.Numerals.{add-one}
 use native.Mathlib.Omega.{arith}
 use native.Mathlib.Decide.{decLt}
+use types.Run.{OneOf, hit, miss}
+use denote.Enum.Declared.{tagOf}
 use borrow.Author.Tests.{lt-ltb, le-ltb, ltb-true, ltb-false, leb-false, eqb-true, eqb-false, eq-eqb, ne-eqb}
 use lib.Dec.{ltb, leb, eqb}
 use lib.IntN.{ℤ}
@@ -47,13 +49,16 @@ use Rattle.pass.specs.declared.Found.{Found}
 use Rattle.pass.specs.declared.Found.the-variants.{Nothing}
 use Rattle.pass.specs.declared.Checked.{Checked}
 use Rattle.pass.specs.declared.Scan.{Scan}
-use Rattle.standing.specs.Standing.{firstStanding, withOrder, withCount, withSequences, withStart, withRoot, withContinued}
-use Rattle.effects.specs.Effects.{valueAt, effectOf}
+use Rattle.standing.specs.Standing.{firstStanding}
+use Rattle.effects.specs.Effects.{valueAt, effectOf, standingAfter}
+use Rattle.effects.proofs.Effect.{the-type}
 use Rattle.effects.specs.Reach.{reachOf}
 use Rattle.framing.specs.Framing.{octetsLimit, framesLimit, channelsOf, sequencesOf, pointerFits, pointerAfter, framedAs}
 use Rattle.pass.specs.Verdict.{State, state, firstState, Outcome, goes, refuses, oneChanged, frameChannels, frameAt, withFrame, carried, placeAt, Verdict, accepted, refused, afterItem, interpret, verdict}
-use Rattle.pass.specs.Passing.{Scanning}
+use Rattle.pass.specs.declared.Met.{Met}
+use Rattle.pass.specs.Passing.{Scanning, noneMet, metWith}
 use Rattle.pass.proofs.Keeps.{interpret-goes, interpret-refuses}
+use Rattle.pass.proofs.Steps.{count-found}
 use Rattle.pass.specs.Scan.{zeroFrame, viewOf, foundIn, sizeOf, sizes, refusedScan, scannedIn, scanOf}
 
 -- ---- a frame that is taken
@@ -336,6 +341,31 @@ module _ (s : List ℕ) (x : State) (i : Item) {e : Effect} (a : e ≡ effectOf 
   pub carried-by : {f : Effect} → e ≡ f → carried s x (effectOf s (x .standing) i) ≡ carried s x f
   carried-by b = ap (carried s x) (sym a ∙ b)
 
+-- What only stands, is carried out in what stands.
+stands-carried : (s : List ℕ) (st : Standing) (fs : List Frame) (own : ℕ) (table : List Settings) (e : Effect) → OneOf (0 ∷ 1 ∷ 3 ∷ 4 ∷ []) (tagOf the-type e) → carried s (state st (shownBy st own table) fs) e ≡ goes (state (standingAfter st e) (shownBy (standingAfter st e) own table) fs)
+unfolding carried
+stands-carried s st fs own table Effect.Pass h = refl
+stands-carried s st fs own table (Effect.Order little) h = refl
+stands-carried s st fs own table (Effect.Count n) h = absurd (miss (0 ∷ 1 ∷ 3 ∷ 4 ∷ []) 2 tt h)
+stands-carried s st fs own table (Effect.Sequences n) h = refl
+stands-carried s st fs own table (Effect.Start z) h = refl
+stands-carried s st fs own table (Effect.All c) h = absurd (miss (0 ∷ 1 ∷ 3 ∷ 4 ∷ []) 5 tt h)
+stands-carried s st fs own table (Effect.One channel c) h = absurd (miss (0 ∷ 1 ∷ 3 ∷ 4 ∷ []) 6 tt h)
+stands-carried s st fs own table (Effect.Frame start len) h = absurd (miss (0 ∷ 1 ∷ 3 ∷ 4 ∷ []) 7 tt h)
+stands-carried s st fs own table (Effect.Refused n) h = absurd (miss (0 ∷ 1 ∷ 3 ∷ 4 ∷ []) 8 tt h)
+
+-- No more channels are counted than there may be.
+counted-kept : (s : List ℕ) (st : Standing) (i : Item) (e : Effect) → e ≡ effectOf s st i → st .counted ≤ channelLimit → standingAfter st e .counted ≤ channelLimit
+counted-kept s st i Effect.Pass a h = h
+counted-kept s st i (Effect.Order little) a h = h
+counted-kept s st i (Effect.Count n) a h = count-found s st i a refl
+counted-kept s st i (Effect.Sequences n) a h = h
+counted-kept s st i (Effect.Start z) a h = h
+counted-kept s st i (Effect.All c) a h = h
+counted-kept s st i (Effect.One channel c) a h = h
+counted-kept s st i (Effect.Frame start len) a h = h
+counted-kept s st i (Effect.Refused n) a h = h
+
 module _ {own : ℕ} {table : List Settings} (k : Records own table) where
   pub shown-full : (st : Standing) → length (shownBy st own table) ≡ channelLimit
   shown-full st = rw (← k .full) (shown-long (st .root) own table (rw (k .full) (k .low)))
@@ -358,29 +388,21 @@ module _ {own : ℕ} {table : List Settings} (k : Records own table) where
     unfolding carried
     does-nothing b = carried-by s spoken i a b
 
-    pub does-order : {little : Bool} {st' : Standing} → e ≡ Effect.Order little → st' ≡ withOrder little st → Does st' own table
-    unfolding carried
-    does-order b q = does-as own table q (carried-by s spoken i a b)
+    -- Only what stands changes.
+    pub does-stands : {st' : Standing} → OneOf (0 ∷ 1 ∷ 3 ∷ 4 ∷ []) (tagOf the-type e) → st' ≡ standingAfter st e → Does st' own table
+    does-stands b q = does-as own table q (carried-by s spoken i a refl ∙ stands-carried s st fs own table e b)
 
-    pub does-count : {n : ℕ} {st' : Standing} → e ≡ Effect.Count n → st' ≡ withCount n st → Does st' 0 table
+    pub does-count : {n : ℕ} {st' : Standing} → e ≡ Effect.Count n → st' ≡ standingAfter st e → Does st' 0 table
     unfolding carried
-    does-count {n = n} b q = does-as 0 table q (carried-by s spoken i a b ∙ ap (λ (t : List Settings). goes (state (withCount n st) t fs)) (sym (shown-none channelLimit (st .root) table)))
+    does-count {n = n} b q = does-as 0 table (q ∙ ap (standingAfter st) b) (carried-by s spoken i a b ∙ ap (λ (t : List Settings). goes (state (standingAfter st (Effect.Count n)) t fs)) (sym (shown-none channelLimit (st .root) table)))
 
-    pub does-sequences : {n : ℕ} {st' : Standing} → e ≡ Effect.Sequences n → st' ≡ withSequences n st → Does st' own table
-    unfolding carried
-    does-sequences b q = does-as own table q (carried-by s spoken i a b)
-
-    pub does-start : {z : ℤ} {st' : Standing} → e ≡ Effect.Start z → st' ≡ withStart z st → Does st' own table
-    unfolding carried
-    does-start b q = does-as own table q (carried-by s spoken i a b)
-
-    pub does-all : {c : Change} {root : Settings} {st' : Standing} {table' : List Settings} → e ≡ Effect.All c → root ≡ applied c (st .root) → st' ≡ withRoot root st → table' ≡ mapped (applied c) own table → Does st' own table'
+    pub does-all : {c : Change} {st' : Standing} {table' : List Settings} → e ≡ Effect.All c → st' ≡ standingAfter st (Effect.All c) → table' ≡ mapped (applied c) own table → Does st' own table'
     unfolding carried allApplied
-    does-all {c = c} {root = root} {table' = table'} b r q m =
+    does-all {c = c} {table' = table'} b q m =
         does-as own table' q
         (carried-by s spoken i a b
-        ∙ ap (λ (t : List Settings). goes (state (withRoot (applied c (st .root)) st) t fs)) (sym (shown-map (applied c) channelLimit (st .root) own table (k .full) (k .low)))
-        ∙ (λ j. goes (state (withRoot (sym r j) st) (shown channelLimit (sym r j) own (sym m j)) fs)))
+        ∙ ap (λ (t : List Settings). goes (state (standingAfter st (Effect.All c)) t fs)) (sym (shown-map (applied c) channelLimit (st .root) own table (k .full) (k .low)))
+        ∙ ap (λ (u : List Settings). goes (state (standingAfter st (Effect.All c)) (shown channelLimit (applied c (st .root)) own u) fs)) (sym m))
 
     pub does-one : {channel : ℕ} {c : Change} {v : Settings} → e ≡ Effect.One channel c → channel < own → v ≡ applied c (getD table channel zeroSettings) → Does st own (set table channel v)
     unfolding carried oneChanged
@@ -409,6 +431,18 @@ module _ {own : ℕ} {table : List Settings} (k : Records own table) where
       (λ t. let l = ltb-true channel count t in simp t (sym (shown-get channelLimit (st .root) own table (min channel 255) own-low zeroSettings (omega (arith, k .low)))))
       (λ t. simp t)
 
+-- Where no record is laid down, only what stands changes, whatever the effect sets.
+pub does-bare : {table : List Settings} → Records 0 table → (s : List ℕ) (st : Standing) (fs : List Frame) (i : Item) (e : Effect) {st' : Standing} → e ≡ effectOf s st i → OneOf (0 ∷ 1 ∷ 2 ∷ 3 ∷ 4 ∷ 5 ∷ []) (tagOf the-type e) → st' ≡ standingAfter st e → carried s (state st (shownBy st 0 table) fs) (effectOf s st i) ≡ goes (state st' (shownBy st' 0 table) fs)
+does-bare k s st fs i Effect.Pass a h q = does-stands k s st fs i a (hit (0 ∷ 1 ∷ 3 ∷ 4 ∷ []) 0 tt) q
+does-bare k s st fs i (Effect.Order little) a h q = does-stands k s st fs i a (hit (0 ∷ 1 ∷ 3 ∷ 4 ∷ []) 1 tt) q
+does-bare k s st fs i (Effect.Count n) a h q = does-count k s st fs i a refl q
+does-bare k s st fs i (Effect.Sequences n) a h q = does-stands k s st fs i a (hit (0 ∷ 1 ∷ 3 ∷ 4 ∷ []) 3 tt) q
+does-bare k s st fs i (Effect.Start z) a h q = does-stands k s st fs i a (hit (0 ∷ 1 ∷ 3 ∷ 4 ∷ []) 4 tt) q
+does-bare k s st fs i (Effect.All c) a h q = does-all k s st fs i a refl q refl
+does-bare k s st fs i (Effect.One channel c) a h q = absurd (miss (0 ∷ 1 ∷ 2 ∷ 3 ∷ 4 ∷ 5 ∷ []) 6 tt h)
+does-bare k s st fs i (Effect.Frame start len) a h q = absurd (miss (0 ∷ 1 ∷ 2 ∷ 3 ∷ 4 ∷ 5 ∷ []) 7 tt h)
+does-bare k s st fs i (Effect.Refused n) a h q = absurd (miss (0 ∷ 1 ∷ 2 ∷ 3 ∷ 4 ∷ 5 ∷ []) 8 tt h)
+
 -- ---- the pass over the records
 
 -- An item is found with the cursor behind it, however that is kept.
@@ -420,14 +454,19 @@ pub record Passing (s : List ℕ) (q : Asked) (table : List Settings) (own : ℕ
   pub records : Records own table
   pub pass : Scanning s q (shownBy st own table) c st frames found size
 
-pub passing-first : (s : List ℕ) (q : Asked) (table : List Settings) (c : Cursor) (st : Standing) → length s ≤ octetsLimit → table ≡ defaultTable → c ≡ cursor 0 Root → st ≡ firstStanding → Passing s q table 0 c st 0 Nothing 0
-passing-first s q table c st h et ec es =
-    record {
+pub passing-first : (s : List ℕ) (q : Asked) (table : List Settings) (c : Cursor) (st : Standing) {m : Met} → length s ≤ octetsLimit → table ≡ defaultTable → c ≡ cursor 0 Root → st ≡ firstStanding → m ≡ noneMet → Passing s q table 0 c st (m .frames) (m .found) (m .size)
+passing-first s q table c st h et ec es em =
+    subst (λ (x : Met). Passing s q table 0 c st (x .frames) (x .found) (x .size)) (sym em)
+    (record {
       records = record { low = omega arith; full = ap length et ∙ length-replicate channelLimit defaultSettings };
       pass = scanning-first s q (shownBy st 0 table) c st h (shown-none channelLimit (st .root) table ∙ ap (λ (x : Standing). replicate channelLimit (x .root)) es) ec es;
-    }
+    })
 
 module _ {s : List ℕ} {q : Asked} {table : List Settings} {own : ℕ} {c : Cursor} {st : Standing} {frames : ℕ} {found : Found} {size : ℕ} (p : Passing s q table own c st frames found size) where
+  -- The same cursor, however it is kept.
+  pub passing-at : {d : Cursor} → d ≡ c → Passing s q table own d st frames found size
+  passing-at e = subst (λ (x : Cursor). Passing s q table own x st frames found size) (sym e) p
+
   -- Some records more are laid down.
   pub passing-filled : {own' : ℕ} {table' : List Settings} → Filling (st .root) own table own' table' → Passing s q table' own' c st frames found size
   passing-filled f = record { records = f .records; pass = subst (λ (t : List Settings). Scanning s q t c st frames found size) (sym (f .same)) (p .pass) }
@@ -435,6 +474,9 @@ module _ {s : List ℕ} {q : Asked} {table : List Settings} {own : ℕ} {c : Cur
   -- An item that gives no frame.
   pub passing-goes : {n : Next} {i : Item} {d : Cursor} {own' : ℕ} {table' : List Settings} {st' : Standing} → n ≡ nextOf s c → n ≡ FoundItem i d → Records own' table' → st' .counted ≤ channelLimit → carried s (state st (shownBy st own table) (p .pass .met)) (effectOf s st i) ≡ goes (state st' (shownBy st' own' table') (p .pass .met)) → Passing s q table' own' d st' frames found size
   passing-goes {st' = st'} e f k h g = record { records = k; pass = scanning-goes (p .pass) e f h (shown-full k st') g }
+
+  pub passing-stands : {n : Next} {i : Item} {d : Cursor} {own' : ℕ} {table' : List Settings} {st' : Standing} {e : Effect} → n ≡ nextOf s c → n ≡ FoundItem i d → Records own' table' → e ≡ effectOf s st i → st' ≡ standingAfter st e → carried s (state st (shownBy st own table) (p .pass .met)) (effectOf s st i) ≡ goes (state st' (shownBy st' own' table') (p .pass .met)) → Passing s q table' own' d st' frames found size
+  passing-stands {i = i} {e = e} en fn k a w g = passing-goes en fn k (subst (λ (x : Standing). x .counted ≤ channelLimit) (sym w) (counted-kept s st i e a (p .pass .counted))) g
 
   module _ (count : ℕ) (l : Layout) (ec : count ≡ channelsOf (st .counted)) (el : l ≡ layoutOf (q .channel) (take count table)) (few : count ≤ own) where
     laid : l ≡ layoutOf (q .channel) (take count (shownBy st own table))
@@ -461,6 +503,22 @@ module _ {s : List ℕ} {q : Asked} {table : List Settings} {own : ℕ} {c : Cur
         let g = scanning-frame (p .pass) count l ec laid en fn ee fe er fr (es ∙ seen-shown (p .records) st (q .channel) count few) ev ef ea in
         record { records = p .records; pass = subst (λ (r : Settings). Scanning s q (shown channelLimit r own table) d x (frames + 1) found' (size + add)) (sym (w .4)) g }
 
--- What is kept of a frame, its start pointer read back from its bits.
-pub view-read : (v : View) {z : ℤ} → z ≡ v .start → record { start = z; channels = v .channels; sequences = v .sequences; little = v .little; place = v .place; octets = v .octets; below = v .below; settings = v .settings } ≡ v
-view-read v e = λ k. record { start = e k; channels = v .channels; sequences = v .sequences; little = v .little; place = v .place; octets = v .octets; below = v .below; settings = v .settings }
+-- A frame that is taken, and what the pass keeps of it.
+module _ {s : List ℕ} {q : Asked} {table : List Settings} {own : ℕ} {c : Cursor} {st : Standing} {m : Met} (p : Passing s q table own c st (m .frames) (m .found) (m .size))
+    (l : Layout) (el : l ≡ layoutOf (q .channel) (take (channelsOf (st .counted)) table)) (few : channelsOf (st .counted) ≤ own)
+    (len : ℕ) {sequences : ℕ} {x : Standing} {r : Framed} (er : r ≡ framedAs (m .frames) st (l .agree) (l .octets) len) (fr : r ≡ Taken sequences x) where
+  pub met-room : (m .frames ≤ framesLimit) × (m .size ≤ m .frames * 2 ^ 32) × (l .groups ≤ 16384) × (sequences * l .octets < 2147483648)
+  met-room =
+      let w = framed-found (m .frames) st (l .agree) (l .octets) len er fr in
+      (p .pass .limit, p .pass .room, passing-groups p (channelsOf (st .counted)) l refl el few, omega (arith, w .0, w .1))
+
+  pub passing-met : {n : Next} {i : Item} {d : Cursor} {start : ℕ} {v : Settings} {m' : Met} {e : Effect}
+      → n ≡ nextOf s c → n ≡ FoundItem i d
+      → e ≡ effectOf s st i → e ≡ Effect.Frame start len
+      → v ≡ getD table (min (q .channel) 255) zeroSettings
+      → (m' ≡ metWith q st sequences start l v m) × (frameSize sequences (l .groups) (sequences * l .octets) < 4294967296)
+      → Passing s q table own d x (m' .frames) (m' .found) (m' .size)
+  passing-met {d = d} en fn ee fe ev em =
+      subst (λ (y : Met). Passing s q table own d x (y .frames) (y .found) (y .size)) (sym (em .0))
+      (passing-frame p (channelsOf (st .counted)) l refl el few en fn ee fe er fr
+      (ap (λ (y : Settings). pick (ltb (q .channel) (channelsOf (st .counted))) y defaultSettings) ev) refl refl (refl, em .1))

@@ -2,21 +2,27 @@
 use mathlib.Core.Path.{_≡_}
 use mathlib.Core.List.{List}
 use mathlib.Core.Bool.{Bool, false}
-use Prim.Native.Nat.{ℕ, _*_, _^_, _≤_}
-use lib.Dec.{ltb}
+use Prim.Native.Nat.{ℕ, _+_, _*_, _^_, _≤_}
+use lib.Dec.{ltb, eqb}
 use lib.ListN.{length, getD}
 use Rattle.octets.specs.Pick.{pick}
 use Rattle.items.specs.declared.Item.{Item}
 use Rattle.items.specs.declared.Cursor.{Cursor}
 use Rattle.items.specs.Walk.{itemsFrom, isInside}
 use Rattle.settings.specs.declared.Settings.{Settings}
-use Rattle.settings.specs.Settings.{channelLimit}
+use Rattle.settings.specs.Settings.{channelLimit, defaultSettings}
+use Rattle.layout.specs.declared.Layout.{Layout}
 use Rattle.layout.specs.Frame.{Frame}
+use Rattle.layout.specs.Size.{frameSize}
 use Rattle.standing.specs.declared.Standing.{Standing}
-use Rattle.framing.specs.Framing.{octetsLimit, framesLimit}
+use Rattle.framing.specs.Framing.{octetsLimit, framesLimit, channelsOf}
 use Rattle.stretch.specs.Stretch.{steppedOver}
 use Rattle.pass.specs.declared.Asked.{Asked}
+use Rattle.pass.specs.declared.View.{View}
 use Rattle.pass.specs.declared.Found.{Found}
+use Rattle.pass.specs.declared.Checked.{Checked}
+use Rattle.pass.specs.declared.Scan.{Scan}
+use Rattle.pass.specs.declared.Met.{Met}
 use Rattle.pass.specs.Verdict.{state, interpret, verdict}
 use Rattle.pass.specs.Scan.{foundIn, sizes}
 
@@ -32,6 +38,37 @@ pub record Scanning (s : List ℕ) (q : Asked) (table : List Settings) (c : Curs
   pub sized : size ≡ sizes met
   pub room : size ≤ frames * 2 ^ 32
   pub same : interpret s (state st table met) (itemsFrom s c) ≡ verdict s
+
+-- No frame met yet.
+abbrev pub noneMet : Met
+noneMet = record { frames = 0; found = Found.Nothing; size = 0 }
+
+-- What a pass answers at the end of the file.
+abbrev pub metScan : Met → Scan
+metScan m = record { checked = Checked.Frames (m .frames); found = m .found; size = m .size }
+
+-- What is kept of a frame, where c are the settings of the channel that is asked for if the frame has it.
+abbrev pub viewMet : ℕ → Standing → ℕ → ℕ → Layout → Settings → View
+viewMet channel st sequences start l c =
+    record {
+      start = st .start;
+      channels = channelsOf (st .counted);
+      sequences = sequences;
+      little = st .little;
+      place = start;
+      octets = l .octets;
+      below = l .below;
+      settings = pick (ltb channel (channelsOf (st .counted))) c defaultSettings;
+    }
+
+-- One frame more is met.
+abbrev pub metWith : Asked → Standing → ℕ → ℕ → Layout → Settings → Met → Met
+metWith q st sequences start l c m =
+    record {
+      frames = m .frames + 1;
+      found = pick (eqb (m .frames) (q .frame)) (Found.Frame (viewMet (q .channel) st sequences start l c)) (m .found);
+      size = m .size + frameSize sequences (l .groups) (sequences * l .octets);
+    }
 
 -- The channel of a group that takes effect here; 256, which is no channel, for every other item.
 unfoldable pub openedBy : ℕ → Item → ℕ

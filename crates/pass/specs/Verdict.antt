@@ -15,8 +15,8 @@ use Rattle.effects.specs.declared.Effect.{Effect}
 use Rattle.framing.specs.declared.Framed.{Framed}
 use Rattle.pass.specs.declared.Checked.{Checked}
 use Rattle.pass.specs.declared.Checked.the-variants.{Frames}
-use Rattle.standing.specs.Standing.{firstStanding, withOrder, withCount, withSequences, withStart, withRoot}
-use Rattle.effects.specs.Effects.{valueAt, effectOf}
+use Rattle.standing.specs.Standing.{firstStanding}
+use Rattle.effects.specs.Effects.{valueAt, effectOf, standingAfter}
 use Rattle.layout.specs.Frame.{Frame, sequenceOctets, allAgree}
 use Rattle.framing.specs.Framing.{octetsLimit, channelsOf, framedAs}
 
@@ -66,13 +66,12 @@ withFrame s x start len (Framed.Refused number) = refuses number
 -- What an effect does. A root definition ends every channel's own setting; tag 05 sends every channel back to the root settings.
 unfoldable pub carried : List ℕ → State → Effect → Outcome
 carried s x Effect.Pass = goes x
-carried s x (Effect.Order little) = goes (state (withOrder little (x .standing)) (x .channels) (x .frames))
+carried s x (Effect.Order little) = goes (state (standingAfter (x .standing) (Effect.Order little)) (x .channels) (x .frames))
 carried s x (Effect.Count counted) =
-    goes (state (withCount counted (x .standing)) (replicate channelLimit (x .standing .root)) (x .frames))
-carried s x (Effect.Sequences sequences) = goes (state (withSequences sequences (x .standing)) (x .channels) (x .frames))
-carried s x (Effect.Start start) = goes (state (withStart start (x .standing)) (x .channels) (x .frames))
-carried s x (Effect.All c) =
-    goes (state (withRoot (applied c (x .standing .root)) (x .standing)) (allApplied c (x .channels)) (x .frames))
+    goes (state (standingAfter (x .standing) (Effect.Count counted)) (replicate channelLimit (x .standing .root)) (x .frames))
+carried s x (Effect.Sequences sequences) = goes (state (standingAfter (x .standing) (Effect.Sequences sequences)) (x .channels) (x .frames))
+carried s x (Effect.Start start) = goes (state (standingAfter (x .standing) (Effect.Start start)) (x .channels) (x .frames))
+carried s x (Effect.All c) = goes (state (standingAfter (x .standing) (Effect.All c)) (allApplied c (x .channels)) (x .frames))
 carried s x (Effect.One channel c) = goes (state (x .standing) (oneChanged channel (applied c) (x .channels)) (x .frames))
 carried s x (Effect.Frame start len) =
     withFrame s x start len

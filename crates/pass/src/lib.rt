@@ -2,18 +2,22 @@
 //
 // Promises, for any octets at all: `scan_file` walks the file once and answers the number of frames or the refusal of document 01 with its
 // number and place, what it kept of the frame and channel that are asked for, and how many octets the canonical file's frames take.
-// Up to the first definition in a group it needs no channel records (`scan_file`), from there on it keeps them (`scan_channels`). Both take
+// Up to the first definition in a group it needs no channel records (`scan_root`), from there on it keeps them (`scan_channels`). Both take
 // definitions in stretches where they can, and every other item by what crate effects says of it.
 // Read first: specs/Verdict.antt (the file), specs/Scan.antt (what a pass answers), then specs/Passing.antt (what it knows on its way).
 ghost use mathlib.Core.Path.{_≡_};
-ghost use Prim.Native.Nat.{_≤_, _<_, min};
+ghost use Prim.Native.Nat.{_+_, _*_, _^_, _≤_, _<_, min};
 ghost use Rattle.octets.specs.Pick.{pick};
-ghost use lib.ListN.{replicate};
+ghost use lib.ListN.{length, take, replicate};
+ghost use Rattle.items.specs.Walk.{cursor, refusal};
 ghost use Rattle.settings.specs.Settings.{defaultSettings, channelLimit};
+ghost use Rattle.stretch.specs.Stretch.{stretchOf};
 ghost use Rattle.layout.specs.Size.{lengthSize, sequencesSize, frameSize};
+ghost use Rattle.layout.specs.Measure.{layoutOf};
+ghost use Rattle.framing.specs.Framing.{octetsLimit, framesLimit, channelsOf};
 ghost use Rattle.pass.specs.Verdict.{placeAt};
 ghost use Rattle.pass.specs.Scan.{refusedScan, scanOf};
-ghost use Rattle.pass.specs.Passing.{Scanning, openedBy, beginsAt};
+ghost use Rattle.pass.specs.Passing.{Scanning, openedBy, beginsAt, noneMet, metScan, metWith, viewMet};
 use effects::Effect;
 use framing::Framed;
 use heads::Refusal;
@@ -24,6 +28,7 @@ use items::Within;
 use layout::Layout;
 use settings::Settings;
 use standing::Standing;
+use stretch::Stretch;
 
 // The answer of the check: the number of frames, or the refusal.
 pub enum Checked {
@@ -96,6 +101,16 @@ fn place_of(item: Item) -> usize
     }
 }
 
+// A refused item decides at its place.
+fn refused_item(number: u8, item: Item) -> Scan
+    ensures { λ r. ⌜ r ≡ refusedScan (refusal number (placeAt item)) ⌝ }
+{
+    refused_scan(Refusal {
+        number,
+        place: place_of(item),
+    })
+}
+
 // The octets of a length in its shortest form.
 fn length_size(n: u64) -> u64
     ensures { λ r. ⌜ (r ≡ lengthSize n) × (r ≤ 5) ⌝ }
@@ -135,6 +150,84 @@ fn seen(there: bool, s: Settings) -> Settings
     ensures { λ r. ⌜ r ≡ pick there s defaultSettings ⌝ }
 {
     if there { s } else { Settings::default() }
+}
+
+// What is kept of the frame that is asked for.
+fn view_of(channel: u32, st: Standing, sequences: u32, start: usize, l: Layout, c: Settings) -> View
+    ensures { λ r. ⌜ r ≡ viewMet channel st sequences start l c ⌝ }
+{
+    let channels = framing::channels_of(st.counted);
+    View {
+        start: st.start,
+        channels,
+        sequences,
+        little: st.little,
+        place: start,
+        octets: l.octets,
+        below: l.below,
+        settings: seen(channel < channels, c),
+    }
+}
+
+// What a pass keeps of the frames that it has met: how many, the one that is asked for, and how many octets they take in the canonical file.
+struct Met {
+    frames: u32,
+    found: Found,
+    size: u64,
+}
+
+impl Met {
+    fn none() -> Met
+        ensures { λ r. ⌜ r ≡ noneMet ⌝ }
+    {
+        Met {
+            frames: 0,
+            found: Found::Nothing,
+            size: 0,
+        }
+    }
+
+    // The answer at the end of the file.
+    fn scan(self) -> Scan
+        ensures { λ r. ⌜ r ≡ metScan self ⌝ }
+    {
+        let found = self.found;
+        Scan {
+            checked: Checked::Frames(self.frames),
+            found,
+            size: self.size,
+        }
+    }
+
+    // One frame more; `c` are the settings of the channel that is asked for, where the frame has it.
+    fn with_frame(
+        self,
+        asked: Asked,
+        st: Standing,
+        sequences: u32,
+        start: usize,
+        l: Layout,
+        c: Settings,
+    ) -> Met
+        requires { ⌜ (self .frames ≤ framesLimit) × (self .size ≤ self .frames * 2 ^ 32) × (l .groups ≤ 16384) × (sequences * l .octets < 2147483648) ⌝ }
+        ensures { λ r. ⌜ (r ≡ metWith asked st sequences start l c self) × (frameSize sequences (l .groups) (sequences * l .octets) < 4294967296) ⌝ }
+    {
+        let size = self.size + frame_size(sequences, l.groups, sequences as u64 * l.octets);
+        let frames = self.frames + 1;
+        if self.frames == asked.frame {
+            return Met {
+                frames,
+                found: Found::Frame(view_of(asked.channel, st, sequences, start, l, c)),
+                size,
+            };
+        }
+        let found = self.found;
+        Met {
+            frames,
+            found,
+            size,
+        }
+    }
 }
 
 // The last record for every channel number above it.
@@ -195,17 +288,40 @@ fn begins(s: &[u8], c: Cursor) -> bool
     }
 }
 
+// A cursor moved on, in the same group or outside.
+fn moved(c: Cursor, at: usize) -> Cursor
+    ensures { λ r. ⌜ r ≡ cursor at (c .within) ⌝ }
+{
+    let within = c.within;
+    Cursor { at, within }
+}
+
+// The stretch of root definitions at a cursor.
+fn root_stretch(s: &[u8], c: Cursor, st: Standing) -> Stretch
+    ensures { λ r. ⌜ r ≡ stretchOf (now (s .entry)) c (st .little) defaultSettings (st .root) ⌝ }
+{
+    stretch::along(s, c, st.little, Settings::default(), st.root)
+}
+
+// The layout of a frame whose channels all hold the root settings.
+fn root_layout(st: Standing, channel: u32) -> Layout
+    requires { ⌜ st .counted ≤ channelLimit ⌝ }
+    ensures { λ r. ⌜ r ≡ layoutOf channel (take (channelsOf (st .counted)) (replicate channelLimit (st .root))) ⌝ }
+{
+    let n = framing::channels_of(st.counted) as usize;
+    let root = st.root;
+    let mut l = Layout::none();
+    let mut i = 0usize;
+    while i < n {
+        l = l.more(i, channel, root);
+        i += 1;
+    }
+    l
+}
+
 // The pass from the first definition in a group on, where all channels hold the root settings.
-fn scan_channels(
-    s: &[u8],
-    asked: Asked,
-    from: Cursor,
-    standing: Standing,
-    met: u32,
-    kept: Found,
-    octets: u64,
-) -> Scan
-    requires { ⌜ Scanning (now s) asked (replicate channelLimit (standing .root)) from standing met kept octets ⌝ }
+fn scan_channels(s: &[u8], asked: Asked, from: Cursor, standing: Standing, before: Met) -> Scan
+    requires { ⌜ Scanning (now s) asked (replicate channelLimit (standing .root)) from standing (before .frames) (before .found) (before .size) ⌝ }
     ensures { λ r. ⌜ r ≡ scanOf asked (now (s .entry)) ⌝ }
 {
     let mut table = Settings::table();
@@ -213,28 +329,21 @@ fn scan_channels(
     let mut own = 0usize;
     let mut c = from;
     let mut st = standing;
-    let mut frames = met;
-    let mut found = kept;
-    let mut size = octets;
+    let mut met = before;
     loop {
         match items::next_item(s, c) {
             Next::End => {
-                return Scan {
-                    checked: Checked::Frames(frames),
-                    found,
-                    size,
-                };
+                return met.scan();
             }
             Next::Refused(x) => {
                 return refused_scan(x);
             }
             Next::Found(item, next) => {
                 c = next.renewed();
+                let root = st.root;
                 // The definitions at the front of a group are taken as a stretch.
                 let k = opened(item, st.counted);
                 if k < 256 {
-                    let within = c.within;
-                    let root = st.root;
                     while own <= k {
                         table[own] = root;
                         own += 1;
@@ -242,33 +351,19 @@ fn scan_channels(
                     let ahead = stretch::along(s, c, st.little, root, table[k]);
                     let settled = ahead.settings;
                     table[k] = settled;
-                    c = Cursor {
-                        at: ahead.at,
-                        within,
-                    };
+                    c = moved(c, ahead.at);
                     continue;
                 }
                 let effect = effects::item_effect(s, st, item);
-                let root = st.root;
                 let n = effects::reach(effect, st.counted);
                 while own < n {
                     table[own] = root;
                     own += 1;
                 }
                 match effect {
-                    Effect::Pass => {}
-                    Effect::Order(little) => {
-                        st = st.with_order(little);
-                    }
-                    Effect::Count(counted) => {
+                    Effect::Count(_) => {
                         own = 0;
-                        st = st.with_count(counted);
-                    }
-                    Effect::Sequences(sequences) => {
-                        st = st.with_sequences(sequences);
-                    }
-                    Effect::Start(start) => {
-                        st = st.with_start(start);
+                        st = effects::standing_after(st, effect);
                     }
                     Effect::All(change) => {
                         let mut i = 0usize;
@@ -276,7 +371,7 @@ fn scan_channels(
                             table[i] = settings::apply(table[i], change);
                             i += 1;
                         }
-                        st = st.with_root(settings::apply(root, change));
+                        st = effects::standing_after(st, effect);
                     }
                     Effect::One(channel, change) => {
                         let k = channel as usize;
@@ -285,50 +380,85 @@ fn scan_channels(
                         }
                     }
                     Effect::Frame { start, len } => {
-                        let count = framing::channels_of(st.counted);
                         let mut l = Layout::none();
                         let mut i = 0usize;
                         while i < n {
                             l = l.more(i, asked.channel, table[i]);
                             i += 1;
                         }
-                        match framing::frame_of(frames, st, l.agree, l.octets, len) {
+                        match framing::frame_of(met.frames, st, l.agree, l.octets, len) {
                             Framed::Refused(number) => {
-                                return refused_scan(Refusal {
-                                    number,
-                                    place: place_of(item),
-                                });
+                                return refused_item(number, item);
                             }
                             Framed::Taken(sequences, after) => {
-                                let number = frames;
-                                let pointer = st.start;
-                                let little = st.little;
-                                size = size
-                                    + frame_size(sequences, l.groups, sequences as u64 * l.octets);
+                                let k = index(asked.channel);
+                                met = met.with_frame(asked, st, sequences, start, l, table[k]);
                                 st = after;
-                                frames = frames + 1;
-                                if number == asked.frame {
-                                    let k = index(asked.channel);
-                                    let settings = seen(asked.channel < count, table[k]);
-                                    found = Found::Frame(View {
-                                        start: pointer,
-                                        channels: count,
-                                        sequences,
-                                        little,
-                                        place: start,
-                                        octets: l.octets,
-                                        below: l.below,
-                                        settings,
-                                    });
-                                }
                             }
                         }
                     }
                     Effect::Refused(number) => {
-                        return refused_scan(Refusal {
-                            number,
-                            place: place_of(item),
-                        });
+                        return refused_item(number, item);
+                    }
+                    _ => {
+                        st = effects::standing_after(st, effect);
+                    }
+                }
+            }
+        }
+    }
+}
+
+// The pass up to the first definition in a group: all channels hold the root settings, and no record is needed.
+fn scan_root(s: &[u8], asked: Asked) -> Scan
+    requires { ⌜ length (now s) ≤ octetsLimit ⌝ }
+    ensures { λ r. ⌜ r ≡ scanOf asked (now (s .entry)) ⌝ }
+{
+    let mut c = Cursor::first();
+    let mut st = Standing::first();
+    let mut met = Met::none();
+    loop {
+        if begins(s, c) {
+            let ahead = root_stretch(s, c, st);
+            if c.at < ahead.at {
+                let settled = ahead.settings;
+                st = st.with_root(settled);
+                c = moved(c, ahead.at);
+                continue;
+            }
+        }
+        match items::next_item(s, c) {
+            Next::End => {
+                return met.scan();
+            }
+            Next::Refused(x) => {
+                return refused_scan(x);
+            }
+            Next::Found(item, next) => {
+                let effect = effects::item_effect(s, st, item);
+                match effect {
+                    Effect::One(_, _) => {
+                        return scan_channels(s, asked, c, st, met);
+                    }
+                    Effect::Frame { start, len } => {
+                        let l = root_layout(st, asked.channel);
+                        match framing::frame_of(met.frames, st, l.agree, l.octets, len) {
+                            Framed::Refused(number) => {
+                                return refused_item(number, item);
+                            }
+                            Framed::Taken(sequences, after) => {
+                                met = met.with_frame(asked, st, sequences, start, l, st.root);
+                                st = after;
+                                c = next.renewed();
+                            }
+                        }
+                    }
+                    Effect::Refused(number) => {
+                        return refused_item(number, item);
+                    }
+                    _ => {
+                        st = effects::standing_after(st, effect);
+                        c = next.renewed();
                     }
                 }
             }
@@ -346,111 +476,5 @@ pub fn scan_file(s: &[u8], asked: Asked) -> Scan
             place: 0,
         });
     }
-    // Up to the first definition in a group all channels hold the root settings, and no record is needed.
-    let mut c = Cursor::first();
-    let mut st = Standing::first();
-    let mut frames = 0u32;
-    let mut found = Found::Nothing;
-    let mut size = 0u64;
-    loop {
-        if begins(s, c) {
-            let base = Settings::default();
-            let held = st.root;
-            let ahead = stretch::along(s, c, st.little, base, held);
-            if c.at < ahead.at {
-                let settled = ahead.settings;
-                st = st.with_root(settled);
-                c = Cursor {
-                    at: ahead.at,
-                    within: Within::Root,
-                };
-                continue;
-            }
-        }
-        match items::next_item(s, c) {
-            Next::End => {
-                return Scan {
-                    checked: Checked::Frames(frames),
-                    found,
-                    size,
-                };
-            }
-            Next::Refused(x) => {
-                return refused_scan(x);
-            }
-            Next::Found(item, next) => {
-                let here = c;
-                c = next.renewed();
-                let effect = effects::item_effect(s, st, item);
-                let root = st.root;
-                let n = effects::reach(effect, st.counted);
-                match effect {
-                    Effect::Pass => {}
-                    Effect::Order(little) => {
-                        st = st.with_order(little);
-                    }
-                    Effect::Count(counted) => {
-                        st = st.with_count(counted);
-                    }
-                    Effect::Sequences(sequences) => {
-                        st = st.with_sequences(sequences);
-                    }
-                    Effect::Start(start) => {
-                        st = st.with_start(start);
-                    }
-                    Effect::All(change) => {
-                        st = st.with_root(settings::apply(root, change));
-                    }
-                    Effect::One(_, _) => {
-                        return scan_channels(s, asked, here, st, frames, found, size);
-                    }
-                    Effect::Frame { start, len } => {
-                        let count = framing::channels_of(st.counted);
-                        let mut l = Layout::none();
-                        let mut i = 0usize;
-                        while i < n {
-                            l = l.more(i, asked.channel, root);
-                            i += 1;
-                        }
-                        match framing::frame_of(frames, st, l.agree, l.octets, len) {
-                            Framed::Refused(number) => {
-                                return refused_scan(Refusal {
-                                    number,
-                                    place: place_of(item),
-                                });
-                            }
-                            Framed::Taken(sequences, after) => {
-                                let number = frames;
-                                let pointer = st.start;
-                                let little = st.little;
-                                size = size
-                                    + frame_size(sequences, l.groups, sequences as u64 * l.octets);
-                                st = after;
-                                frames = frames + 1;
-                                if number == asked.frame {
-                                    let settings = seen(asked.channel < count, root);
-                                    found = Found::Frame(View {
-                                        start: pointer,
-                                        channels: count,
-                                        sequences,
-                                        little,
-                                        place: start,
-                                        octets: l.octets,
-                                        below: l.below,
-                                        settings,
-                                    });
-                                }
-                            }
-                        }
-                    }
-                    Effect::Refused(number) => {
-                        return refused_scan(Refusal {
-                            number,
-                            place: place_of(item),
-                        });
-                    }
-                }
-            }
-        }
-    }
+    scan_root(s, asked)
 }

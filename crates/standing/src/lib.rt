@@ -1,9 +1,9 @@
 // What stands outside the channels' own records.
 //
-// Promises: `first` is what stands before the first item; every other function sets what it names and keeps all else.
+// Promises: `first` is what stands before the first item; `with_continued` and `with_root` set what they name and keep all else.
 // Read first: specs/Standing.antt.
 ghost use mathlib.Core.Path.{_≡_};
-ghost use Rattle.standing.specs.Standing.{firstStanding, withOrder, withCount, withSequences, withStart, withContinued, withRoot};
+ghost use Rattle.standing.specs.Standing.{firstStanding, withContinued, withRoot};
 use settings::Settings;
 
 // What stands outside the channels' own records. `counted` 0: no channel count stands. `sequences` 0: by waveform length. `start` is
@@ -37,34 +37,6 @@ impl Standing {
             continued: 0,
             root,
         }
-    }
-
-    pub fn with_order(mut self, little: bool) -> Standing
-        ensures { λ r. ⌜ r ≡ withOrder «little» self ⌝ }
-    {
-        self.little = little;
-        self
-    }
-
-    pub fn with_count(mut self, counted: u32) -> Standing
-        ensures { λ r. ⌜ r ≡ withCount counted self ⌝ }
-    {
-        self.counted = counted;
-        self
-    }
-
-    pub fn with_sequences(mut self, sequences: u32) -> Standing
-        ensures { λ r. ⌜ r ≡ withSequences sequences self ⌝ }
-    {
-        self.sequences = sequences;
-        self
-    }
-
-    pub fn with_start(mut self, start: i64) -> Standing
-        ensures { λ r. ⌜ r ≡ withStart start self ⌝ }
-    {
-        self.start = start;
-        self
     }
 
     // A frame has led to this pointer, and the next frame goes on there.
