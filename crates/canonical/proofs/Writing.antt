@@ -12,6 +12,8 @@ use mathlib.Core.Bool.{Bool, true, false}
 use Prim.Native.Nat.{ℕ, zero, suc, _+_, _*_, _^_, _≤_, _<_}
 use native.Mathlib.Nat.{add-zero, zero-add, add-assoc}
 use native.Mathlib.Omega.{arith}
+use types.Run.{OneOf, miss}
+use denote.Enum.Declared.{tagOf}
 use borrow.Author.Tests.{le-leb, lt-leb}
 use lib.ListN.{length, getD, take, drop, replicate, length-append, length-replicate, length-map}
 use lib.Seq.{getD-append-seam, length-take-le}
@@ -23,6 +25,7 @@ use Rattle.items.specs.declared.Cursor.{Cursor}
 use Rattle.heads.specs.declared.Refusal.{Refusal}
 use Rattle.items.specs.declared.Next.{Next}
 use Rattle.items.specs.declared.Next.the-variants.{Found, End}
+use Rattle.items.proofs.Next.{the-type}
 use Rattle.items.specs.declared.Within.the-variants.{Root}
 use Rattle.heads.specs.Refusals.{bufferShort}
 use Rattle.items.specs.Walk.{nextOf, itemsFrom, itemsOf, cursor, refusal, fault}
@@ -42,7 +45,7 @@ use Rattle.effects.specs.declared.Effect.{Effect}
 use Rattle.framing.specs.declared.Framed.{Framed}
 use Rattle.framing.specs.declared.Framed.the-variants.{Taken}
 use Rattle.standing.specs.Standing.{firstStanding}
-use Rattle.effects.specs.Effects.{effectOf, valueAt}
+use Rattle.effects.specs.Effects.{effectOf, valueAt, standingAfter}
 use Rattle.framing.specs.Framing.{octetsLimit, channelsOf, framedAs}
 use Rattle.pass.specs.Verdict.{State, state, firstState, Outcome, goes, refuses, frameChannels, frameAt, withFrame, carried, placeAt, Verdict, accepted, refused, interpret, verdict}
 use Rattle.pass.specs.Scan.{zeroFrame, sizeOf, sizes, scannedIn, scanOf}
@@ -52,7 +55,7 @@ use Rattle.pass.specs.declared.Scan.{Scan}
 use Rattle.pass.proofs.Keeps.{meaning, Kept, Keeps, frames-kept, accepted-by, interpret-goes, interpret-refuses, interpret-finished, interpret-fault, firstCursor}
 use Rattle.framing.proofs.Framings.{pointer-small}
 use Rattle.settings.proofs.Shown.{shown, shown-none}
-use Rattle.pass.proofs.Scans.{channels-few, framed-found, shownBy, Records, Filling, shown-full, frame-shown}
+use Rattle.pass.proofs.Scans.{counted-kept, channels-few, framed-found, shownBy, Records, Filling, shown-full, frame-shown}
 use Rattle.reader.proofs.Ordered.{Lies, accepted-lies, accepted-small}
 use Rattle.canonical.specs.Recording.{Recorded, settled, recordedFrame, recording}
 use Rattle.canonical.specs.Canonical.{item, numberItem, unsignedOf, groupsOctets, sequencesItem, waveformOf, frameOctets, framesOctets, canonical}
@@ -153,10 +156,10 @@ so-far-all [] n = absurd (n refl)
 so-far-all (f ∷ fs) n = refl
 
 -- The first three octets.
-pub head-put : {s d e f : List ℕ} {a at : ℕ} → Ready s d → Putting d 0 (0x01 ∷ 0x01 ∷ []) a e → Putting e a (0x00 ∷ []) at f → Put d 0 (0x01 ∷ 0x01 ∷ 0x00 ∷ []) at f
-head-put r p q =
-    let u = put-fits (omega (arith, r .room)) p in
-    put-then u (put-fits (omega (arith, r .room, put-long u, u .next)) q)
+pub head-put : {d e f : List ℕ} {a at : ℕ} → 3 ≤ length d → Putting d 0 (0x01 ∷ 0x01 ∷ []) a e → Putting e a (0x00 ∷ []) at f → Put d 0 (0x01 ∷ 0x01 ∷ 0x00 ∷ []) at f
+head-put h p q =
+    let u = put-fits (omega arith) p in
+    put-then u (put-fits (omega (arith, put-long u, u .next)) q)
 
 -- ---- the pass
 
@@ -223,7 +226,13 @@ module _ {s d : List ℕ} {table : List Settings} {c : Cursor} {st : Standing} {
       let z : _≡_ {A = ℕ} 0 1 = cc in
       omega arith
 
-  -- Nor a refused item.
+  -- So the pass ends where the items do.
+  pub written-done : (n : Next) {o : List ℕ} {k : ℕ} → OneOf (1 ∷ 2 ∷ []) (tagOf the-type n) → n ≡ nextOf s c → Put o 0 (0x01 ∷ 0x01 ∷ 0x00 ∷ []) k d → Put o 0 (canonicalOf s) at e
+  written-done (Found i d') h a q = absurd (miss (1 ∷ 2 ∷ []) 0 tt h)
+  written-done End h a q = written-end a refl q
+  written-done (Next.Refused r) h a q = absurd (never-fault r a refl)
+
+  -- Nor has it a refused item.
   pub never-refuses : {n : Next} {i : Item} {d' : Cursor} (k : ℕ) → n ≡ nextOf s c → n ≡ Found i d' → carried s here (effectOf s st i) ≡ refuses k → ⊥
   never-refuses {i = i} {d' = d'} k a b g =
       let v : refused (refusal k (placeAt i)) ≡ accepted (framesIn (verdict s)) = sym (interpret-refuses s here i (itemsFrom s d') k g) ∙ ap (interpret s here) (sym (items-found s c i d' (sym a ∙ b))) ∙ p .same in
@@ -335,6 +344,10 @@ module _ {s d : List ℕ} {table : List Settings} {own : ℕ} {c : Cursor} {st :
   going-filled f = record { records = f .records; pass = subst (λ (t : List Settings). Writing s d t c st frames at e) (sym (f .same)) (p .pass) }
 
   -- An item that gives no frame.
+  pub going-stands : {n : Next} {i : Item} {d' : Cursor} {own' : ℕ} {table' : List Settings} {st' : Standing} {f : Effect} → n ≡ nextOf s c → n ≡ Found i d' → Records own' table' → f ≡ effectOf s st i → st' ≡ standingAfter st f → carried s (state st (shownBy st own table) (p .pass .met)) (effectOf s st i) ≡ goes (state st' (shownBy st' own' table') (p .pass .met)) → Going s d table' own' d' st' frames at e
+  going-stands {i = i} {st' = st'} {f = f} a b k w v g =
+      record { records = k; pass = writing-goes (p .pass) a b (subst (λ (x : Standing). x .counted ≤ channelLimit) (sym v) (counted-kept s st i f w (p .pass .counted))) (shown-full k st') g }
+
   pub going-goes : {n : Next} {i : Item} {d' : Cursor} {own' : ℕ} {table' : List Settings} {st' : Standing} → n ≡ nextOf s c → n ≡ Found i d' → Records own' table' → st' .counted ≤ channelLimit → carried s (state st (shownBy st own table) (p .pass .met)) (effectOf s st i) ≡ goes (state st' (shownBy st' own' table') (p .pass .met)) → Going s d table' own' d' st' frames at e
   going-goes {st' = st'} a b k h g = record { records = k; pass = writing-goes (p .pass) a b h (shown-full k st') g }
 

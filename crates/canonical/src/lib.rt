@@ -7,12 +7,13 @@
 // Refusal comes first: the size is known from one pass over the file before the first octet is stored. Each function that stores says so by
 // `Put`: which octets, from where on, and the place behind them.
 ghost use mathlib.Core.Path.{_≡_};
-ghost use mathlib.Core.List.{map};
+ghost use mathlib.Core.List.{map, _∷_, []};
 ghost use Prim.Native.Nat.{_+_, _*_, _-_, suc, _≤_, _<_};
 ghost use lib.ListN.{length, take, drop};
 ghost use lib.Signed.{mag};
 ghost use Rattle.stores.specs.Storing.{Put};
 ghost use Rattle.layout.specs.Frame.{widthIn, sequenceOctets};
+ghost use Rattle.layout.specs.Measure.{layoutOf};
 ghost use Rattle.laid.specs.Turned.{Even, turnedAll};
 ghost use Rattle.layout.specs.Size.{nullSize, contentSize, groupSize, groupsSize, sequencesSize, frameSize};
 ghost use Rattle.canonical.specs.Recording.{settled};
@@ -285,13 +286,35 @@ fn put_frame(
     put_samples(w, st.little, sequences, octets, table, k, out, d)
 }
 
+// 01 01 00.
+fn put_order(out: &mut [u8]) -> usize
+    requires { ⌜ 3 ≤ length (now out) ⌝ }
+    ensures { λ r. ⌜ Put (now (out .entry)) 0 (0x01 ∷ 0x01 ∷ 0x00 ∷ []) r (now (out .exit)) ⌝ }
+{
+    let a = stores::put_two(out, 0, 0x01, 0x01);
+    stores::put_octet(out, a, 0x00)
+}
+
+// The layout of the first `count` channels.
+fn layout_of(table: [Settings; 256], count: usize) -> Layout
+    requires { ⌜ count ≤ 256 ⌝ }
+    ensures { λ r. ⌜ r ≡ layoutOf 0 (take count table) ⌝ }
+{
+    let mut l = Layout::none();
+    let mut i = 0usize;
+    while i < count {
+        l = l.more(i, 0, table[i]);
+        i += 1;
+    }
+    l
+}
+
 // Writes the frames of an accepted file that has some, behind 01 01 00.
 fn write_frames(s: &[u8], out: &mut [u8]) -> usize
     requires { ⌜ Ready (now s) (now out) ⌝ }
     ensures { λ r. ⌜ Put (now (out .entry)) 0 (canonicalOf (now (s .entry))) r (now (out .exit)) ⌝ }
 {
-    let a = stores::put_two(out, 0, 0x01, 0x01);
-    let mut at = stores::put_octet(out, a, 0x00);
+    let mut at = put_order(out);
     let mut table = Settings::table();
     // The first `own` records are kept up; every other channel holds the root settings.
     let mut own = 0usize;
@@ -300,12 +323,6 @@ fn write_frames(s: &[u8], out: &mut [u8]) -> usize
     let mut frames = 0u32;
     loop {
         match items::next_item(s, c) {
-            Next::End => {
-                return at;
-            }
-            Next::Refused(_) => {
-                return at;
-            }
             Next::Found(item, next) => {
                 c = next.renewed();
                 let effect = effects::item_effect(s, st, item);
@@ -316,19 +333,9 @@ fn write_frames(s: &[u8], out: &mut [u8]) -> usize
                     own += 1;
                 }
                 match effect {
-                    Effect::Pass => {}
-                    Effect::Order(little) => {
-                        st = st.with_order(little);
-                    }
-                    Effect::Count(counted) => {
+                    Effect::Count(_) => {
                         own = 0;
-                        st = st.with_count(counted);
-                    }
-                    Effect::Sequences(sequences) => {
-                        st = st.with_sequences(sequences);
-                    }
-                    Effect::Start(start) => {
-                        st = st.with_start(start);
+                        st = effects::standing_after(st, effect);
                     }
                     Effect::All(change) => {
                         let mut i = 0usize;
@@ -336,7 +343,7 @@ fn write_frames(s: &[u8], out: &mut [u8]) -> usize
                             table[i] = settings::apply(table[i], change);
                             i += 1;
                         }
-                        st = st.with_root(settings::apply(root, change));
+                        st = effects::standing_after(st, effect);
                     }
                     Effect::One(channel, change) => {
                         let k = channel as usize;
@@ -345,21 +352,15 @@ fn write_frames(s: &[u8], out: &mut [u8]) -> usize
                         }
                     }
                     Effect::Frame { start, len } => {
-                        let count = framing::channels_of(st.counted);
-                        let mut l = Layout::none();
-                        let mut i = 0usize;
-                        while i < n {
-                            l = l.more(i, 0, table[i]);
-                            i += 1;
-                        }
+                        let l = layout_of(table, n);
                         match framing::frame_of(frames, st, l.agree, l.octets, len) {
                             Framed::Refused(_) => {
                                 return at;
                             }
                             Framed::Taken(sequences, after) => {
                                 let w = octets::part(s, start, len);
-                                let n = sequences as usize * l.octets as usize;
-                                at = put_frame(w, st, sequences, n, table, count, out, at);
+                                let size = sequences as usize * l.octets as usize;
+                                at = put_frame(w, st, sequences, size, table, n as u32, out, at);
                                 st = after;
                                 frames = frames + 1;
                             }
@@ -368,7 +369,13 @@ fn write_frames(s: &[u8], out: &mut [u8]) -> usize
                     Effect::Refused(_) => {
                         return at;
                     }
+                    _ => {
+                        st = effects::standing_after(st, effect);
+                    }
                 }
+            }
+            _ => {
+                return at;
             }
         }
     }

@@ -355,7 +355,7 @@ stands-carried s st fs own table (Effect.Frame start len) h = absurd (miss (0 �
 stands-carried s st fs own table (Effect.Refused n) h = absurd (miss (0 ∷ 1 ∷ 3 ∷ 4 ∷ []) 8 tt h)
 
 -- No more channels are counted than there may be.
-counted-kept : (s : List ℕ) (st : Standing) (i : Item) (e : Effect) → e ≡ effectOf s st i → st .counted ≤ channelLimit → standingAfter st e .counted ≤ channelLimit
+pub counted-kept : (s : List ℕ) (st : Standing) (i : Item) (e : Effect) → e ≡ effectOf s st i → st .counted ≤ channelLimit → standingAfter st e .counted ≤ channelLimit
 counted-kept s st i Effect.Pass a h = h
 counted-kept s st i (Effect.Order little) a h = h
 counted-kept s st i (Effect.Count n) a h = count-found s st i a refl
