@@ -3,7 +3,8 @@
 // Promises, for any octets and any buffer: `write_canonical` answers the file's own refusal, or 23 where the canonical file is longer than the
 // buffer or than a file may be, with every octet of the buffer as it was; else the canonical file stands at the start of the buffer, its
 // length is answered, and the octets past it are as they were.
-// Read first: specs/Recording.antt (what a recording is), specs/Canonical.antt (its octets), specs/Write.antt (the writer's answer).
+// Read first: specs/Recording.antt (what a recording is), specs/Canonical.antt (its octets; a frame's head and groups are in crate groups),
+// specs/Write.antt (the writer's answer).
 // Refusal comes first: the size is known from one pass over the file before the first octet is stored. Each function that stores says so by
 // `Put`: which octets, from where on, and the place behind them.
 ghost use mathlib.Core.Path.{_≡_};

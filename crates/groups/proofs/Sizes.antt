@@ -72,7 +72,7 @@ null-long c = by (eqb (c .null .width) 0)
     by true = short-item 0x12 [] (omega arith)
     by false = number-long 0x12 (widthIn c) (c .null .bits) (omega (arith, width-le (c .kind)))
 
-content-long : (c : Settings) → length (groupItems (settled c)) ≡ contentSize c
+pub content-long : (c : Settings) → length (groupItems (settled c)) ≡ contentSize c
 unfolding groupItems settled
 content-long c =
     let block = number-long 0x04 4 (c .block) (omega arith) in
