@@ -19,13 +19,13 @@ use Rattle.octets.proofs.Laws.{drop-octets, range-pos}
 use Rattle.values.specs.declared.Bits.{Bits}
 use Rattle.settings.specs.declared.Settings.{Settings}
 use Rattle.settings.specs.Settings.{zeroSettings}
-use Rattle.layout.specs.Frame.{Frame, widthIn, channelIn, samplesOf, widthAgrees, channelAgrees, offsetOf}
+use Rattle.layout.specs.Frame.{offsetBits, Frame, widthIn, channelIn, samplesOf, widthAgrees, channelAgrees, offsetOf}
 use Rattle.pass.specs.Verdict.{accepted, verdict}
-use Rattle.reader.specs.Answer.{offsetBits}
 use Rattle.reader.proofs.Every.{Every}
 use Rattle.reader.proofs.Ordered.{Lies, every-lies}
 use Rattle.reader.proofs.Good.{GoodSettings, GoodFrame, both-split, number-first, agree-every, every-good}
-use Rattle.canonical.specs.Recording.{settled, sampleBits, tabulate, recordedFrame, recording}
+use Rattle.groups.specs.Group.{settled}
+use Rattle.canonical.specs.Recording.{sampleBits, tabulate, recordedFrame, recording}
 use Rattle.canonical.proofs.Good.{GoodSettled, AllSettled, GoodRecorded, AllRecorded}
 
 -- ---- lists by number

@@ -22,8 +22,7 @@ use Rattle.settings.specs.declared.Settings.{Settings}
 use Rattle.settings.specs.Settings.{zeroSettings}
 use Rattle.layout.specs.Frame.{widthIn, blockOctets, sequenceOctets}
 use Rattle.laid.specs.Turned.{turnedSequence, turnedAll}
-use Rattle.canonical.specs.Recording.{settled}
-use Rattle.canonical.specs.Canonical.{groupOctets, groupsOctets}
+use Rattle.groups.specs.Group.{settled, groupOctets, groupsOctets}
 
 pub record Coming (d : List ℕ) (at : ℕ) (all : List ℕ) (next : ℕ) (rest e : List ℕ) : Type 0 where
   pub stored : sets e next rest ≡ sets d at all

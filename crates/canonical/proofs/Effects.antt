@@ -34,7 +34,8 @@ use Rattle.layout.specs.Frame.{widthIn}
 use Rattle.standing.specs.declared.Standing.{Standing}
 use Rattle.effects.specs.declared.Effect.the-variants.{Order, Count, Sequences, Start}
 use Rattle.effects.specs.Effects.{rootEffect, orderEffect, countEffect, sequencesEffect, startEffect}
-use Rattle.canonical.specs.Canonical.{item, numberItem, scaleItem, nullItem, groupItems, unsignedOf}
+use Rattle.groups.specs.Item.{item, numberItem, unsignedOf}
+use Rattle.groups.specs.Group.{scaleItem, nullItem, groupItems}
 use Rattle.canonical.proofs.Good.{GoodScale, GoodSettled}
 use Rattle.canonical.proofs.Numbers.{number-back, unsigned-fits, twos-back, signed-back}
 use Rattle.canonical.proofs.Steps.{tagOf, Definition, octetsOf, changed, AllDefine}

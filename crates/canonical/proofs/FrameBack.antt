@@ -30,10 +30,14 @@ use Rattle.effects.specs.Effects.{rootEffect}
 use Rattle.framing.specs.Framing.{octetsLimit, framesLimit, channelsOf, pointerAfter, framedAs}
 use Rattle.pass.specs.Verdict.{State, state, goes, frameChannels, withFrame, carried}
 use Rattle.framing.proofs.Framings.{pointer-small, framed-taken}
+use Rattle.groups.proofs.Sizes.{length-item}
 use Rattle.canonical.specs.Recording.{Recorded}
-use Rattle.canonical.specs.Canonical.{item, numberItem, groupOctets, groupsOctets, sequencesItem, unsignedOf, waveformOf, frameOctets}
+use Rattle.groups.specs.Item.{item, numberItem, unsignedOf}
+use Rattle.groups.specs.Head.{sequencesItem, headItems}
+use Rattle.groups.specs.Group.{groupOctets, groupsOctets}
+use Rattle.canonical.specs.Canonical.{waveformOf, frameOctets}
 use Rattle.canonical.proofs.Good.{AllSettled, GoodRecorded}
-use Rattle.canonical.proofs.Known.{usual, group, startAt, value-known, part-short, length-item}
+use Rattle.canonical.proofs.Known.{usual, group, startAt, value-known, part-short}
 use Rattle.canonical.proofs.Steps.{Led, led-then, plain-led, group-led, octetsOf}
 use Rattle.canonical.proofs.Effects.{definitions, item-picked, items-are, changes-are, define-all, standing, count-is, sequences-is, start-is}
 use Rattle.canonical.proofs.Recordings.{frameOf, all-agree, sequence-some, sequences-back, waveform-long}
@@ -56,7 +60,7 @@ openingItems r post =
     item 0x05 (be 4 (length (r .channels))) ++ (item 0x06 (sequencesValue (r .sequences)) ++ (item 0x07 (be 4 (unsignedOf 4 (r .start))) ++ post))
 
 frame-items : (r : Recorded) (post : List ℕ) → frameOctets r ++ post ≡ openingItems r (groupsOctets 0 (r .channels) ++ (item 0x1E (waveformOf r) ++ post))
-unfolding frameOctets numberItem
+unfolding frameOctets headItems numberItem
 frame-items r post = rw (sequences-item (r .sequences)) (simp append-assoc)
 
 -- From a state, the octets of a recorded frame lead to one frame more, and what stands is as ahead of any canonical frame.

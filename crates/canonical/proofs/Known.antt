@@ -3,7 +3,7 @@
 --     channel-known   a channel number in its shortest form
 --     head-known      the head of an item
 --     group-known     the head of a group
---     rest-known, part-short, length-item, value-known    what follows some octets, how long they are, and the value of an item
+--     rest-known, part-short, value-known    what follows some octets, how long they are, and the value of an item
 --     next-plain, next-group, next-member    what stands at a cursor
 --     inside-first, inside-next    a group's items, one after the other
 --     next-left       a group is left at its end
@@ -38,7 +38,9 @@ use Rattle.heads.specs.Refusals.{contextTag, notInGroup}
 use Rattle.items.specs.Walk.{cursor, itemOf, nextIn, nextOf}
 use Rattle.effects.specs.Effects.{valueAt}
 use Rattle.framing.specs.Framing.{octetsLimit}
-use Rattle.canonical.specs.Canonical.{item, channelOctets}
+use Rattle.groups.specs.Item.{item}
+use Rattle.groups.specs.Group.{channelOctets}
+use Rattle.groups.proofs.Sizes.{length-item}
 use Rattle.canonical.proofs.Numbers.{number-back}
 
 -- ---- lengths and channel numbers
@@ -142,10 +144,6 @@ module _ (s : List ℕ) (at : ℕ) (u post : List ℕ) (e : drop at s ≡ u ++ p
 -- Where the value of an item starts.
 abbrev pub startAt : ℕ → ℕ → ℕ
 startAt at n = at + (length (shortest n) + 1)
-
-pub length-item : (tag : ℕ) (v : List ℕ) → length (item tag v) ≡ length (shortest (length v)) + 1 + length v
-unfolding item
-length-item tag v = rw length-append (omega arith)
 
 item-ahead : (tag : ℕ) (v post : List ℕ) → item tag v ++ post ≡ tag ∷ (shortest (length v) ++ (v ++ post))
 unfolding item

@@ -17,7 +17,7 @@ use lib.IntN.{ℤ, pos, negsuc}
 use lib.Signed.{mag}
 use Rattle.octets.specs.Number.{bigFrom, numberOf, twos, signedOf}
 use Rattle.stores.specs.Number.{be, length-be}
-use Rattle.canonical.specs.Canonical.{unsignedOf}
+use Rattle.groups.specs.Item.{unsignedOf}
 
 pub big-snoc : (acc : ℕ) (s : List ℕ) (b : ℕ) → bigFrom acc (s ++ (b ∷ [])) ≡ bigFrom acc s * 256 + b
 unfolding bigFrom

@@ -1,45 +1,37 @@
 -- The octets of a canonical file, as a writer puts them: the samples as runs of the file's octets, and how many octets there are.
 --     be-little       octets that stand lowest first, written highest first
 --     waveform-big, waveform-little    a waveform's samples: as they stand, or each turned about
---     waveform-narrow, waveform-even   where all widths are 1, and where all are one number
---     length-size, short-item          a length and an item
---     content-long, group-long, groups-long    groups
+--     length-size     a length
 --     frame-long, frames-long, canonical-long, canonical-none    frames and the file
 -- Assumes nothing.
-use Prim.Native.Nat.{ℕ, zero, suc, _+_, _*_, _/_, _%_, _≤_, _<_}
+use Prim.Native.Nat.{ℕ, zero, suc, _+_, _*_, _/_, _%_, _<_}
 use mathlib.Core.Path.{_≡_, refl, sym, ap, _∙_}
-use mathlib.Core.List.{List, [], _∷_, _++_, map, reverse, reverseAux-eq}
+use mathlib.Core.List.{List, [], _∷_, map, reverse, reverseAux-eq}
 use mathlib.Core.Bool.{Bool, true, false}
-use native.Mathlib.Nat.{mul-one}
 use native.Mathlib.Omega.{arith}
-use lib.Dec.{eqb, ltb}
+use lib.Dec.{ltb}
 use lib.ListN.{length, getD, take, drop, length-append, length-take, length-drop}
 use Rattle.octets.specs.Pick.{pick}
 use Rattle.octets.specs.Number.{littleOf, numberOf}
-use Rattle.octets.proofs.Pick.{pick-cases}
 use Rattle.octets.proofs.Laws.{take-octets, drop-octets}
 use Rattle.stores.specs.Number.{be, length-be, Octets}
-use Rattle.stores.specs.Length.{holding, shortest, length-shortest-short}
-use Rattle.runs.specs.Turned.{turned}
+use Rattle.stores.specs.Length.{holding, shortest}
 use Rattle.stores.proofs.Number.{be-big}
-use Rattle.runs.proofs.Turned.{turned-one}
-use Rattle.values.proofs.Laws.{width-le}
-use Rattle.settings.specs.declared.Scale.{Scale}
 use Rattle.settings.specs.declared.Settings.{Settings}
 use Rattle.settings.specs.Settings.{zeroSettings}
 use Rattle.layout.specs.Frame.{Frame, widthIn, blockOctets, sequenceOctets, channelIn, samplesOf, offsetOf}
-use Rattle.layout.specs.Size.{channelSize, nullSize, contentSize, groupSize, groupsSize, lengthSize, sequencesSize, frameSize}
+use Rattle.layout.specs.Size.{lengthSize, frameSize}
 use Rattle.laid.specs.Laid.{Named, sequence, laidFrom, laid, sampleIn}
-use Rattle.laid.specs.Turned.{turnedAll, sequenceSamples, Even}
+use Rattle.laid.specs.Turned.{turnedAll}
 use Rattle.laid.proofs.Places.{offset-inside}
 use Rattle.laid.proofs.Laid.{laid-same, laid-self}
-use Rattle.laid.proofs.Turned.{laid-turned, octets-even, turned-even}
+use Rattle.laid.proofs.Turned.{laid-turned}
 use Rattle.pass.specs.Scan.{sizeOf, sizes}
-use Rattle.reader.specs.Answer.{offsetBits}
 use Rattle.reader.proofs.Ordered.{Lies}
-use Rattle.canonical.specs.Recording.{settled, sampleBits, tabulate, recordedFrame, recording}
-use Rattle.canonical.specs.Canonical.{item, numberItem, unsignedOf, channelOctets, scaleItem, nullItem, groupItems, groupOctets, groupsOctets, sequencesItem, waveformOf, frameOctets, framesOctets, canonical}
-use Rattle.canonical.proofs.Known.{length-item}
+use Rattle.groups.specs.Group.{settled}
+use Rattle.canonical.specs.Recording.{sampleBits, tabulate, recordedFrame, recording}
+use Rattle.canonical.specs.Canonical.{waveformOf, frameOctets, framesOctets, canonical}
+use Rattle.groups.proofs.Sizes.{length-item, head-long, groups-long}
 use Rattle.canonical.proofs.Recordings.{waveform-long}
 use Rattle.canonical.proofs.Accepted.{tabulate-at, map-at}
 
@@ -117,16 +109,6 @@ module _ (s : List ℕ) (f : Frame) (l : Lies s f) (octets : (i : ℕ) → getD 
   pub waveform-little : f .little ≡ true → waveformOf (recordedFrame f) ≡ turnedAll (f .channels) (f .sequences) (f .waveform)
   waveform-little e = waveform-written ∙ rw e (laid-turned (f .channels) (f .sequences) (f .waveform))
 
-  pub waveform-even : (v : ℕ) → Even v (f .channels) → f .little ≡ true → waveformOf (recordedFrame f) ≡ turned v (f .sequences * sequenceSamples (f .channels)) (f .waveform)
-  waveform-even v h e = waveform-little e ∙ turned-even v (f .channels) (f .sequences) (f .waveform) h
-
-  pub waveform-narrow : Even 1 (f .channels) → waveformOf (recordedFrame f) ≡ take (f .sequences * sequenceOctets (f .channels)) (f .waveform)
-  waveform-narrow h = by (f .little) refl
-    where
-      by : (b : Bool) → f .little ≡ b → waveformOf (recordedFrame f) ≡ take (f .sequences * sequenceOctets (f .channels)) (f .waveform)
-      by true e = waveform-even 1 h e ∙ rw (octets-even 1 (f .channels) h, mul-one) (turned-one (f .sequences * sequenceSamples (f .channels)) (f .waveform))
-      by false e = waveform-big e
-
 -- ---- how many octets
 
 pub length-size : (n : ℕ) → length (shortest n) ≡ lengthSize n
@@ -140,80 +122,11 @@ length-size n = by (ltb n 128) (ltb n 256) (ltb n 65_536) (ltb n 16_777_216)
     by false false false true = ap suc (length-be 3 n)
     by false false false false = ap suc (length-be 4 n)
 
-pub short-item : (tag : ℕ) (v : List ℕ) → length v < 128 → length (item tag v) ≡ 2 + length v
-short-item tag v h = omega (arith, length-item tag v, length-shortest-short (length v) h)
-
-number-long : (tag w n : ℕ) → w < 128 → length (numberItem tag w n) ≡ 2 + w
-unfolding numberItem
-number-long tag w n h = omega (arith, length-be w n, short-item tag (be w n) (rw length-be h))
-
-scale-long : (tag : ℕ) (x : Scale) → length (scaleItem tag x) ≡ 8
-unfolding scaleItem
-scale-long tag x =
-    let e = unsignedOf 1 (x .exponent) in
-    let m = unsignedOf 4 (x .mantissa) in
-    let k : length (x .unit ∷ (be 1 e ++ be 4 m)) ≡ 6 = simp (length-append, length-be) in
-    omega (arith, short-item tag (x .unit ∷ (be 1 e ++ be 4 m)) (omega arith))
-
-null-long : (c : Settings) → length (nullItem c) ≡ 2 + nullSize c
-unfolding nullItem
-null-long c = by (eqb (c .null .width) 0)
-  where
-    by : (t : Bool) → length (pick t (item 0x12 []) (numberItem 0x12 (widthIn c) (c .null .bits))) ≡ 2 + pick t 0 (widthIn c)
-    by true = short-item 0x12 [] (omega arith)
-    by false = number-long 0x12 (widthIn c) (c .null .bits) (omega (arith, width-le (c .kind)))
-
-sequences-long : (n : ℕ) → length (sequencesItem n) ≡ sequencesSize n
-unfolding sequencesItem
-sequences-long n = by (eqb n 0)
-  where
-    by : (t : Bool) → length (pick t (item 0x06 []) (numberItem 0x06 4 n)) ≡ pick t 2 6
-    by true = short-item 0x06 [] (omega arith)
-    by false = number-long 0x06 4 n (omega arith)
-
-pub content-long : (c : Settings) → length (groupItems (settled c)) ≡ contentSize c
-unfolding groupItems settled
-content-long c =
-    let block = number-long 0x04 4 (c .block) (omega arith) in
-    let class = number-long 0x08 2 (c .class) (omega arith) in
-    let lead = number-long 0x09 2 (c .lead) (omega arith) in
-    let kind = number-long 0x0A 1 (c .kind) (omega arith) in
-    let offset = number-long 0x0D (widthIn c) (offsetBits c .bits) (omega (arith, width-le (c .kind))) in
-    simp (length-append, scale-long, null-long) (omega arith)
-
-channel-long : (k : ℕ) → length (channelOctets k) ≡ channelSize k
-unfolding channelOctets
-channel-long k = by (ltb k 128)
-  where
-    by : (t : Bool) → length (pick t (k ∷ []) ((128 + k / 128) ∷ (k % 128) ∷ [])) ≡ pick t 1 2
-    by true = refl
-    by false = refl
-
--- A group's items take fewer than 128 octets, so that their length is one octet.
-content-few : (c : Settings) → contentSize c < 128
-content-few c =
-    let w = width-le (c .kind) in
-    let n : nullSize c ≤ 8 = pick-cases (λ (m : ℕ). m ≤ 8) (eqb (c .null .width) 0) (λ _. omega arith) (λ _. w) in
-    omega arith
-
-pub group-long : (k : ℕ) (c : Settings) → length (groupOctets k (settled c)) ≡ groupSize k c
-unfolding groupOctets groupSize
-group-long k c =
-    let one = length-shortest-short (contentSize c) (content-few c) in
-    simp (length-append, content-long, channel-long) (omega arith)
-
-pub groups-long : (k : ℕ) (cs : List Settings) → length (groupsOctets k (map settled cs)) ≡ groupsSize k cs
-unfolding groupsOctets groupsSize
-groups-long k [] = refl
-groups-long k (c ∷ cs) = rw (length-append, group-long, groups-long (suc k) cs)
-
 pub frame-long : (f : Frame) → length (frameOctets (recordedFrame f)) ≡ sizeOf f
 unfolding frameOctets recordedFrame sizeOf frameSize
 frame-long f =
     let waveform : length (waveformOf (recordedFrame f)) ≡ f .sequences * sequenceOctets (f .channels) = waveform-long (recordedFrame f) ∙ rw octets-settled in
-    let count = number-long 0x05 4 (length (map settled (f .channels))) (omega arith) in
-    let start = number-long 0x07 4 (unsignedOf 4 (f .start)) (omega arith) in
-    simp (length-append, sequences-long, groups-long, length-item, waveform, length-size) (omega arith)
+    simp (length-append, head-long, groups-long, length-item, waveform, length-size) (omega arith)
 
 pub frames-long : (fs : List Frame) → length (framesOctets (recording fs)) ≡ sizes fs
 unfolding framesOctets recording sizes

@@ -19,7 +19,8 @@ use Rattle.framing.specs.Framing.{octetsLimit, framesLimit}
 use Rattle.pass.specs.Verdict.{State, state, firstState, Verdict, accepted, carried, verdict}
 use Rattle.stores.specs.Length.{shortest}
 use Rattle.canonical.specs.Recording.{Recorded, recording}
-use Rattle.canonical.specs.Canonical.{item, framesOctets, canonical}
+use Rattle.groups.specs.Item.{item}
+use Rattle.canonical.specs.Canonical.{framesOctets, canonical}
 use Rattle.canonical.proofs.Good.{GoodRecorded, AllRecorded}
 use Rattle.canonical.proofs.Known.{usual, startAt, next-end}
 use Rattle.canonical.proofs.Steps.{from, ends, Led, plain-led}

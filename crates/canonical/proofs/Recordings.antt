@@ -18,12 +18,12 @@ use Rattle.octets.proofs.Pick.{either-true}
 use Rattle.stores.specs.Number.{be, length-be}
 use Rattle.values.specs.declared.Bits.{Bits}
 use Rattle.settings.specs.declared.Settings.{Settings}
-use Rattle.layout.specs.Frame.{Frame, widthIn, blockOctets, sequenceOctets, widthAgrees, channelAgrees, allAgree, channelIn, samplesOf}
+use Rattle.layout.specs.Frame.{offsetBits, Frame, widthIn, blockOctets, sequenceOctets, widthAgrees, channelAgrees, allAgree, channelIn, samplesOf}
 use Rattle.laid.specs.Laid.{Named}
 use Rattle.laid.proofs.Laid.{laid-length, laid-at}
 use Rattle.framing.specs.Framing.{sequencesOf}
-use Rattle.reader.specs.Answer.{offsetBits}
-use Rattle.canonical.specs.Recording.{Recorded, settled, sampleBits, tabulate, recordedFrame}
+use Rattle.groups.specs.Group.{settled}
+use Rattle.canonical.specs.Recording.{Recorded, sampleBits, tabulate, recordedFrame}
 use Rattle.canonical.specs.Canonical.{waveformOf}
 use Rattle.canonical.proofs.Good.{GoodSettled, AllSettled, GoodRecorded}
 use Rattle.canonical.proofs.Numbers.{number-back}

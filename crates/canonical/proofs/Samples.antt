@@ -17,7 +17,6 @@ use Rattle.layout.specs.Frame.{sequenceOctets}
 use Rattle.laid.specs.Turned.{Even, turnedAll, sequenceSamples}
 use Rattle.laid.proofs.Turned.{octets-even, turned-even}
 use Rattle.canonical.specs.Parts.{samplesTurned}
-use Rattle.canonical.proofs.Puts.{put-as}
 
 module _ (cs : List Settings) (sequences : ℕ) (x : List ℕ) (n : ℕ) (e : n ≡ sequences * sequenceOctets cs) where
   pub samples-narrow : Even 1 cs → take n x ≡ turnedAll cs sequences x

@@ -30,7 +30,6 @@ use Rattle.items.specs.declared.Within.the-variants.{Root}
 use Rattle.heads.specs.Refusals.{bufferShort}
 use Rattle.items.specs.Walk.{nextOf, itemsFrom, itemsOf, cursor, refusal, fault}
 use Rattle.items.proofs.Walks.{items-found, items-end, items-refused}
-use Rattle.stores.specs.Number.{field}
 use Rattle.stores.specs.Length.{shortest}
 use Rattle.stores.specs.Storing.{Put, Putting, put-fits}
 use Rattle.stores.proofs.Stores.{put-then, put-long, sets-front}
@@ -57,13 +56,16 @@ use Rattle.framing.proofs.Framings.{pointer-small}
 use Rattle.settings.proofs.Shown.{shown, shown-none}
 use Rattle.pass.proofs.Scans.{counted-kept, channels-few, framed-found, shownBy, Records, Filling, shown-full, frame-shown}
 use Rattle.reader.proofs.Ordered.{Lies, accepted-lies, accepted-small}
-use Rattle.canonical.specs.Recording.{Recorded, settled, recordedFrame, recording}
-use Rattle.canonical.specs.Canonical.{item, numberItem, unsignedOf, groupsOctets, sequencesItem, waveformOf, frameOctets, framesOctets, canonical}
+use Rattle.groups.specs.Item.{item}
+use Rattle.groups.specs.Head.{headItems}
+use Rattle.groups.specs.Group.{settled, groupsOctets}
+use Rattle.groups.proofs.Puts.{put-as}
+use Rattle.canonical.specs.Recording.{Recorded, recordedFrame, recording}
+use Rattle.canonical.specs.Canonical.{waveformOf, frameOctets, framesOctets, canonical}
 use Rattle.canonical.specs.Write.{framesIn, canonicalOf, fits, writtenIn, writtenOf, leftIn, leftOf, Ready}
 use Rattle.canonical.specs.declared.Written.{Written}
-use Rattle.canonical.specs.Parts.{headItems, samplesTurned, frameParts}
+use Rattle.canonical.specs.Parts.{samplesTurned, frameParts}
 use Rattle.canonical.proofs.Octets.{waveform-big, waveform-little, frame-long, frames-long, canonical-long, canonical-none, octets-settled}
-use Rattle.canonical.proofs.Puts.{put-as, field-is}
 use Rattle.canonical.proofs.Recordings.{waveform-long}
 
 -- ---- the frames met so far are the first of the file's
@@ -108,10 +110,8 @@ recorded-is : (r : Recorded) (count : ℕ) → length (r .channels) ≡ count
     → frameOctets r ≡ (((headItems count (r .sequences) (r .start) ++ groupsOctets 0 (r .channels)) ++ (0x1E ∷ [])) ++ shortest (r .sequences * sequenceOctets (r .channels))) ++ waveformOf r
 unfolding frameOctets item
 recorded-is r count e =
-    let a : numberItem 0x05 4 (length (r .channels)) ≡ field 0x05 4 count = ap (numberItem 0x05 4) e ∙ field-is 0x05 4 count (omega arith) in
-    let b = field-is 0x07 4 (unsignedOf 4 (r .start)) (omega arith) in
     let l : shortest (length (waveformOf r)) ≡ shortest (r .sequences * sequenceOctets (r .channels)) = ap shortest (waveform-long r) in
-    rw (a, b, l) (simp append-assoc)
+    rw (e, l) (simp append-assoc)
 
 pub frame-is : (f : Frame) (count : ℕ) → length (f .channels) ≡ count → frameOctets (recordedFrame f) ≡ frameParts (f .start) (f .sequences) (f .channels) count (waveformOf (recordedFrame f))
 unfolding recordedFrame

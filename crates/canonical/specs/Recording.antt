@@ -7,7 +7,7 @@ use Rattle.octets.specs.Number.{numberOf}
 use Rattle.settings.specs.declared.Settings.{Settings}
 use Rattle.layout.specs.Frame.{Frame, samplesOf}
 use Rattle.laid.specs.Laid.{sampleIn}
-use Rattle.reader.specs.Answer.{offsetBits}
+use Rattle.groups.specs.Group.{settled}
 
 -- A frame of a recording: start pointer and sequences; the channels' attributes, as many as the channel count; and for each channel the bits
 -- of its samples by number.
@@ -16,20 +16,6 @@ pub record Recorded : Type 0 where
   pub sequences : ℕ
   pub channels : List Settings
   pub samples : List (List ℕ)
-
--- The attributes of a channel: an offset not defined is zero bits of the sample's width.
-unfoldable pub settled : Settings → Settings
-settled c =
-    record {
-      block = c .block;
-      class = c .class;
-      lead = c .lead;
-      kind = c .kind;
-      interval = c .interval;
-      resolution = c .resolution;
-      offset = offsetBits c;
-      null = c .null;
-    }
 
 -- The bits of a sample, taken highest octet first, by the byte order that stands at the waveform.
 unfoldable pub sampleBits : Frame → ℕ → ℕ → ℕ

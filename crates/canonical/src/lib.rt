@@ -3,23 +3,23 @@
 // Promises, for any octets and any buffer: `write_canonical` answers the file's own refusal, or 23 where the canonical file is longer than the
 // buffer or than a file may be, with every octet of the buffer as it was; else the canonical file stands at the start of the buffer, its
 // length is answered, and the octets past it are as they were.
-// Read first: specs/Recording.antt (what a recording is), specs/Canonical.antt (its octets), specs/Write.antt (the writer's answer).
+// Read first: specs/Recording.antt (what a recording is), specs/Canonical.antt (its octets; a frame's head and groups are in crate groups),
+// specs/Write.antt (the writer's answer).
 // Refusal comes first: the size is known from one pass over the file before the first octet is stored. Each function that stores says so by
 // `Put`: which octets, from where on, and the place behind them.
 ghost use mathlib.Core.Path.{_≡_};
 ghost use mathlib.Core.List.{map, _∷_, []};
-ghost use Prim.Native.Nat.{_+_, _*_, _-_, suc, _≤_, _<_};
-ghost use lib.ListN.{length, take, drop};
+ghost use Prim.Native.Nat.{_+_, _*_, _≤_, _<_};
+ghost use lib.ListN.{length, take};
 ghost use lib.Signed.{mag};
 ghost use Rattle.stores.specs.Storing.{Put};
-ghost use Rattle.layout.specs.Frame.{widthIn, sequenceOctets};
+ghost use Rattle.layout.specs.Frame.{sequenceOctets};
 ghost use Rattle.layout.specs.Measure.{layoutOf};
 ghost use Rattle.laid.specs.Turned.{Even, turnedAll};
-ghost use Rattle.layout.specs.Size.{nullSize, contentSize, groupSize, groupsSize, sequencesSize, frameSize};
-ghost use Rattle.canonical.specs.Recording.{settled};
-ghost use Rattle.canonical.specs.Canonical.{channelOctets, scaleItem, groupItems, groupOctets, groupsOctets, sequencesItem};
+ghost use Rattle.layout.specs.Size.{groupsSize, frameSize};
+ghost use Rattle.groups.specs.Group.{settled, groupsOctets};
 ghost use Rattle.canonical.specs.Write.{canonicalOf, Ready, writtenOf, leftOf};
-ghost use Rattle.canonical.specs.Parts.{unsignedBy, firstItems, scaleItems, lastItems, headItems, samplesTurned, frameParts};
+ghost use Rattle.canonical.specs.Parts.{samplesTurned, frameParts};
 use effects::Effect;
 use framing::Framed;
 use heads::Refusal;
@@ -28,7 +28,6 @@ use items::Next;
 use layout::Layout;
 use pass::Asked;
 use pass::Checked;
-use settings::Scale;
 use settings::Settings;
 use standing::Standing;
 
@@ -36,117 +35,6 @@ use standing::Standing;
 pub enum Written {
     Octets(usize),
     Refused(Refusal),
-}
-
-// A signed number in two's complement, where `full` numbers can be told apart.
-fn unsigned(z: i64, full: u64) -> u64
-    requires { ⌜ mag z < full ⌝ }
-    ensures { λ r. ⌜ r ≡ unsignedBy full z ⌝ }
-{
-    if z < 0 {
-        return full - 1 - (!z) as u64;
-    }
-    z as u64
-}
-
-// 0B or 0C.
-fn put_scale(out: &mut [u8], at: usize, tag: u8, x: Scale) -> usize
-    requires { ⌜ at + 8 ≤ length (now out) ⌝ }
-    ensures { λ r. ⌜ Put (now (out .entry)) at (scaleItem tag x) r (now (out .exit)) ⌝ }
-{
-    let exponent = unsigned(x.exponent as i64, 256);
-    let mantissa = unsigned(x.mantissa as i64, 4_294_967_296);
-    let a = stores::put_two(out, at, tag, 6);
-    let b = stores::put_octet(out, a, x.unit);
-    let c = stores::put_number(out, b, 1, exponent);
-    stores::put_number(out, c, 4, mantissa)
-}
-
-// 04, 08, 09 and 0A.
-fn put_first(out: &mut [u8], at: usize, c: Settings) -> usize
-    requires { ⌜ at + 17 ≤ length (now out) ⌝ }
-    ensures { λ r. ⌜ Put (now (out .entry)) at (firstItems c) r (now (out .exit)) ⌝ }
-{
-    let a = stores::put_field(out, at, 0x04, 4, c.block as u64);
-    let b = stores::put_field(out, a, 0x08, 2, c.class as u64);
-    let d = stores::put_field(out, b, 0x09, 2, c.lead as u64);
-    stores::put_field(out, d, 0x0A, 1, c.kind as u64)
-}
-
-// 0B and 0C.
-fn put_scales(out: &mut [u8], at: usize, c: Settings) -> usize
-    requires { ⌜ at + 16 ≤ length (now out) ⌝ }
-    ensures { λ r. ⌜ Put (now (out .entry)) at (scaleItems c) r (now (out .exit)) ⌝ }
-{
-    let interval = c.interval;
-    let resolution = c.resolution;
-    let a = put_scale(out, at, 0x0B, interval);
-    put_scale(out, a, 0x0C, resolution)
-}
-
-// How many octets of null follow its head.
-fn null_octets(c: Settings) -> u8
-    ensures { λ r. ⌜ (r ≡ nullSize c) × (r ≤ 8) ⌝ }
-{
-    let null = c.null;
-    if null.width == 0 {
-        return 0;
-    }
-    values::width(c.kind) as u8
-}
-
-// 0D and 12.
-fn put_last(out: &mut [u8], at: usize, c: Settings) -> usize
-    requires { ⌜ at + 4 + widthIn c + nullSize c ≤ length (now out) ⌝ }
-    ensures { λ r. ⌜ Put (now (out .entry)) at (lastItems c) r (now (out .exit)) ⌝ }
-{
-    let offset = reader::offset_bits(c);
-    let null = c.null;
-    let w = values::width(c.kind) as u8;
-    let k = null_octets(c);
-    let a = stores::put_field(out, at, 0x0D, w, offset.bits);
-    stores::put_field(out, a, 0x12, k, null.bits)
-}
-
-// The items of a channel's group.
-fn put_items(out: &mut [u8], at: usize, c: Settings) -> usize
-    requires { ⌜ at + contentSize c ≤ length (now out) ⌝ }
-    ensures { λ r. ⌜ Put (now (out .entry)) at (groupItems (settled c)) r (now (out .exit)) ⌝ }
-{
-    let a = put_first(out, at, c);
-    let b = put_scales(out, a, c);
-    put_last(out, b, c)
-}
-
-// A channel number in its shortest form.
-fn put_channel(out: &mut [u8], at: usize, k: usize) -> usize
-    requires { ⌜ (k < 256) × (at + 2 ≤ length (now out)) ⌝ }
-    ensures { λ r. ⌜ Put (now (out .entry)) at (channelOctets k) r (now (out .exit)) ⌝ }
-{
-    if k < 128 {
-        return stores::put_octet(out, at, k as u8);
-    }
-    stores::put_two(out, at, (128 + k / 128) as u8, (k % 128) as u8)
-}
-
-// How many octets the items of a channel's group take.
-fn content_size(c: Settings) -> u8
-    ensures { λ r. ⌜ (r ≡ contentSize c) × (r ≤ 53) ⌝ }
-{
-    let w = values::width(c.kind) as u8;
-    37 + w + null_octets(c)
-}
-
-// A channel's group.
-fn put_group(out: &mut [u8], at: usize, k: usize, c: Settings) -> usize
-    requires { ⌜ (k < 256) × (at + groupSize k c ≤ length (now out)) ⌝ }
-    ensures { λ r. ⌜ Put (now (out .entry)) at (groupOctets k (settled c)) r (now (out .exit)) ⌝ }
-{
-    let n = content_size(c);
-    let a = stores::put_octet(out, at, 0x3F);
-    let b = put_channel(out, a, k);
-    let d = stores::put_octet(out, b, n);
-    put_items(out, d, c)
 }
 
 // The groups of the first `count` channels.
@@ -158,32 +46,10 @@ fn put_groups(out: &mut [u8], at: usize, table: [Settings; 256], count: usize) -
     let mut next = at;
     while i < count {
         let c = table[i];
-        next = put_group(out, next, i, c);
+        next = groups::put_group(out, next, i as u8, c);
         i += 1;
     }
     next
-}
-
-// 06 with four octets, or none for 0 sequences.
-fn put_sequences(out: &mut [u8], at: usize, sequences: u32) -> usize
-    requires { ⌜ at + sequencesSize sequences ≤ length (now out) ⌝ }
-    ensures { λ r. ⌜ Put (now (out .entry)) at (sequencesItem sequences) r (now (out .exit)) ⌝ }
-{
-    if sequences == 0 {
-        return stores::put_two(out, at, 0x06, 0);
-    }
-    stores::put_field(out, at, 0x06, 4, sequences as u64)
-}
-
-// 05, 06 and 07.
-fn put_head(out: &mut [u8], at: usize, count: u32, sequences: u32, start: i64) -> usize
-    requires { ⌜ (mag start < 2147483648) × (at + 12 + sequencesSize sequences ≤ length (now out)) ⌝ }
-    ensures { λ r. ⌜ Put (now (out .entry)) at (headItems count sequences start) r (now (out .exit)) ⌝ }
-{
-    let z = unsigned(start, 4_294_967_296);
-    let a = stores::put_field(out, at, 0x05, 4, count as u64);
-    let b = put_sequences(out, a, sequences);
-    stores::put_field(out, b, 0x07, 4, z)
 }
 
 // The width of all channels where it is one, else 0.
@@ -279,7 +145,7 @@ fn put_frame(
     ensures { λ r. ⌜ Put (now (out .entry)) at (frameParts (st .start) sequences (take count table) count (samplesTurned (st .little) (take count table) sequences (now (w .entry)))) r (now (out .exit)) ⌝ }
 {
     let k = count as usize;
-    let a = put_head(out, at, count, sequences, st.start);
+    let a = groups::put_head(out, at, count, sequences, st.start as i32);
     let b = put_groups(out, a, table, k);
     let c = stores::put_octet(out, b, 0x1E);
     let d = stores::put_length(out, c, octets as u32);

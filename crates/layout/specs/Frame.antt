@@ -5,7 +5,7 @@ use Prim.Native.Nat.{ℕ, _+_, _*_, _/_, _%_}
 use lib.Dec.{eqb}
 use lib.IntN.{ℤ}
 use lib.ListN.{getD, take}
-use Rattle.octets.specs.Pick.{both, either}
+use Rattle.octets.specs.Pick.{pick, both, either}
 use Rattle.values.specs.declared.Bits.{Bits}
 use Rattle.values.specs.Sample.{widthOf}
 use Rattle.settings.specs.declared.Settings.{Settings}
@@ -37,6 +37,10 @@ sequenceOctets (c ∷ cs) = blockOctets c + sequenceOctets cs
 -- The block octets of all channels below one.
 unfoldable pub octetsBelow : ℕ → List Settings → ℕ
 octetsBelow channel cs = sequenceOctets (take channel cs)
+
+-- An offset not defined is zero bits of the sample's width.
+unfoldable pub offsetBits : Settings → Bits
+offsetBits c = pick (eqb (c .offset .width) 0) (record { width = widthIn c; bits = 0 }) (c .offset)
 
 -- Bits that are defined have the sample's width.
 unfoldable pub widthAgrees : ℕ → Bits → Bool

@@ -1,13 +1,14 @@
 // The layout of a frame: what one pass over its channels' settings tells.
 //
 // Promises: `Layout::more`, called for one channel after the other, sums up whether offsets and nulls have their sample widths, the octets of
-// a sequence, those below a channel, and the octets that the channels' groups take in the canonical file.
+// a sequence, those below a channel, and the octets that the channels' groups take in the canonical file. `offset_bits` answers a channel's
+// offset, one that is not defined too.
 // Read first: specs/Frame.antt (frames and the place of a sample), specs/Size.antt.
 ghost use mathlib.Core.Path.{_≡_};
 ghost use Prim.Native.Nat.{_+_, _%_, _^_};
 ghost use lib.Dec.{ltb};
 ghost use Rattle.octets.specs.Pick.{pick, both};
-ghost use Rattle.layout.specs.Frame.{widthIn, blockOctets, widthAgrees, channelAgrees};
+ghost use Rattle.layout.specs.Frame.{widthIn, blockOctets, offsetBits, widthAgrees, channelAgrees};
 ghost use Rattle.layout.specs.Size.{channelSize, nullSize, groupSize};
 ghost use Rattle.layout.specs.Measure.{noLayout, Small, More};
 use settings::Settings;
@@ -47,6 +48,20 @@ fn channel_agrees(c: Settings, w: usize) -> bool
         return width_agrees(w, null);
     }
     false
+}
+
+// An offset not defined is zero bits of the sample's width.
+pub fn offset_bits(c: Settings) -> Bits
+    ensures { λ r. ⌜ r ≡ offsetBits c ⌝ }
+{
+    let offset = c.offset;
+    if offset.width == 0 {
+        return Bits {
+            width: values::width(c.kind) as u8,
+            bits: 0,
+        };
+    }
+    offset
 }
 
 // A shortest channel number's octets.

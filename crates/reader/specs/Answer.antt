@@ -2,15 +2,13 @@
 -- place and value of a sample.
 use mathlib.Core.List.{List}
 use Prim.Native.Nat.{ℕ, _+_, _*_, _/_, _%_}
-use lib.Dec.{eqb, ltb}
+use lib.Dec.{ltb}
 use lib.ListN.{length, getD, take, drop}
 use Rattle.octets.specs.Pick.{pick}
-use Rattle.values.specs.declared.Bits.{Bits}
 use Rattle.values.specs.Sample.{valueOf}
 use Rattle.heads.specs.Refusals.{noFrame, noChannel, noSample}
 use Rattle.items.specs.Walk.{refusal}
-use Rattle.settings.specs.declared.Settings.{Settings}
-use Rattle.layout.specs.Frame.{Frame, widthIn, channelIn, samplesOf, placeOf}
+use Rattle.layout.specs.Frame.{Frame, widthIn, offsetBits, channelIn, samplesOf, placeOf}
 use Rattle.pass.specs.declared.View.{View}
 use Rattle.reader.specs.declared.Attributes.{Attributes}
 use Rattle.reader.specs.declared.Described.{Described}
@@ -21,10 +19,6 @@ use Rattle.pass.specs.Verdict.{Verdict, accepted, refused, verdict}
 use Rattle.pass.specs.Scan.{zeroFrame, viewOf}
 
 -- ---- attributes
-
--- An offset not defined is zero bits of the sample's width.
-unfoldable pub offsetBits : Settings → Bits
-offsetBits c = pick (eqb (c .offset .width) 0) (record { width = widthIn c; bits = 0 }) (c .offset)
 
 -- The attributes of a channel in a frame.
 unfoldable pub attributesIn : ℕ → Frame → Attributes

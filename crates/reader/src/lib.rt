@@ -7,14 +7,13 @@
 ghost use mathlib.Core.Path.{_≡_};
 ghost use Prim.Native.Nat.{_^_, _<_};
 ghost use Rattle.pass.specs.Verdict.{checkOf};
-ghost use Rattle.reader.specs.Answer.{offsetBits, attributesSeen, attributesOf, placeSeen, sampleOf, seenOf};
+ghost use Rattle.reader.specs.Answer.{attributesSeen, attributesOf, placeSeen, sampleOf, seenOf};
 use heads::Refusal;
 use pass::Asked;
 use pass::Checked;
 use pass::Found;
 use pass::View;
 use settings::Scale;
-use settings::Settings;
 use values::Bits;
 use values::Value;
 
@@ -103,20 +102,6 @@ pub fn look_up(s: &[u8], frame: u32, channel: u32) -> LookedUp
     LookedUp::Channel(view)
 }
 
-// An offset not defined is zero bits of the sample's width.
-pub fn offset_bits(c: Settings) -> Bits
-    ensures { λ r. ⌜ r ≡ offsetBits c ⌝ }
-{
-    let offset = c.offset;
-    if offset.width == 0 {
-        return Bits {
-            width: values::width(c.kind) as u8,
-            bits: 0,
-        };
-    }
-    offset
-}
-
 // The attributes of the channel that is seen.
 fn attributes_seen(v: View) -> Attributes
     ensures { λ r. ⌜ r ≡ attributesSeen v ⌝ }
@@ -124,7 +109,7 @@ fn attributes_seen(v: View) -> Attributes
     let c = v.settings;
     let interval = c.interval;
     let resolution = c.resolution;
-    let offset = offset_bits(c);
+    let offset = layout::offset_bits(c);
     let null = c.null;
     Attributes {
         start: v.start,

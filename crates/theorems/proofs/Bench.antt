@@ -11,7 +11,7 @@ use Rattle.heads.specs.Head.{channelOf, lengthOf, unknownContext, rootOnly, pri
 use Rattle.items.specs.Walk.{Items, item, finished, fault, refusal, itemOf, nextIn, nextOf, follow, walk, itemsFrom, itemsOf}
 use Rattle.definitions.specs.Define.{tagged, scaleOf, defined}
 use Rattle.settings.specs.Settings.{allApplied}
-use Rattle.layout.specs.Frame.{blockOctets, sequenceOctets, octetsBelow, widthAgrees, channelAgrees, allAgree, samplesOf, offsetOf, placeOf}
+use Rattle.layout.specs.Frame.{offsetBits, blockOctets, sequenceOctets, octetsBelow, widthAgrees, channelAgrees, allAgree, samplesOf, offsetOf, placeOf}
 use Rattle.stores.specs.Number.{be}
 use Rattle.stores.specs.Length.{holding, shortest}
 use Rattle.laid.specs.Laid.{block, sequence, laidFrom, laid}
@@ -23,9 +23,12 @@ use Rattle.reader.specs.declared.Sampled.the-variants.{Sample}
 use Rattle.framing.specs.Framing.{channelsOf, sequencesOf, pointerFits, pointerAfter, framedAs}
 use Rattle.effects.specs.Effects.{orderEffect, countEffect, sequencesEffect, startEffect, compressedEffect, allEffect, oneEffect, rootEffect, plainEffect, memberEffect, groupEffect, effectOf}
 use Rattle.pass.specs.Verdict.{oneChanged, withFrame, carried, placeAt, afterItem, interpret, verdict, checkedAs, checkOf}
-use Rattle.reader.specs.Answer.{offsetBits, attributesIn, describedIn, attributesOf, sampleIn, sampledIn, sampleOf}
-use Rattle.canonical.specs.Recording.{settled, sampleBits, tabulate, recordedFrame, recording}
-use Rattle.canonical.specs.Canonical.{item as itemOctets, numberItem, unsignedOf, channelOctets, scaleItem, nullItem, groupItems, groupOctets, groupsOctets, sequencesItem, waveformOf, frameOctets, framesOctets, canonical}
+use Rattle.reader.specs.Answer.{attributesIn, describedIn, attributesOf, sampleIn, sampledIn, sampleOf}
+use Rattle.groups.specs.Item.{item as itemOctets, numberItem, unsignedOf}
+use Rattle.groups.specs.Head.{sequencesItem, headItems}
+use Rattle.groups.specs.Group.{settled, channelOctets, scaleItem, nullItem, groupItems, groupOctets, groupsOctets}
+use Rattle.canonical.specs.Recording.{sampleBits, tabulate, recordedFrame, recording}
+use Rattle.canonical.specs.Canonical.{waveformOf, frameOctets, framesOctets, canonical}
 use Rattle.canonical.specs.Write.{framesIn, canonicalOf}
 
 -- ---- what is said of a file
@@ -78,7 +81,7 @@ unfolding bigFrom littleOf numberOf twos signedOf widthOf plainOf isNull valueOf
     settled sampleBits tabulate recordedFrame recording
     be holding shortest block sequence laidFrom laid
     itemOctets numberItem unsignedOf channelOctets scaleItem nullItem groupItems groupOctets groupsOctets
-    sequencesItem waveformOf frameOctets framesOctets canonical
+    sequencesItem headItems waveformOf frameOctets framesOctets canonical
     named framesIn canonicalOf
 computed cs = map asked cs
 

@@ -1,22 +1,19 @@
 -- The groups still to come, stored from here on, give the wanted buffer.
-use Prim.Native.Nat.{ℕ, _+_, _-_, _*_, _≤_, _<_}
-use mathlib.Core.Path.{_≡_, refl, ap, sym, _∙_}
-use mathlib.Core.List.{List, map}
+use Prim.Native.Nat.{_+_, _-_, _≤_}
+use mathlib.Core.Path.{_≡_}
+use mathlib.Core.List.{map}
 use native.Mathlib.Omega.{arith}
 use borrow.Author.Needs.{needs}
 use lib.ListN.{length, take, drop, getD}
-use Rattle.settings.specs.declared.Settings.{Settings}
 use Rattle.settings.specs.Settings.{zeroSettings}
-use Rattle.layout.specs.Size.{groupSize}
-use Rattle.canonical.specs.Recording.{settled}
-use Rattle.canonical.specs.Canonical.{groupOctets, groupsOctets}
-use Rattle.canonical.proofs.Octets.{group-long, groups-long}
-use Rattle.canonical.proofs.Coming.{Coming, coming-first, coming-put, coming-room, coming-done, groups-next, groups-done, taken-at, taken-long}
+use Rattle.groups.specs.Group.{settled, groupsOctets}
+use Rattle.groups.proofs.Sizes.{groups-long}
+use Rattle.canonical.proofs.Coming.{Coming, coming-first, coming-step, coming-done, groups-next, groups-done, taken-at, taken-long}
 use Rattle.canonical.proofs.put_groups.Statement.{statement}
 use Rattle.canonical.proofs.put_groups.Tie as tie
 use Rattle.canonical.proofs.put_groups.Reads as reads
 use Rattle.canonical.proofs.put_groups.Lts as lts
-use Rattle.canonical.proofs.put_group.Reads as put-group-reads
+use Rattle.groups.proofs.put_group.Reads as put-group-reads
 
 abbrev Inv-loop : tie.InvT-loop
 Inv-loop out₀ at count table i₀ next₀ out i next = (i ≤ count) × (length (take count table) ≡ count) × (count ≤ 256) × (at + length (groupsOctets 0 (map settled (take count table))) ≤ length out₀) × Coming out₀ at (groupsOctets 0 (map settled (take count table))) next (groupsOctets i (map settled (drop i (take count table)))) out
@@ -24,39 +21,37 @@ Inv-loop out₀ at count table i₀ next₀ out i next = (i ≤ count) × (lengt
 abbrev μ-loop : tie.MeasureT-loop
 μ-loop out₀ at count table i₀ next₀ out i next = count - i
 
--- src/lib.rt:149:5
 loop-holds : tie.Need-loop-holds Inv-loop μ-loop
 loop-holds c = (omega arith, taken-long _ _ (search needs) (c .before .pre .0), c .before .pre .0, omega (arith, groups-long 0 (take (c .before .args .count) (c .before .args .t3)), c .before .pre .1), coming-first _ _ _)
 
--- src/lib.rt:150:17
 mul-c : tie.Need-mul-c Inv-loop μ-loop
 mul-c c = omega arith
 
--- src/lib.rt:150:17
 array-copy-out-c : tie.Need-array-copy-out-c Inv-loop μ-loop
 array-copy-out-c c = omega arith
 
--- src/lib.rt:151:9
-put-group-requires : tie.Need-put-group-requires Inv-loop μ-loop
-put-group-requires c κs = (omega arith, omega (arith, group-long (c .before .before .before .loop .i) (getD (c .before .before .before .before .before .args .t3) (c .before .before .before .loop .i) zeroSettings), coming-room (groupOctets (c .before .before .before .loop .i) (settled (getD (c .before .before .before .before .before .args .t3) (c .before .before .before .loop .i) zeroSettings))) (groupsOctets (c .before .before .before .loop .i + 1) (map settled (drop (c .before .before .before .loop .i + 1) (take (c .before .before .before .before .before .args .count) (c .before .before .before .before .before .args .t3))))) (c .before .before .before .loop .inv .4) (groups-next (take (c .before .before .before .before .before .args .count) (c .before .before .before .before .before .args .t3)) (c .before .before .before .loop .i) (getD (c .before .before .before .before .before .args .t3) (c .before .before .before .loop .i) zeroSettings) (omega (arith, c .before .before .before .loop .inv .1)) (taken-at (c .before .before .before .before .before .args .t3) (c .before .before .before .before .before .args .count) (c .before .before .before .loop .i) (c .before .before .loop-test .taken))) (c .before .before .before .loop .inv .3)))
+cast-put-group : tie.Need-cast-put-group Inv-loop μ-loop
+cast-put-group c = omega arith
 
--- src/lib.rt:152:9
+put-group-requires : tie.Need-put-group-requires Inv-loop μ-loop
+put-group-requires c κs = search needs
+
 add-i : tie.Need-add-i Inv-loop μ-loop
 add-i c = omega arith
 
--- src/lib.rt:149:5
 loop-less : tie.Need-loop-less Inv-loop μ-loop
 loop-less c = omega arith
 
--- src/lib.rt:149:5
 loop-again : tie.Need-loop-again Inv-loop μ-loop
-loop-again c = (omega arith, c .before .before .before .before .before .before .loop .inv .1, c .before .before .before .before .before .before .loop .inv .2, c .before .before .before .before .before .before .loop .inv .3, coming-put (c .before .before .before .before .before .before .loop .inv .4) (groups-next (take (c .before .before .before .before .before .before .before .before .args .count) (c .before .before .before .before .before .before .before .before .args .t3)) (c .before .before .before .before .before .before .loop .i) (getD (c .before .before .before .before .before .before .before .before .args .t3) (c .before .before .before .before .before .before .loop .i) zeroSettings) (omega (arith, c .before .before .before .before .before .before .loop .inv .1)) (taken-at (c .before .before .before .before .before .before .before .before .args .t3) (c .before .before .before .before .before .before .before .before .args .count) (c .before .before .before .before .before .before .loop .i) (c .before .before .before .before .before .loop-test .taken))) (c .before .before .put-group .ensures))
+loop-again c =
+    let i = c .before .before .before .before .before .before .loop .i in
+    let count = c .before .before .before .before .before .before .before .before .args .count in
+    let table = c .before .before .before .before .before .before .before .before .args .t3 in
+    (omega arith, c .before .before .before .before .before .before .loop .inv .1, c .before .before .before .before .before .before .loop .inv .2, c .before .before .before .before .before .before .loop .inv .3, coming-step (c .before .before .before .before .before .before .loop .inv .4) (groups-next (take count table) i (getD table i zeroSettings) (omega (arith, c .before .before .before .before .before .before .loop .inv .1)) (taken-at table count i (c .before .before .before .before .before .loop-test .taken))) (c .before .before .before .before .before .before .loop .inv .3) (c .before .before .put-group .ensures))
 
--- src/lib.rt:143:1
 same-length : tie.Need-same-length Inv-loop μ-loop
 same-length c = c .before .loop .inv .4 .long
 
--- src/lib.rt:143:1
 returns : tie.Need-returns Inv-loop μ-loop
 returns c = coming-done (groups-done (take (c .before .before .before .args .count) (c .before .before .before .args .t3)) (c .before .loop .i) (omega (arith, c .before .loop .inv .1, c .loop-test .left))) (c .before .loop .inv .4)
 
@@ -69,6 +64,7 @@ put-groups-spec =
     loop-holds
     mul-c
     array-copy-out-c
+    cast-put-group
     put-group-requires
     add-i
     loop-less

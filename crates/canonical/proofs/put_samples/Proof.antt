@@ -8,7 +8,7 @@ use Prim.Native.Nat.{ℕ, _<_}
 use Rattle.settings.specs.declared.Settings.{Settings}
 use Rattle.laid.specs.Turned.{Even}
 use Rattle.stores.specs.Storing.{Put, put-fits}
-use Rattle.canonical.proofs.Puts.{put-as}
+use Rattle.groups.proofs.Puts.{put-as}
 use Rattle.canonical.proofs.Samples.{samples-big, samples-little, samples-narrow, samples-even, even-room, taken-room}
 use borrow.Author.Needs.{needs}
 use Rattle.canonical.proofs.put_samples.Statement.{statement}

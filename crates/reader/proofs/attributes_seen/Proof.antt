@@ -9,7 +9,7 @@ use Rattle.reader.proofs.attributes_seen.Statement.{statement}
 use Rattle.reader.proofs.attributes_seen.Tie as tie
 use Rattle.reader.proofs.attributes_seen.Reads as reads
 use Rattle.reader.proofs.attributes_seen.Lts as lts
-use Rattle.reader.proofs.offset_bits.Reads as offset-bits-reads
+use Rattle.layout.proofs.offset_bits.Reads as offset-bits-reads
 
 -- src/lib.rt:715:9
 offset-bits-requires : tie.Need-offset-bits-requires

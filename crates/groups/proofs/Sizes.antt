@@ -1,0 +1,113 @@
+-- How many octets the parts of a frame's head and of a channel's group take.
+--     length-item, short-item, number-long    an item
+--     scale-long, null-long, content-long     the items of a group
+--     content-octet                           they take few octets, so that their length is one
+--     channel-long, group-long, groups-long   a channel number, a group and groups
+--     sequences-long, head-long               06, and a frame's head
+-- Assumes nothing.
+use Prim.Native.Nat.{ℕ, suc, _+_, _/_, _%_, _≤_, _<_}
+use mathlib.Core.Path.{_≡_, refl}
+use mathlib.Core.List.{List, [], _∷_, _++_, map}
+use mathlib.Core.Bool.{Bool, true, false}
+use native.Mathlib.Omega.{arith}
+use lib.Dec.{eqb, ltb}
+use lib.IntN.{ℤ}
+use lib.ListN.{length, length-append}
+use Rattle.octets.specs.Pick.{pick}
+use Rattle.octets.proofs.Pick.{pick-cases}
+use Rattle.stores.specs.Number.{be, length-be}
+use Rattle.stores.specs.Length.{shortest, shortest-short, length-shortest-short}
+use Rattle.values.proofs.Laws.{width-le}
+use Rattle.settings.specs.declared.Scale.{Scale}
+use Rattle.settings.specs.declared.Settings.{Settings}
+use Rattle.layout.specs.Frame.{widthIn, offsetBits}
+use Rattle.layout.specs.Size.{channelSize, nullSize, contentSize, groupSize, groupsSize, sequencesSize}
+use Rattle.groups.specs.Item.{item, numberItem, unsignedOf}
+use Rattle.groups.specs.Head.{sequencesItem, headItems}
+use Rattle.groups.specs.Group.{settled, channelOctets, scaleItem, nullItem, groupItems, groupOctets, groupsOctets}
+
+pub length-item : (tag : ℕ) (v : List ℕ) → length (item tag v) ≡ length (shortest (length v)) + 1 + length v
+unfolding item
+length-item tag v = rw length-append (omega arith)
+
+short-item : (tag : ℕ) (v : List ℕ) → length v < 128 → length (item tag v) ≡ 2 + length v
+short-item tag v h = omega (arith, length-item tag v, length-shortest-short (length v) h)
+
+number-long : (tag w n : ℕ) → w < 128 → length (numberItem tag w n) ≡ 2 + w
+unfolding numberItem
+number-long tag w n h = omega (arith, length-be w n, short-item tag (be w n) (rw length-be h))
+
+-- ---- a frame's head
+
+pub sequences-long : (n : ℕ) → length (sequencesItem n) ≡ sequencesSize n
+unfolding sequencesItem
+sequences-long n = by (eqb n 0)
+  where
+    by : (t : Bool) → length (pick t (item 0x06 []) (numberItem 0x06 4 n)) ≡ pick t 2 6
+    by true = short-item 0x06 [] (omega arith)
+    by false = number-long 0x06 4 n (omega arith)
+
+pub head-long : (count n : ℕ) (start : ℤ) → length (headItems count n start) ≡ 12 + sequencesSize n
+unfolding headItems
+head-long count n start =
+    let a = number-long 0x05 4 count (omega arith) in
+    let b = number-long 0x07 4 (unsignedOf 4 start) (omega arith) in
+    simp (length-append, sequences-long) (omega arith)
+
+-- ---- a channel's group
+
+pub scale-long : (tag : ℕ) (x : Scale) → length (scaleItem tag x) ≡ 8
+unfolding scaleItem
+scale-long tag x =
+    let e = unsignedOf 1 (x .exponent) in
+    let m = unsignedOf 4 (x .mantissa) in
+    let k : length (x .unit ∷ (be 1 e ++ be 4 m)) ≡ 6 = simp (length-append, length-be) in
+    omega (arith, short-item tag (x .unit ∷ (be 1 e ++ be 4 m)) (omega arith))
+
+null-long : (c : Settings) → length (nullItem c) ≡ 2 + nullSize c
+unfolding nullItem
+null-long c = by (eqb (c .null .width) 0)
+  where
+    by : (t : Bool) → length (pick t (item 0x12 []) (numberItem 0x12 (widthIn c) (c .null .bits))) ≡ 2 + pick t 0 (widthIn c)
+    by true = short-item 0x12 [] (omega arith)
+    by false = number-long 0x12 (widthIn c) (c .null .bits) (omega (arith, width-le (c .kind)))
+
+pub content-long : (c : Settings) → length (groupItems (settled c)) ≡ contentSize c
+unfolding groupItems settled
+content-long c =
+    let block = number-long 0x04 4 (c .block) (omega arith) in
+    let class = number-long 0x08 2 (c .class) (omega arith) in
+    let lead = number-long 0x09 2 (c .lead) (omega arith) in
+    let kind = number-long 0x0A 1 (c .kind) (omega arith) in
+    let offset = number-long 0x0D (widthIn c) (offsetBits c .bits) (omega (arith, width-le (c .kind))) in
+    simp (length-append, scale-long, null-long) (omega arith)
+
+pub channel-long : (k : ℕ) → length (channelOctets k) ≡ channelSize k
+unfolding channelOctets
+channel-long k = by (ltb k 128)
+  where
+    by : (t : Bool) → length (pick t (k ∷ []) ((128 + k / 128) ∷ (k % 128) ∷ [])) ≡ pick t 1 2
+    by true = refl
+    by false = refl
+
+-- A group's items take fewer than 128 octets, so that their length is one octet.
+content-few : (c : Settings) → contentSize c < 128
+content-few c =
+    let w = width-le (c .kind) in
+    let n : nullSize c ≤ 8 = pick-cases (λ (m : ℕ). m ≤ 8) (eqb (c .null .width) 0) (λ _. omega arith) (λ _. w) in
+    omega arith
+
+-- Their length is one octet.
+pub content-octet : (c : Settings) → shortest (length (groupItems (settled c))) ≡ contentSize c ∷ []
+content-octet c = rw (content-long c) (shortest-short (contentSize c) (content-few c))
+
+pub group-long : (k : ℕ) (c : Settings) → length (groupOctets k (settled c)) ≡ groupSize k c
+unfolding groupOctets groupSize
+group-long k c =
+    let one = length-shortest-short (contentSize c) (content-few c) in
+    simp (length-append, content-long, channel-long) (omega arith)
+
+pub groups-long : (k : ℕ) (cs : List Settings) → length (groupsOctets k (map settled cs)) ≡ groupsSize k cs
+unfolding groupsOctets groupsSize
+groups-long k [] = refl
+groups-long k (c ∷ cs) = rw (length-append, group-long, groups-long (suc k) cs)

@@ -1,0 +1,56 @@
+-- Four numbers' items, one after the other.
+use native.Mathlib.Omega.{arith}
+use lib.ListN.{length-append}
+use Rattle.stores.specs.Number.{length-field}
+use Rattle.groups.proofs.Puts.{put-two, put-more}
+use borrow.Author.Needs.{needs}
+use Rattle.groups.proofs.put_first.Statement.{statement}
+use Rattle.groups.proofs.put_first.Tie as tie
+use Rattle.groups.proofs.put_first.Reads as reads
+use Rattle.groups.proofs.put_first.Lts as lts
+use Rattle.stores.proofs.put_field.Reads as put-field-reads
+
+cast-put-field : tie.Need-cast-put-field
+cast-put-field c = search needs
+
+put-field-requires : tie.Need-put-field-requires
+put-field-requires c κs = search needs
+
+cast-put-field-2 : tie.Need-cast-put-field-2
+cast-put-field-2 c = search needs
+
+put-field-requires-2 : tie.Need-put-field-requires-2
+put-field-requires-2 c κs = search needs
+
+cast-put-field-3 : tie.Need-cast-put-field-3
+cast-put-field-3 c = search needs
+
+put-field-requires-3 : tie.Need-put-field-requires-3
+put-field-requires-3 c κs = search needs
+
+cast-put-field-4 : tie.Need-cast-put-field-4
+cast-put-field-4 c = search needs
+
+put-field-requires-4 : tie.Need-put-field-requires-4
+put-field-requires-4 c κs = search needs
+
+same-length : tie.Need-same-length
+same-length c = search needs
+
+returns : tie.Need-returns
+returns c = put-more (simp (length-append, length-field) (omega (arith, c .before .before .before .before .before .before .before .before .before .before .before .before .before .before .before .before .before .before .before .before .before .pre))) (put-more (simp (length-append, length-field) (omega (arith, c .before .before .before .before .before .before .before .before .before .before .before .before .before .before .before .before .before .before .before .before .before .pre))) (put-two (simp (length-append, length-field) (omega (arith, c .before .before .before .before .before .before .before .before .before .before .before .before .before .before .before .before .before .before .before .before .before .pre))) (c .before .before .before .before .before .before .before .before .before .before .before .before .before .before .before .before .before .put-field .ensures) (c .before .before .before .before .before .before .before .before .before .before .before .before .put-field2 .ensures)) (c .before .before .before .before .before .before .before .put-field3 .ensures)) (c .before .before .put-field4 .ensures)
+
+pub put-first-spec : {M : Type 1} → statement M
+put-first-spec =
+    tie.close
+    (tie.spec
+    cast-put-field
+    put-field-requires
+    cast-put-field-2
+    put-field-requires-2
+    cast-put-field-3
+    put-field-requires-3
+    cast-put-field-4
+    put-field-requires-4
+    same-length
+    returns)

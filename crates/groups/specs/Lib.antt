@@ -1,0 +1,4 @@
+pub mod Item
+pub mod Head
+pub mod Group
+pub mod Parts
