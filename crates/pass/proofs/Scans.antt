@@ -431,17 +431,17 @@ module _ {own : ℕ} {table : List Settings} (k : Records own table) where
       (λ t. let l = ltb-true channel count t in simp t (sym (shown-get channelLimit (st .root) own table (min channel 255) own-low zeroSettings (omega (arith, k .low)))))
       (λ t. simp t)
 
--- Where no record is laid down, only what stands changes, whatever the effect sets.
-pub does-bare : {table : List Settings} → Records 0 table → (s : List ℕ) (st : Standing) (fs : List Frame) (i : Item) (e : Effect) {st' : Standing} → e ≡ effectOf s st i → OneOf (0 ∷ 1 ∷ 2 ∷ 3 ∷ 4 ∷ 5 ∷ []) (tagOf the-type e) → st' ≡ standingAfter st e → carried s (state st (shownBy st 0 table) fs) (effectOf s st i) ≡ goes (state st' (shownBy st' 0 table) fs)
+-- Where no record is laid down, only what stands changes.
+pub does-bare : {table : List Settings} → Records 0 table → (s : List ℕ) (st : Standing) (fs : List Frame) (i : Item) (e : Effect) {st' : Standing} → e ≡ effectOf s st i → OneOf (0 ∷ 1 ∷ 2 ∷ 3 ∷ 4 ∷ []) (tagOf the-type e) → st' ≡ standingAfter st e → carried s (state st (shownBy st 0 table) fs) (effectOf s st i) ≡ goes (state st' (shownBy st' 0 table) fs)
 does-bare k s st fs i Effect.Pass a h q = does-stands k s st fs i a (hit (0 ∷ 1 ∷ 3 ∷ 4 ∷ []) 0 tt) q
 does-bare k s st fs i (Effect.Order little) a h q = does-stands k s st fs i a (hit (0 ∷ 1 ∷ 3 ∷ 4 ∷ []) 1 tt) q
 does-bare k s st fs i (Effect.Count n) a h q = does-count k s st fs i a refl q
 does-bare k s st fs i (Effect.Sequences n) a h q = does-stands k s st fs i a (hit (0 ∷ 1 ∷ 3 ∷ 4 ∷ []) 3 tt) q
 does-bare k s st fs i (Effect.Start z) a h q = does-stands k s st fs i a (hit (0 ∷ 1 ∷ 3 ∷ 4 ∷ []) 4 tt) q
-does-bare k s st fs i (Effect.All c) a h q = does-all k s st fs i a refl q refl
-does-bare k s st fs i (Effect.One channel c) a h q = absurd (miss (0 ∷ 1 ∷ 2 ∷ 3 ∷ 4 ∷ 5 ∷ []) 6 tt h)
-does-bare k s st fs i (Effect.Frame start len) a h q = absurd (miss (0 ∷ 1 ∷ 2 ∷ 3 ∷ 4 ∷ 5 ∷ []) 7 tt h)
-does-bare k s st fs i (Effect.Refused n) a h q = absurd (miss (0 ∷ 1 ∷ 2 ∷ 3 ∷ 4 ∷ 5 ∷ []) 8 tt h)
+does-bare k s st fs i (Effect.All c) a h q = absurd (miss (0 ∷ 1 ∷ 2 ∷ 3 ∷ 4 ∷ []) 5 tt h)
+does-bare k s st fs i (Effect.One channel c) a h q = absurd (miss (0 ∷ 1 ∷ 2 ∷ 3 ∷ 4 ∷ []) 6 tt h)
+does-bare k s st fs i (Effect.Frame start len) a h q = absurd (miss (0 ∷ 1 ∷ 2 ∷ 3 ∷ 4 ∷ []) 7 tt h)
+does-bare k s st fs i (Effect.Refused n) a h q = absurd (miss (0 ∷ 1 ∷ 2 ∷ 3 ∷ 4 ∷ []) 8 tt h)
 
 -- ---- the pass over the records
 

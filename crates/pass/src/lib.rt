@@ -437,6 +437,11 @@ fn scan_root(s: &[u8], asked: Asked) -> Scan
             Next::Found(item, next) => {
                 let effect = effects::item_effect(s, st, item);
                 match effect {
+                    // An arm of its own, so that the last one need not keep up the root settings.
+                    Effect::All(_) => {
+                        st = effects::standing_after(st, effect);
+                        c = next.renewed();
+                    }
                     Effect::One(_, _) => {
                         return scan_channels(s, asked, c, st, met);
                     }

@@ -9,8 +9,9 @@ use Rattle.items.specs.declared.Cursor.{Cursor}
 use Rattle.items.specs.Walk.{cursor}
 use Rattle.items.proofs.Walks.{next-later}
 use Rattle.settings.specs.Settings.{defaultTable}
+use Rattle.effects.specs.Effects.{standingAfter}
 use Rattle.pass.specs.Verdict.{carried, withFrame}
-use Rattle.pass.proofs.Scans.{does-bare, carried-by, found-as, Passing, passing-first, passing-at, passing-stands, passing-carried, scanned-end, scanned-fault, scanned-refuses}
+use Rattle.pass.proofs.Scans.{does-all, does-bare, carried-by, found-as, Passing, passing-first, passing-at, passing-stands, passing-carried, scanned-end, scanned-fault, scanned-refuses}
 use Rattle.pass.proofs.Stretches.{begins-root}
 use Rattle.pass.proofs.Ahead.{passing-root, bare-scanning, bare-full, bare-few, bare-room, bare-met}
 use Rattle.pass.proofs.scan_root.Statement.{statement}
@@ -118,91 +119,111 @@ enum-known-item c = search needs
 item-effect-requires : tie.Need-item-effect-requires Inv-loop μ-loop
 item-effect-requires c κs = search needs
 
--- src/lib.rt:441:25
+-- src/lib.rt:442:25
 enum-told-2 : tie.Need-enum-told-2 Inv-loop μ-loop
 enum-told-2 c = search needs
 
--- src/lib.rt:441:25
-scan-channels-requires : tie.Need-scan-channels-requires Inv-loop μ-loop
-scan-channels-requires c κs = bare-scanning (c .before .before .before .before .before .before .before .before .before .loop .inv)
+-- src/lib.rt:442:25
+standing-after-requires : tie.Need-standing-after-requires Inv-loop μ-loop
+standing-after-requires c κs = search needs
 
--- src/lib.rt:441:25
-returns-3 : tie.Need-returns-3 Inv-loop μ-loop
-returns-3 c = c .scan-channels .ensures
-
--- src/lib.rt:443:37
-enum-known-effect : tie.Need-enum-known-effect Inv-loop μ-loop
-enum-known-effect c = search needs
-
--- src/lib.rt:444:29
-root-layout-requires : tie.Need-root-layout-requires Inv-loop μ-loop
-root-layout-requires c κs = c .before .before .before .before .before .before .before .before .before .before .loop .inv .pass .counted
-
--- src/lib.rt:445:31
-frame-of-requires : tie.Need-frame-of-requires Inv-loop μ-loop
-frame-of-requires c κs = search needs
-
--- src/lib.rt:446:45
-enum-known-number : tie.Need-enum-known-number Inv-loop μ-loop
-enum-known-number c = search needs
-
--- src/lib.rt:447:33
-refused-item-requires : tie.Need-refused-item-requires Inv-loop μ-loop
-refused-item-requires c κs = search needs
-
--- src/lib.rt:447:33
-returns-4 : tie.Need-returns-4 Inv-loop μ-loop
-unfolding withFrame
-returns-4 c = c .refused-item .ensures ∙ scanned-refuses (bare-full (c .before .before .before .before .before .before .before .before .before .before .before .before .before .before .before .before .loop .inv) .pass) _ _ (c .before .before .before .before .before .before .before .before .before .before .before .before .before .next-item .ensures) (c .before .before .before .before .before .before .before .before .before .before .before .item .given .1) refl (passing-carried (bare-full (c .before .before .before .before .before .before .before .before .before .before .before .before .before .before .before .before .loop .inv)) _ _ refl (c .before .before .before .before .before .root-layout .ensures) (bare-few (c .before .before .before .before .before .before .before .before .before .before .before .before .before .before .before .before .loop .inv) _ refl) _ _ _ (c .before .before .before .before .before .before .before .before .before .item-effect .ensures) (c .before .before .before .before .before .before .before .effect .given .1) (c .before .before .before .before .frame-of .ensures) (c .before .before .number .given .1))
-
--- src/lib.rt:449:43
-enum-known-sequences : tie.Need-enum-known-sequences Inv-loop μ-loop
-enum-known-sequences c = search needs
-
--- src/lib.rt:450:33
-with-frame-requires : tie.Need-with-frame-requires Inv-loop μ-loop
-with-frame-requires c κs = bare-room (c .before .before .before .before .before .before .before .before .before .before .before .before .before .before .before .loop .inv) _ (c .before .before .before .before .root-layout .ensures) (c .before .before .before .before .before .before .effect .given .0 .1 .0) (c .before .before .before .frame-of .ensures) (c .before .sequences .given .1)
-
--- src/lib.rt:452:33
+-- src/lib.rt:443:25
 renewed-requires : tie.Need-renewed-requires Inv-loop μ-loop
 renewed-requires c κs = search needs
 
 -- src/lib.rt:420:5
 loop-less-2 : tie.Need-loop-less-2 Inv-loop μ-loop
-loop-less-2 c = omega (arith, next-later _ _ (c .before .before .before .before .before .before .before .before .before .before .before .before .before .before .next-item .ensures) (found-as (c .before .before .before .before .before .before .before .before .before .before .before .before .item .given .1) (c .renewed .ensures)))
+loop-less-2 c = omega (arith, next-later _ _ (c .before .before .before .before .before .before .before .before .next-item .ensures) (found-as (c .before .before .before .before .before .before .item .given .1) (c .renewed .ensures)))
 
 -- src/lib.rt:420:5
 loop-again-2 : tie.Need-loop-again-2 Inv-loop μ-loop
-loop-again-2 c = bare-met (c .before .before .before .before .before .before .before .before .before .before .before .before .before .before .before .before .before .loop .inv) _ (c .before .before .before .before .before .before .root-layout .ensures) (c .before .before .before .before .before .before .before .before .effect .given .0 .1 .0) (c .before .before .before .before .before .frame-of .ensures) (c .before .before .before .sequences .given .1) (c .before .before .before .before .before .before .before .before .before .before .before .before .before .before .next-item .ensures) (found-as (c .before .before .before .before .before .before .before .before .before .before .before .before .item .given .1) (c .renewed .ensures)) (c .before .before .before .before .before .before .before .before .before .before .item-effect .ensures) (c .before .before .before .before .before .before .before .before .effect .given .1) (c .before .with-frame .ensures)
+loop-again-2 c = passing-stands (c .before .before .before .before .before .before .before .before .before .before .before .loop .inv) (c .before .before .before .before .before .before .before .before .next-item .ensures) (found-as (c .before .before .before .before .before .before .item .given .1) (c .renewed .ensures)) (c .before .before .before .before .before .before .before .before .before .before .before .loop .inv .records) (c .before .before .before .before .item-effect .ensures) (c .before .standing-after .ensures) (does-all (c .before .before .before .before .before .before .before .before .before .before .before .loop .inv .records) _ _ _ _ (c .before .before .before .before .item-effect .ensures) (c .before .before .enum-told2 .given .1) (c .before .standing-after .ensures ∙ ap (standingAfter _) (c .before .before .enum-told2 .given .1)) refl)
 
--- src/lib.rt:456:37
-enum-known-effect-2 : tie.Need-enum-known-effect-2 Inv-loop μ-loop
-enum-known-effect-2 c = search needs
+-- src/lib.rt:446:25
+enum-told-3 : tie.Need-enum-told-3 Inv-loop μ-loop
+enum-told-3 c = search needs
 
--- src/lib.rt:457:25
-refused-item-requires-2 : tie.Need-refused-item-requires-2 Inv-loop μ-loop
-refused-item-requires-2 c κs = search needs
+-- src/lib.rt:446:25
+scan-channels-requires : tie.Need-scan-channels-requires Inv-loop μ-loop
+scan-channels-requires c κs = bare-scanning (c .before .before .before .before .before .before .before .before .before .loop .inv)
 
--- src/lib.rt:457:25
-returns-5 : tie.Need-returns-5 Inv-loop μ-loop
-unfolding carried
-returns-5 c = c .refused-item2 .ensures ∙ scanned-refuses (c .before .before .before .before .before .before .before .before .before .before .before .loop .inv .pass) _ _ (c .before .before .before .before .before .before .before .before .next-item .ensures) (c .before .before .before .before .before .before .item .given .1) refl (carried-by _ _ _ (c .before .before .before .before .item-effect .ensures) (c .before .before .effect2 .given .1))
+-- src/lib.rt:446:25
+returns-3 : tie.Need-returns-3 Inv-loop μ-loop
+returns-3 c = c .scan-channels .ensures
 
--- src/lib.rt:460:25
-standing-after-requires : tie.Need-standing-after-requires Inv-loop μ-loop
-standing-after-requires c κs = search needs
+-- src/lib.rt:448:37
+enum-known-effect : tie.Need-enum-known-effect Inv-loop μ-loop
+enum-known-effect c = search needs
 
--- src/lib.rt:461:25
+-- src/lib.rt:449:29
+root-layout-requires : tie.Need-root-layout-requires Inv-loop μ-loop
+root-layout-requires c κs = c .before .before .before .before .before .before .before .before .before .before .loop .inv .pass .counted
+
+-- src/lib.rt:450:31
+frame-of-requires : tie.Need-frame-of-requires Inv-loop μ-loop
+frame-of-requires c κs = search needs
+
+-- src/lib.rt:451:45
+enum-known-number : tie.Need-enum-known-number Inv-loop μ-loop
+enum-known-number c = search needs
+
+-- src/lib.rt:452:33
+refused-item-requires : tie.Need-refused-item-requires Inv-loop μ-loop
+refused-item-requires c κs = search needs
+
+-- src/lib.rt:452:33
+returns-4 : tie.Need-returns-4 Inv-loop μ-loop
+unfolding withFrame
+returns-4 c = c .refused-item .ensures ∙ scanned-refuses (bare-full (c .before .before .before .before .before .before .before .before .before .before .before .before .before .before .before .before .loop .inv) .pass) _ _ (c .before .before .before .before .before .before .before .before .before .before .before .before .before .next-item .ensures) (c .before .before .before .before .before .before .before .before .before .before .before .item .given .1) refl (passing-carried (bare-full (c .before .before .before .before .before .before .before .before .before .before .before .before .before .before .before .before .loop .inv)) _ _ refl (c .before .before .before .before .before .root-layout .ensures) (bare-few (c .before .before .before .before .before .before .before .before .before .before .before .before .before .before .before .before .loop .inv) _ refl) _ _ _ (c .before .before .before .before .before .before .before .before .before .item-effect .ensures) (c .before .before .before .before .before .before .before .effect .given .1) (c .before .before .before .before .frame-of .ensures) (c .before .before .number .given .1))
+
+-- src/lib.rt:454:43
+enum-known-sequences : tie.Need-enum-known-sequences Inv-loop μ-loop
+enum-known-sequences c = search needs
+
+-- src/lib.rt:455:33
+with-frame-requires : tie.Need-with-frame-requires Inv-loop μ-loop
+with-frame-requires c κs = bare-room (c .before .before .before .before .before .before .before .before .before .before .before .before .before .before .before .loop .inv) _ (c .before .before .before .before .root-layout .ensures) (c .before .before .before .before .before .before .effect .given .0 .1 .0) (c .before .before .before .frame-of .ensures) (c .before .sequences .given .1)
+
+-- src/lib.rt:457:33
 renewed-requires-2 : tie.Need-renewed-requires-2 Inv-loop μ-loop
 renewed-requires-2 c κs = search needs
 
 -- src/lib.rt:420:5
 loop-less-3 : tie.Need-loop-less-3 Inv-loop μ-loop
-loop-less-3 c = omega (arith, next-later _ _ (c .before .before .before .before .before .before .before .next-item .ensures) (found-as (c .before .before .before .before .before .item .given .1) (c .renewed2 .ensures)))
+loop-less-3 c = omega (arith, next-later _ _ (c .before .before .before .before .before .before .before .before .before .before .before .before .before .before .next-item .ensures) (found-as (c .before .before .before .before .before .before .before .before .before .before .before .before .item .given .1) (c .renewed2 .ensures)))
 
 -- src/lib.rt:420:5
 loop-again-3 : tie.Need-loop-again-3 Inv-loop μ-loop
-loop-again-3 c = passing-stands (c .before .before .before .before .before .before .before .before .before .before .loop .inv) (c .before .before .before .before .before .before .before .next-item .ensures) (found-as (c .before .before .before .before .before .item .given .1) (c .renewed2 .ensures)) (c .before .before .before .before .before .before .before .before .before .before .loop .inv .records) (c .before .before .before .item-effect .ensures) (c .before .standing-after .ensures) (does-bare (c .before .before .before .before .before .before .before .before .before .before .loop .inv .records) _ _ _ _ (c .before .before .before .item-effect .result) (c .before .before .before .item-effect .ensures) (c .before .before .match2 .keys4) (c .before .standing-after .ensures))
+loop-again-3 c = bare-met (c .before .before .before .before .before .before .before .before .before .before .before .before .before .before .before .before .before .loop .inv) _ (c .before .before .before .before .before .before .root-layout .ensures) (c .before .before .before .before .before .before .before .before .effect .given .0 .1 .0) (c .before .before .before .before .before .frame-of .ensures) (c .before .before .before .sequences .given .1) (c .before .before .before .before .before .before .before .before .before .before .before .before .before .before .next-item .ensures) (found-as (c .before .before .before .before .before .before .before .before .before .before .before .before .item .given .1) (c .renewed2 .ensures)) (c .before .before .before .before .before .before .before .before .before .before .item-effect .ensures) (c .before .before .before .before .before .before .before .before .effect .given .1) (c .before .with-frame .ensures)
+
+-- src/lib.rt:461:37
+enum-known-effect-2 : tie.Need-enum-known-effect-2 Inv-loop μ-loop
+enum-known-effect-2 c = search needs
+
+-- src/lib.rt:462:25
+refused-item-requires-2 : tie.Need-refused-item-requires-2 Inv-loop μ-loop
+refused-item-requires-2 c κs = search needs
+
+-- src/lib.rt:462:25
+returns-5 : tie.Need-returns-5 Inv-loop μ-loop
+unfolding carried
+returns-5 c = c .refused-item2 .ensures ∙ scanned-refuses (c .before .before .before .before .before .before .before .before .before .before .before .loop .inv .pass) _ _ (c .before .before .before .before .before .before .before .before .next-item .ensures) (c .before .before .before .before .before .before .item .given .1) refl (carried-by _ _ _ (c .before .before .before .before .item-effect .ensures) (c .before .before .effect2 .given .1))
+
+-- src/lib.rt:465:25
+standing-after-requires-2 : tie.Need-standing-after-requires-2 Inv-loop μ-loop
+standing-after-requires-2 c κs = search needs
+
+-- src/lib.rt:466:25
+renewed-requires-3 : tie.Need-renewed-requires-3 Inv-loop μ-loop
+renewed-requires-3 c κs = search needs
+
+-- src/lib.rt:420:5
+loop-less-4 : tie.Need-loop-less-4 Inv-loop μ-loop
+loop-less-4 c = omega (arith, next-later _ _ (c .before .before .before .before .before .before .before .next-item .ensures) (found-as (c .before .before .before .before .before .item .given .1) (c .renewed3 .ensures)))
+
+-- src/lib.rt:420:5
+loop-again-4 : tie.Need-loop-again-4 Inv-loop μ-loop
+loop-again-4 c = passing-stands (c .before .before .before .before .before .before .before .before .before .before .loop .inv) (c .before .before .before .before .before .before .before .next-item .ensures) (found-as (c .before .before .before .before .before .item .given .1) (c .renewed3 .ensures)) (c .before .before .before .before .before .before .before .before .before .before .loop .inv .records) (c .before .before .before .item-effect .ensures) (c .before .standing-after2 .ensures) (does-bare (c .before .before .before .before .before .before .before .before .before .before .loop .inv .records) _ _ _ _ (c .before .before .before .item-effect .result) (c .before .before .before .item-effect .ensures) (c .before .before .match2 .keys5) (c .before .standing-after2 .ensures))
 
 pub scan-root-spec : {M : Type 1} → statement M
 scan-root-spec =
@@ -230,6 +251,11 @@ scan-root-spec =
     enum-known-item
     item-effect-requires
     enum-told-2
+    standing-after-requires
+    renewed-requires
+    loop-less-2
+    loop-again-2
+    enum-told-3
     scan-channels-requires
     returns-3
     enum-known-effect
@@ -240,13 +266,13 @@ scan-root-spec =
     returns-4
     enum-known-sequences
     with-frame-requires
-    renewed-requires
-    loop-less-2
-    loop-again-2
+    renewed-requires-2
+    loop-less-3
+    loop-again-3
     enum-known-effect-2
     refused-item-requires-2
     returns-5
-    standing-after-requires
-    renewed-requires-2
-    loop-less-3
-    loop-again-3)
+    standing-after-requires-2
+    renewed-requires-3
+    loop-less-4
+    loop-again-4)
