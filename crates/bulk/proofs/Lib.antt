@@ -1,4 +1,3 @@
 -- What the proofs of several functions use.
-pub mod Placing
 pub mod Walks
 pub mod Reading

@@ -1,54 +1,45 @@
 -- What reading many samples answers, over the place of the first.
 --     Room, seen-blocks, block-some, seen-inside    the channel's samples lie in the file, in blocks
---     seen-bits                       the samples of the blocks are those of the channel
+--     bits-seen, seen-bits            the bits at a place that was found; the samples of the blocks are those of the channel
 --     read-samples, read-refused, kept, filled    the answer and the buffer
 -- Assumes nothing.
 use mathlib.Core.Path.{_≡_, refl, sym, ap, _∙_}
 use mathlib.Core.Logic.{inl, inr}
 use mathlib.Core.List.{List, _++_}
-use mathlib.Core.Bool.{Bool, true, false}
 use Prim.Native.Nat.{ℕ, zero, suc, _+_, _-_, _*_, _/_, _%_, _≤_, _<_, min}
 use native.Mathlib.Nat.{zero-mul, zero-add, add-mul, mod-lt, div-add-mod', mul-add-div-right, mul-add-mod-self-right}
 use native.Mathlib.Omega.{arith}
 use borrow.Author.Tests.{lt-ltb}
-use lib.Dec.{ltb}
-use lib.ListN.{length, getD, drop}
+use lib.ListN.{length, getD, take, drop}
 use lib.Seq.{sets}
-use Rattle.octets.specs.Pick.{pick}
+use Rattle.octets.specs.Number.{numberOf}
 use Rattle.stores.proofs.Stores.{sets-front}
 use Rattle.heads.specs.declared.Refusal.{Refusal}
-use Rattle.heads.specs.Refusals.{noFrame, noChannel, noSample}
-use Rattle.items.specs.Walk.{refusal}
 use Rattle.values.specs.Sample.{widthOf}
-use Rattle.layout.specs.Frame.{widthIn, blockOctets, sequenceOctets, channelIn, samplesOf, offsetOf, placeOf}
+use Rattle.layout.specs.Frame.{Frame, widthIn, blockOctets, sequenceOctets, channelIn, samplesOf, offsetOf, placeOf}
 use Rattle.laid.proofs.Places.{row-fits, below-fits, offset-inside}
-use Rattle.reader.specs.declared.Sampled.{Sampled}
 use Rattle.pass.specs.declared.View.{View}
-use Rattle.pass.specs.Verdict.{Verdict, accepted, refused, verdict}
-use Rattle.pass.specs.Scan.{zeroFrame, viewOf}
-use Rattle.reader.specs.Answer.{placeSeen, sampleIn, sampledIn, sampleOf}
-use Rattle.reader.proofs.Answers.{Located}
+use Rattle.pass.specs.Verdict.{verdict}
+use Rattle.pass.specs.Scan.{viewOf}
+use Rattle.reader.specs.declared.Placed.{Placed}
+use Rattle.reader.specs.declared.Placed.the-variants.{At}
+use Rattle.reader.specs.Answer.{placeSeen, placedIn, placedOf}
+use Rattle.reader.proofs.Answers.{Located, PlacedAt, countSeen, frameIn, settings-seen, count-seen, place-is}
 use Rattle.reader.proofs.Answers as answers
+use Rattle.reader.proofs.Order.{sample-both}
 use Rattle.reader.proofs.Every.{every-at}
 use Rattle.reader.proofs.Good.{GoodSettings, accepted-good}
 use Rattle.reader.proofs.Ordered.{accepted-lies, accepted-small}
 use Rattle.settings.specs.Settings.{zeroSettings}
-use Rattle.bulk.specs.declared.Placed.{Placed}
 use Rattle.bulk.specs.declared.Read.{Read}
 use Rattle.bulk.specs.declared.Read.the-variants.{Samples}
-use Rattle.bulk.specs.Place.{countSeen, placedOf}
-use Rattle.bulk.specs.Samples.{bitsOf, bitsFrom, readIn, readOf, writtenAs, bufferAfter}
+use Rattle.bulk.specs.Samples.{bitsAt, bitsIn, bitsOf, bitsFrom, readIn, readOf, writtenAs, bufferAfter}
 use Rattle.bulk.specs.Walked.{blocked, Wide, InBlocks}
-use Rattle.bulk.proofs.Placing.{PlacedAt, sampled-refused, frameIn, bits-seen}
 use Rattle.bulk.proofs.Walks.{length-bits, bits-same}
 
 -- ---- the channel that is seen
 
 module _ {s : List ℕ} {frame channel : ℕ} {v : View} (l : Located s frame channel v) where
-  settings-seen : v .settings ≡ channelIn channel (frameIn l .channels)
-  unfolding viewOf
-  settings-seen = ap (λ (x : View). x .settings) (l .view) ∙ simp (lt-ltb channel (length (frameIn l .channels)) (l .channelIs))
-
   octets-seen : v .octets ≡ sequenceOctets (frameIn l .channels)
   unfolding viewOf
   octets-seen = ap (λ (x : View). x .octets) (l .view)
@@ -57,22 +48,14 @@ module _ {s : List ℕ} {frame channel : ℕ} {v : View} (l : Located s frame ch
   unfolding viewOf
   sequences-seen = ap (λ (x : View). x .sequences) (l .view)
 
-  pub count-seen : countSeen v ≡ samplesOf channel (frameIn l)
-  unfolding samplesOf
-  count-seen = λ i. sequences-seen i * settings-seen i .block
-
-  place-seen : (n : ℕ) → placeSeen v n ≡ placeOf channel n (frameIn l)
-  unfolding viewOf placeSeen placeOf offsetOf
-  place-seen n = ap (λ (x : View). placeSeen x n) (l .view) ∙ simp (lt-ltb channel (length (frameIn l .channels)) (l .channelIs))
-
   -- A sample lies in the file.
   pub seen-inside : (n : ℕ) → n < countSeen v → placeSeen v n + widthIn (v .settings) ≤ length s
   unfolding placeOf samplesOf
   seen-inside n h =
       let a = accepted-lies s (l .frames) (l .verdictIs) frame (l .frameIn) in
-      let k : n < frameIn l .sequences * channelIn channel (frameIn l .channels) .block = omega (arith, count-seen) in
+      let k : n < frameIn l .sequences * channelIn channel (frameIn l .channels) .block = omega (arith, count-seen l) in
       let c = offset-inside {cs = frameIn l .channels} {S = frameIn l .sequences} {c = channel} {n = n} (record { channel = l .channelIs; number = k }) in
-      rw (place-seen n, settings-seen) (omega (arith, a .fits, a .inside, c))
+      rw (place-is l n, settings-seen l) (omega (arith, a .fits, a .inside, c))
 
   pub file-small : length s < 2147483648
   file-small = omega (arith, accepted-small s (l .frames) (l .verdictIs))
@@ -86,12 +69,24 @@ module _ {s : List ℕ} {frame channel : ℕ} {v : View} (l : Located s frame ch
 
   pub block-fits : v .settings .block * widthIn (v .settings) ≤ v .octets
   unfolding blockOctets
-  block-fits = rw (settings-seen, octets-seen) (omega (arith, below-fits (frameIn l .channels) channel (l .channelIs)))
+  block-fits = rw (settings-seen l, octets-seen) (omega (arith, below-fits (frameIn l .channels) channel (l .channelIs)))
 
   pub kind-seen : ((i : ℕ) → getD s i 0 < 256) → v .settings .kind ≤ 8
   kind-seen o =
       let g = accepted-good s o (l .frames) (l .verdictIs) frame (l .frameIn) in
-      rw settings-seen (every-at GoodSettings (frameIn l .channels) (g .channels) zeroSettings channel (l .channelIs) .kind)
+      rw (settings-seen l) (every-at GoodSettings (frameIn l .channels) (g .channels) zeroSettings channel (l .channelIs) .kind)
+
+-- The bits of the sample at the place that the view gives.
+view-bits : (s : List ℕ) (channel n : ℕ) (f : Frame) → channel < length (f .channels) → numberOf (viewOf channel f .little) (take (widthIn (viewOf channel f .settings)) (drop (placeSeen (viewOf channel f) n) s)) ≡ bitsAt s channel f n
+unfolding viewOf placeSeen placeOf offsetOf bitsAt
+view-bits s channel n f h = simp (lt-ltb channel (length (f .channels)) h)
+
+pub bits-seen : {s : List ℕ} {frame channel : ℕ} {v : View} (l : Located s frame channel v) (n : ℕ) → numberOf (v .little) (take (widthIn (v .settings)) (drop (placeSeen v n) s)) ≡ bitsOf s frame channel n
+unfolding bitsOf bitsIn
+bits-seen {s} {frame} {channel} l n =
+    ap (λ (w : View). numberOf (w .little) (take (widthIn (w .settings)) (drop (placeSeen w n) s))) (l .view)
+    ∙ view-bits s channel n (frameIn l) (l .channelIs)
+    ∙ sym (ap (bitsIn s frame channel n) (l .verdictIs))
 
 -- The widths of the data types.
 pub width-wide : (k : ℕ) → k ≤ 8 → Wide (widthOf k)
@@ -125,7 +120,7 @@ walk-place place b G below w first j h =
 
 module _ {s : List ℕ} {frame channel first p : ℕ} {v : View} (m : PlacedAt s frame channel first p v) where
   pub block-some : 0 < v .settings .block
-  block-some = answers.block-some s frame channel first v (m .channelAt) (m .number)
+  block-some = answers.block-some (m .channelAt) (m .number)
 
   module _ (w : ℕ) (e : w ≡ widthOf (v .settings .kind)) where
     pub rest-low : first % v .settings .block * w ≤ p
@@ -169,21 +164,13 @@ module _ (s : List ℕ) (frame channel first room : ℕ) where
       ap Samples (e ∙ ap (λ (k : ℕ). min room (k - first)) c)
       ∙ sym (ap (readIn room frame channel first) (l .verdictIs) ∙ simp (lt-ltb frame (length (l .frames)) (l .frameIn), lt-ltb channel _ (l .channelIs), lt-ltb first _ h))
 
-  refused-in : (x : Refusal) (o : Verdict) → Sampled.Refused x ≡ sampledIn s frame channel first o → Read.Refused x ≡ readIn room frame channel first o
-  unfolding sampledIn readIn sampleIn
-  refused-in x (refused r) e = let f : x ≡ r = cc in ap Read.Refused f
-  refused-in x (accepted fs) e = by (ltb frame (length fs)) (ltb channel (length (getD fs frame zeroFrame .channels))) (ltb first (samplesOf channel (getD fs frame zeroFrame))) e
-    where
-      by : (a b c : Bool) → Sampled.Refused x ≡ pick a (pick b (pick c (sampleIn s channel first (getD fs frame zeroFrame)) (Sampled.Refused (refusal noSample 0))) (Sampled.Refused (refusal noChannel 0))) (Sampled.Refused (refusal noFrame 0))
-          → Read.Refused x ≡ pick a (pick b (pick c (Samples (min room (samplesOf channel (getD fs frame zeroFrame) - first))) (Read.Refused (refusal noSample 0))) (Read.Refused (refusal noChannel 0))) (Read.Refused (refusal noFrame 0))
-      by true true true g = let z : _≡_ {A = ℕ} 0 1 = cc in let y : ⊥ = omega arith in absurd y
-      by true true false g = let f : x ≡ refusal noSample 0 = cc in ap Read.Refused f
-      by true false c g = let f : x ≡ refusal noChannel 0 = cc in ap Read.Refused f
-      by false b c g = let f : x ≡ refusal noFrame 0 = cc in ap Read.Refused f
-
   pub read-refused : {r : Placed} {x : Refusal} → r ≡ placedOf s frame channel first → r ≡ Placed.Refused x → Read.Refused x ≡ readOf s frame channel first room
-  unfolding readOf sampleOf
-  read-refused {x = x} e f = refused-in x (verdict s) (sampled-refused s frame channel first e f)
+  unfolding placedOf placedIn readOf readIn
+  read-refused {x = x} e f =
+      sample-both (λ (a : Placed) (b : Read). Placed.Refused x ≡ a → Read.Refused x ≡ b) Placed.Refused Read.Refused
+      (λ r q. let y : x ≡ r = cc in ap Read.Refused y) frame channel
+      (λ g. At (placeOf channel first g) (viewOf channel g)) (λ g. Samples (min room (samplesOf channel g - first))) first (verdict s)
+      (λ fs a i c h q. let z : _≡_ {A = ℕ} 0 1 = cc in let y : ⊥ = omega arith in absurd y) (sym f ∙ e)
 
 module _ (s : List ℕ) (frame channel first : ℕ) (out : List ℕ) where
   abbrev after : Read → List ℕ

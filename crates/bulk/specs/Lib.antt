@@ -1,4 +1,3 @@
--- Samples of one channel: the place of one, the bits of many, and how the loops walk them.
-pub mod Place
+-- Samples of one channel: the bits of many, and how the loops walk them.
 pub mod Samples
 pub mod Walked

@@ -1,15 +1,12 @@
 -- The bits of samples, as the file has them (document 01, "Frames and samples"), and what reading many of them answers.
 use mathlib.Core.List.{List, [], _∷_, _++_}
 use Prim.Native.Nat.{ℕ, zero, suc, _-_, min}
-use lib.Dec.{ltb}
 use lib.ListN.{length, getD, take, drop}
-use Rattle.octets.specs.Pick.{pick}
 use Rattle.octets.specs.Number.{numberOf}
-use Rattle.heads.specs.Refusals.{noFrame, noChannel, noSample}
-use Rattle.items.specs.Walk.{refusal}
 use Rattle.layout.specs.Frame.{Frame, widthIn, channelIn, samplesOf, placeOf}
 use Rattle.pass.specs.Verdict.{Verdict, accepted, refused, verdict}
 use Rattle.pass.specs.Scan.{zeroFrame}
+use Rattle.reader.specs.Answer.{askedSample}
 use Rattle.bulk.specs.declared.Read.{Read}
 use Rattle.bulk.specs.declared.Read.the-variants.{Samples}
 
@@ -30,17 +27,11 @@ unfoldable pub bitsFrom : (ℕ → ℕ) → ℕ → ℕ → List ℕ
 bitsFrom g n zero = []
 bitsFrom g n (suc k) = g n ∷ bitsFrom g (suc n) k
 
--- How many samples from number `first` on are read: as many as there is room for, or as there are. The file's refusal; then 20, 21, 22.
+-- How many samples from number `first` on are read: as many as there is room for, or as there are. The file's refusal, and 20, 21, 22
+-- where there is no sample `first`, come as for the question for that sample.
 unfoldable pub readIn : ℕ → ℕ → ℕ → ℕ → Verdict → Read
-readIn room frame channel first (refused r) = Read.Refused r
-readIn room frame channel first (accepted fs) =
-    let f = getD fs frame zeroFrame in
-    pick (ltb frame (length fs))
-    (pick (ltb channel (length (f .channels)))
-    (pick (ltb first (samplesOf channel f)) (Samples (min room (samplesOf channel f - first)))
-    (Read.Refused (refusal noSample 0)))
-    (Read.Refused (refusal noChannel 0)))
-    (Read.Refused (refusal noFrame 0))
+readIn room frame channel first v =
+    askedSample Read.Refused (λ f. Samples (min room (samplesOf channel f - first))) frame channel first v
 
 unfoldable pub readOf : List ℕ → ℕ → ℕ → ℕ → ℕ → Read
 readOf s frame channel first room = readIn room frame channel first (verdict s)

@@ -1,7 +1,6 @@
-// Samples of one channel: where one lies, and the bits of many in one pass over the file.
+// Many samples of one channel: their bits, in one pass over the file.
 //
-// For programs that draw or convert a channel: `place` finds the channel and the place of one sample, `samples` writes the bits of
-// consecutive samples into a buffer that the caller lends.
+// For programs that draw or convert a channel: `samples` writes the bits of consecutive samples into a buffer that the caller lends.
 // Promises, for any octets at all: the whole answer is a definition of specs/, refusals too, and so is the buffer afterwards.
 // Read first: specs/Samples.antt, then `samples` and upwards. A change to a loop wants its speed measured again: each width has a loop
 // of its own, with straight-line reads, because the compiler makes one wide load of them only so.
@@ -9,51 +8,10 @@ ghost use mathlib.Core.Path.{_≡_};
 ghost use Prim.Native.Nat.{_+_, _*_, _^_, _≤_, _<_, min};
 ghost use lib.ListN.{length};
 ghost use lib.Seq.{sets};
-ghost use Rattle.reader.specs.Answer.{placeSeen};
-ghost use Rattle.bulk.specs.Place.{placedOf};
 ghost use Rattle.bulk.specs.Samples.{bitsFrom, readOf, bufferAfter};
 ghost use Rattle.bulk.specs.Walked.{bitsHere, spaced, blocked, Wide, Within, InBlocks};
 use heads::Refusal;
-use pass::View;
-use reader::LookedUp;
-
-// The place of a sample, with what the pass keeps of its channel, or why there is none.
-pub enum Placed {
-    At(usize, View),
-    Refused(Refusal),
-}
-
-// The place of a sample of the channel that is seen.
-fn place_seen(v: View, number: u64) -> usize
-    requires { ⌜ (0 < v .settings .block) × (placeSeen v number < 2 ^ 63) ⌝ }
-    ensures { λ r. ⌜ r ≡ placeSeen v number ⌝ }
-{
-    let c = v.settings;
-    let w = values::width(c.kind) as u64;
-    let b = c.block as u64;
-    let offset = number / b * v.octets + v.below + number % b * w;
-    (v.place as u64 + offset) as usize
-}
-
-// The place of a sample: the file's refusal; then 20, 21, 22.
-pub fn place(s: &[u8], frame: u32, channel: u32, number: u64) -> Placed
-    ensures { λ r. ⌜ r ≡ placedOf (now (s .entry)) frame channel number ⌝ }
-{
-    match reader::look_up(s, frame, channel) {
-        LookedUp::Refused(x) => Placed::Refused(x),
-        LookedUp::Channel(v) => {
-            let c = v.settings;
-            let count = v.sequences as u64 * c.block as u64;
-            if count <= number {
-                return Placed::Refused(Refusal {
-                    number: Refusal::NO_SAMPLE,
-                    place: 0,
-                });
-            }
-            Placed::At(place_seen(v, number), v)
-        }
-    }
-}
+use reader::Placed;
 
 // The number of octets, highest first.
 fn one_octet(a: u8) -> u64
@@ -313,7 +271,7 @@ pub fn samples(s: &[u8], frame: u32, channel: u32, first: u64, out: &mut [u64]) 
     ensures { λ r. ⌜ r ≡ readOf (now (s .entry)) frame channel first (length (now (out .entry))) ⌝ }
     ensures { λ _. ⌜ now (out .exit) ≡ bufferAfter (now (s .entry)) frame channel first (now (out .entry)) ⌝ }
 {
-    match place(s, frame, channel, first) {
+    match reader::place(s, frame, channel, first) {
         Placed::Refused(x) => Read::Refused(x),
         Placed::At(at, v) => {
             let c = v.settings;

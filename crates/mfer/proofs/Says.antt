@@ -19,17 +19,17 @@ use Rattle.heads.specs.declared.Refusal.{Refusal}
 use Rattle.pass.specs.declared.Checked.{Checked}
 use Rattle.reader.specs.declared.Attributes.{Attributes}
 use Rattle.reader.specs.declared.Described.{Described}
+use Rattle.reader.specs.declared.Placed.{Placed}
 use Rattle.pass.specs.declared.View.{View}
 use Rattle.pass.specs.Verdict.{checkOf}
-use Rattle.reader.specs.Answer.{attributesOf}
+use Rattle.reader.specs.Answer.{attributesOf, placedOf}
+use Rattle.reader.proofs.Answers.{PlacedAt, placed-at}
 use Rattle.reader.proofs.Answers as answers
-use Rattle.bulk.specs.declared.Placed.{Placed}
 use Rattle.bulk.specs.declared.Read.{Read}
 use Rattle.bulk.specs.Samples.{bitsOf, readOf}
-use Rattle.bulk.specs.Place.{placedOf}
 use Rattle.canonical.specs.declared.Written.{Written}
 use Rattle.canonical.specs.Write.{writtenOf}
-use Rattle.bulk.proofs.Placing.{PlacedAt, placed-at, sampled-refused, bits-seen}
+use Rattle.bulk.proofs.Reading.{bits-seen}
 use Rattle.mfer.specs.Answers.{checkAnswer, checkAs, checkSays, numbersOf, bitPairOf, attributesAnswer, attributesAs, attributesSay, wholeOf, sampleAnswer, sampleAs, sampleSays, samplesAnswer, samplesAs, samplesSay, canonicalAnswer, canonicalAs, canonicalSays}
 
 module _ (s : List ℕ) {r : Checked} (e : r ≡ checkOf s) where
@@ -56,14 +56,12 @@ module _ (s : List ℕ) (frame channel n : ℕ) {r : Placed} (e : r ≡ placedOf
   unfolding sampleSays sampleAs
   sample-found {p} {v} {w} {x} {value} {kind} {whole} {bits} f g h ev ek ez q =
       let m : PlacedAt s frame channel n p v = placed-at s frame channel n e f in
-      let t : x ≡ take (widthOf (v .settings .kind)) (drop p s) = rw g at h in
-      let found = answers.sample-found s frame channel n v (m .channelAt) (m .number) p value x (m .place) t ev in
-      let b : bits ≡ bitsOf s frame channel n = part-read (v .little) (widthOf (v .settings .kind)) (drop p s) x (width-le (v .settings .kind)) t q ∙ rw (m .place) (bits-seen (m .channelAt) n) in
-      (λ i. sampleAnswer 0 p (ek i) (ez i) (b i)) ∙ ap (sampleAs (bitsOf s frame channel n)) found
+      let b : bits ≡ bitsOf s frame channel n = part-read (v .little) (widthOf (v .settings .kind)) (drop p s) x (width-le (v .settings .kind)) (rw g at h) q ∙ rw (m .place) (bits-seen (m .channelAt) n) in
+      (λ i. sampleAnswer 0 p (ek i) (ez i) (b i)) ∙ ap (sampleAs (bitsOf s frame channel n)) (answers.sample-found m g h ev)
 
   pub sample-refuses : {x : Refusal} → r ≡ Placed.Refused x → sampleAnswer (x .number) (x .place) 0 (pos 0) 0 ≡ sampleSays s frame channel n
   unfolding sampleSays sampleAs
-  sample-refuses f = ap (sampleAs (bitsOf s frame channel n)) (sampled-refused s frame channel n e f)
+  sample-refuses f = ap (sampleAs (bitsOf s frame channel n)) (answers.sample-refused s frame channel n e f)
 
 module _ (s : List ℕ) (frame channel first room : ℕ) {r : Read} (e : r ≡ readOf s frame channel first room) where
   pub samples-read : {n : ℕ} → r ≡ Read.Samples n → samplesAnswer 0 n 0 ≡ samplesSay s frame channel first room

@@ -9,12 +9,12 @@ ghost use Rattle.mfer.specs.Answers.{checkAnswer, checkSays, numbersOf, 
 ghost use Rattle.bulk.specs.Samples.{bufferAfter};
 ghost use Rattle.canonical.specs.Write.{leftOf};
 ghost use lib.ListN.{length};
-use bulk::Placed;
 use bulk::Read;
 use canonical::Written;
 use pass::Checked;
 use reader::Attributes;
 use reader::Described;
+use reader::Placed;
 use values::Value;
 
 // Checks a file: how many frames it has.
@@ -145,7 +145,7 @@ pub extern "C" fn mfer_sample(
 ) -> u32
     ensures { λ r. ⌜ sampleAnswer r (now (place .exit)) (now (kind .exit)) (now (whole .exit)) (now (bits .exit)) ≡ sampleSays (now (file .entry)) frame channel number ⌝ }
 {
-    match bulk::place(file, frame, channel, number) {
+    match reader::place(file, frame, channel, number) {
         Placed::At(at, v) => {
             let c = v.settings;
             let null = c.null;

@@ -2,27 +2,25 @@
 --     checked-is        the check is the pass's count or refusal
 --     look-refused, look-no-frame, look-no-channel, look-found    the ways of a look-up
 --     described-refused, described-found    the attributes, over a look-up
---     sample-refused, sample-none, sample-found, place-small    a sample, over a look-up
+--     place-refused, place-none, place-found, place-small, block-some    the place of a sample, over a look-up
+--     frameIn, settings-seen, count-seen, place-is, little-seen    what a channel that was found says of its frame
+--     PlacedAt, placed-at, sample-refused, sample-found    a sample, over its place
 -- Assumes nothing.
-use mathlib.Core.Path.{_≡_, refl, sym, ap, subst, _∙_}
+use mathlib.Core.Path.{_≡_, refl, sym, ap, _∙_}
 use mathlib.Core.List.{List}
-use mathlib.Core.Bool.{Bool, true, false}
 use Prim.Native.Nat.{ℕ, zero, suc, _+_, _*_, _/_, _%_, _^_, _≤_, _<_}
 use native.Mathlib.Nat.{mul-zero}
 use native.Mathlib.Omega.{arith}
-use borrow.Author.Tests.{lt-ltb, le-ltb, ltb-true}
+use borrow.Author.Tests.{lt-ltb, le-ltb}
 use lib.Dec.{ltb}
 use lib.ListN.{length, getD, take, drop}
 use Rattle.octets.specs.Pick.{pick}
-use Rattle.octets.proofs.Pick.{pick-cases}
 use Rattle.heads.specs.declared.Refusal.{Refusal}
 use Rattle.heads.specs.Refusals.{noFrame, noChannel, noSample}
 use Rattle.items.specs.Walk.{refusal}
 use Rattle.values.specs.declared.Value.{Value}
 use Rattle.values.specs.Sample.{widthOf, valueOf}
-use Rattle.layout.specs.Frame.{Frame, widthIn, sequenceOctets, octetsBelow, channelIn, samplesOf, offsetOf, placeOf}
-use Rattle.settings.specs.declared.Settings.{Settings}
-use Rattle.laid.specs.Laid.{Named}
+use Rattle.layout.specs.Frame.{Frame, channelIn, samplesOf, offsetOf, placeOf}
 use Rattle.laid.proofs.Places.{offset-inside}
 use Rattle.pass.specs.declared.Asked.{Asked}
 use Rattle.pass.specs.declared.View.{View}
@@ -32,12 +30,15 @@ use Rattle.pass.specs.declared.Checked.{Checked}
 use Rattle.pass.specs.declared.Scan.{Scan}
 use Rattle.reader.specs.declared.LookedUp.{LookedUp}
 use Rattle.reader.specs.declared.Described.{Described}
+use Rattle.reader.specs.declared.Placed.{Placed}
+use Rattle.reader.specs.declared.Placed.the-variants.{At}
 use Rattle.reader.specs.declared.Sampled.{Sampled}
 use Rattle.reader.specs.declared.Sampled.the-variants.{Sample}
 use Rattle.pass.specs.Verdict.{Verdict, accepted, refused, verdict, checkedAs, checkOf}
-use Rattle.pass.specs.Scan.{zeroFrame, viewOf, foundIn, sizes, scannedIn, scanOf}
-use Rattle.reader.specs.Answer.{seenIn, seenOf, attributesIn, attributesSeen, describedIn, attributesOf, sampleIn, sampledIn, sampleOf, placeSeen}
-use Rattle.reader.proofs.Ordered.{Lies, accepted-lies, accepted-small}
+use Rattle.pass.specs.Scan.{zeroFrame, viewOf, foundIn, scannedIn, scanOf}
+use Rattle.reader.specs.Answer.{seenIn, seenOf, attributesIn, attributesSeen, describedIn, attributesOf, placedIn, placedOf, sampleIn, sampledIn, sampleOf, placeSeen}
+use Rattle.reader.proofs.Order.{asked-both, sample-both}
+use Rattle.reader.proofs.Ordered.{accepted-lies, accepted-small}
 
 checked-in : (q : Asked) (v : Verdict) → scannedIn q v .checked ≡ checkedAs v
 unfolding scannedIn checkedAs
@@ -164,20 +165,13 @@ pub record Located (s : List ℕ) (frame channel : ℕ) (w : View) : Type 0 wher
   pub channelIs : channel < length (getD frames frame zeroFrame .channels)
   pub view : w ≡ viewOf channel (getD frames frame zeroFrame)
 
-located-in : (s : List ℕ) (frame channel : ℕ) (w : View) (v : Verdict) → verdict s ≡ v → LookedUp.Channel w ≡ seenIn frame channel v → Located s frame channel w
-unfolding seenIn
-located-in s frame channel w (refused r) e f = let z : _≡_ {A = ℕ} 0 1 = cc in let a : ⊥ = omega arith in absurd a
-located-in s frame channel w (accepted fs) e f = by (ltb frame (length fs)) (ltb channel (length (getD fs frame zeroFrame .channels))) refl refl f
-  where
-    by : (a b : Bool) → ltb frame (length fs) ≡ a → ltb channel (length (getD fs frame zeroFrame .channels)) ≡ b
-        → LookedUp.Channel w ≡ pick a (pick b (LookedUp.Channel (viewOf channel (getD fs frame zeroFrame))) (LookedUp.Refused (refusal noChannel 0))) (LookedUp.Refused (refusal noFrame 0)) → Located s frame channel w
-    by true true a b g = record { frames = fs; verdictIs = e; frameIn = ltb-true frame (length fs) a; channelIs = ltb-true channel _ b; view = (cc) }
-    by true false a b g = let z : _≡_ {A = ℕ} 0 1 = cc in let x : ⊥ = omega arith in absurd x
-    by false b a c g = let z : _≡_ {A = ℕ} 0 1 = cc in let x : ⊥ = omega arith in absurd x
-
 pub located : (s : List ℕ) (frame channel : ℕ) (w : View) {r : LookedUp} → r ≡ seenOf s frame channel → r ≡ LookedUp.Channel w → Located s frame channel w
-unfolding seenOf
-located s frame channel w e f = located-in s frame channel w (verdict s) refl (sym f ∙ e)
+unfolding seenOf seenIn
+located s frame channel w e f =
+    let found : Frame → LookedUp = λ g. LookedUp.Channel (viewOf channel g) in
+    asked-both (λ (a b : LookedUp). LookedUp.Channel w ≡ a → Located s frame channel w) LookedUp.Refused LookedUp.Refused
+    (λ r q. let z : _≡_ {A = ℕ} 0 1 = cc in let a : ⊥ = omega arith in absurd a) frame channel found found (verdict s)
+    (λ fs v i c q. record { frames = fs; verdictIs = v; frameIn = i; channelIs = c; view = (cc) }) (sym f ∙ e)
 
 view-attributes : (channel : ℕ) (f : Frame) → channel < length (f .channels) → attributesSeen (viewOf channel f) ≡ attributesIn channel f
 unfolding attributesSeen viewOf attributesIn
@@ -190,60 +184,54 @@ described-found s frame channel w p =
     ∙ ap Described.Attributes (view-attributes channel (getD (p .frames) frame zeroFrame) (p .channelIs))
     ∙ sym (ap (describedIn frame channel) (p .verdictIs) ∙ simp (lt-ltb frame (length (p .frames)) (p .frameIn), lt-ltb channel _ (p .channelIs)))
 
-refused-found : (frame channel : ℕ) (x : Refusal) (v : Verdict) → LookedUp.Refused x ≡ seenIn frame channel v → Described.Refused x ≡ describedIn frame channel v
-unfolding seenIn describedIn
-refused-found frame channel x (refused r) e = let f : x ≡ r = cc in ap Described.Refused f
-refused-found frame channel x (accepted fs) e = by (ltb frame (length fs)) (ltb channel (length (getD fs frame zeroFrame .channels))) e
-  where
-    by : (a b : Bool) → LookedUp.Refused x ≡ pick a (pick b (LookedUp.Channel (viewOf channel (getD fs frame zeroFrame))) (LookedUp.Refused (refusal noChannel 0))) (LookedUp.Refused (refusal noFrame 0))
-        → Described.Refused x ≡ pick a (pick b (Described.Attributes (attributesIn channel (getD fs frame zeroFrame))) (Described.Refused (refusal noChannel 0))) (Described.Refused (refusal noFrame 0))
-    by true true g = let z : _≡_ {A = ℕ} 0 1 = cc in let y : ⊥ = omega arith in absurd y
-    by true false g = let f : x ≡ refusal noChannel 0 = cc in ap Described.Refused f
-    by false b g = let f : x ≡ refusal noFrame 0 = cc in ap Described.Refused f
-
 pub described-refused : (s : List ℕ) (frame channel : ℕ) (x : Refusal) {r : LookedUp} → r ≡ seenOf s frame channel → r ≡ LookedUp.Refused x → Described.Refused x ≡ attributesOf s frame channel
-unfolding attributesOf seenOf
-described-refused s frame channel x e f = refused-found frame channel x (verdict s) (sym f ∙ e)
+unfolding attributesOf describedIn seenOf seenIn
+described-refused s frame channel x e f =
+    asked-both (λ (a : LookedUp) (b : Described). LookedUp.Refused x ≡ a → Described.Refused x ≡ b) LookedUp.Refused Described.Refused
+    (λ r q. let y : x ≡ r = cc in ap Described.Refused y) frame channel
+    (λ g. LookedUp.Channel (viewOf channel g)) (λ g. Described.Attributes (attributesIn channel g)) (verdict s)
+    (λ fs v i c q. let z : _≡_ {A = ℕ} 0 1 = cc in let a : ⊥ = omega arith in absurd a) (sym f ∙ e)
 
--- ---- samples
+-- ---- the place of a sample
 
-view-settings : (channel : ℕ) (f : Frame) → channel < length (f .channels) → viewOf channel f .settings ≡ channelIn channel (f .channels)
-unfolding viewOf
-view-settings channel f h = simp (lt-ltb channel (length (f .channels)) h)
+-- How many samples the channel has: sequences times its block length.
+abbrev pub countSeen : View → ℕ
+countSeen v = v .sequences * v .settings .block
 
-view-place : (channel n : ℕ) (f : Frame) → channel < length (f .channels) → placeSeen (viewOf channel f) n ≡ placeOf channel n f
-unfolding placeSeen viewOf placeOf offsetOf
-view-place channel n f h =
-    ap (λ (c : Settings). f .place + (n / c .block * sequenceOctets (f .channels) + octetsBelow channel (f .channels) + n % c .block * widthIn c)) (view-settings channel f h)
+module _ {s : List ℕ} {frame channel : ℕ} {w : View} (p : Located s frame channel w) where
+  -- The frame that was found.
+  abbrev pub frameIn : Frame
+  frameIn = getD (p .frames) frame zeroFrame
 
-view-samples : (channel : ℕ) (f : Frame) → channel < length (f .channels) → viewOf channel f .sequences * viewOf channel f .settings .block ≡ samplesOf channel f
-unfolding viewOf samplesOf
-view-samples channel f h = ap (λ (c : Settings). f .sequences * c .block) (view-settings channel f h)
+  pub settings-seen : w .settings ≡ channelIn channel (frameIn .channels)
+  unfolding viewOf
+  settings-seen = ap (λ (v : View). v .settings) (p .view) ∙ simp (lt-ltb channel (length (frameIn .channels)) (p .channelIs))
 
-view-little : (channel : ℕ) (f : Frame) → viewOf channel f .little ≡ f .little
-unfolding viewOf
-view-little channel f = refl
+  pub count-seen : countSeen w ≡ samplesOf channel frameIn
+  unfolding viewOf samplesOf
+  count-seen = λ i. ap (λ (v : View). v .sequences) (p .view) i * settings-seen i .block
 
-module _ (s : List ℕ) (frame channel n : ℕ) (w : View) (p : Located s frame channel w) where
-  abbrev seen-frame : Frame
-  seen-frame = getD (p .frames) frame zeroFrame
+  pub place-is : (n : ℕ) → placeSeen w n ≡ placeOf channel n frameIn
+  unfolding viewOf placeSeen placeOf offsetOf
+  place-is n = ap (λ (v : View). placeSeen v n) (p .view) ∙ simp (lt-ltb channel (length (frameIn .channels)) (p .channelIs))
 
-  samples-seen : w .sequences * w .settings .block ≡ samplesOf channel seen-frame
-  samples-seen = ap (λ (v : View). v .sequences * v .settings .block) (p .view) ∙ view-samples channel seen-frame (p .channelIs)
+  pub little-seen : w .little ≡ frameIn .little
+  unfolding viewOf
+  little-seen = ap (λ (v : View). v .little) (p .view)
 
-  sample-by : sampleOf s frame channel n ≡ pick (ltb n (samplesOf channel seen-frame)) (sampleIn s channel n seen-frame) (Sampled.Refused (refusal noSample 0))
-  unfolding sampleOf sampledIn
-  sample-by = ap (sampledIn s frame channel n) (p .verdictIs) ∙ simp (lt-ltb frame (length (p .frames)) (p .frameIn), lt-ltb channel _ (p .channelIs))
+  placed-by : (n : ℕ) → placedOf s frame channel n ≡ pick (ltb n (samplesOf channel frameIn)) (At (placeOf channel n frameIn) (viewOf channel frameIn)) (Placed.Refused (refusal noSample 0))
+  unfolding placedOf placedIn
+  placed-by n = ap (placedIn frame channel n) (p .verdictIs) ∙ simp (lt-ltb frame (length (p .frames)) (p .frameIn), lt-ltb channel _ (p .channelIs))
 
   -- No such sample.
-  pub sample-none : w .sequences * w .settings .block ≤ n → Sampled.Refused (refusal noSample 0) ≡ sampleOf s frame channel n
-  sample-none h =
-      let k : samplesOf channel seen-frame ≤ n = omega (arith, samples-seen) in
-      sym (sample-by ∙ simp (le-ltb n (samplesOf channel seen-frame) k))
+  pub place-none : {n : ℕ} → countSeen w ≤ n → Placed.Refused (refusal noSample 0) ≡ placedOf s frame channel n
+  place-none {n} h =
+      let k : samplesOf channel frameIn ≤ n = omega (arith, count-seen) in
+      sym (placed-by n ∙ simp (le-ltb n (samplesOf channel frameIn) k))
 
-  module _ (h : n < w .sequences * w .settings .block) where
-    place-is : placeSeen w n ≡ placeOf channel n seen-frame
-    place-is = ap (λ (v : View). placeSeen v n) (p .view) ∙ view-place channel n seen-frame (p .channelIs)
+  module _ {n : ℕ} (h : n < countSeen w) where
+    number-in : n < samplesOf channel frameIn
+    number-in = omega (arith, count-seen)
 
     -- A sample lies in its frame's waveform, so that no sum on the way to its place overflows.
     pub place-small : placeSeen w n < 2 ^ 63
@@ -251,9 +239,8 @@ module _ (s : List ℕ) (frame channel n : ℕ) (w : View) (p : Located s frame 
     place-small =
         let a = accepted-lies s (p .frames) (p .verdictIs) frame (p .frameIn) in
         let b = accepted-small s (p .frames) (p .verdictIs) in
-        let k : n < seen-frame .sequences * channelIn channel (seen-frame .channels) .block = omega (arith, samples-seen) in
-        let c = offset-inside {cs = seen-frame .channels} {S = seen-frame .sequences} {c = channel} {n = n} (record { channel = p .channelIs; number = k }) in
-        rw place-is (omega (arith, a .fits, a .inside, b, c))
+        let c = offset-inside {cs = frameIn .channels} {S = frameIn .sequences} {c = channel} {n = n} (record { channel = p .channelIs; number = number-in }) in
+        rw (place-is n) (omega (arith, a .fits, a .inside, b, c))
 
     pub block-some : 0 < w .settings .block
     block-some = positive (w .sequences) (w .settings .block) h
@@ -262,34 +249,64 @@ module _ (s : List ℕ) (frame channel n : ℕ) (w : View) (p : Located s frame 
         positive a zero l = let z : ⊥ = omega (arith, rw mul-zero at l) in absurd z
         positive a (suc b) l = omega arith
 
-    -- The sample that is found.
-    pub sample-found : (place : ℕ) (v : Value) (x : List ℕ) → place ≡ placeSeen w n → x ≡ take (widthOf (w .settings .kind)) (drop place s) → v ≡ valueOf (w .settings .kind) (w .settings .null) (w .little) x → Sample place v ≡ sampleOf s frame channel n
-    unfolding sampleIn
-    sample-found place v x e ex ev =
-        let k : n < samplesOf channel seen-frame = omega (arith, samples-seen) in
-        let q : place ≡ placeOf channel n seen-frame = e ∙ place-is in
-        let c : w .settings ≡ channelIn channel (seen-frame .channels) = ap (λ (y : View). y .settings) (p .view) ∙ view-settings channel seen-frame (p .channelIs) in
-        let l : w .little ≡ seen-frame .little = ap (λ (y : View). y .little) (p .view) ∙ view-little channel seen-frame in
-        ap (Sample place) (ev ∙ ap (valueOf (w .settings .kind) (w .settings .null) (w .little)) ex)
-        ∙ (λ j. Sample (q j) (valueOf (c j .kind) (c j .null) (l j) (take (widthOf (c j .kind)) (drop (q j) s))))
-        ∙ sym (sample-by ∙ simp (lt-ltb n (samplesOf channel seen-frame) k))
+    pub place-found : {at : ℕ} → at ≡ placeSeen w n → At at w ≡ placedOf s frame channel n
+    place-found e = (λ i. At ((e ∙ place-is n) i) (p .view i)) ∙ sym (placed-by n ∙ simp (lt-ltb n (samplesOf channel frameIn) number-in))
 
-sampled-refused-in : (s : List ℕ) (frame channel n : ℕ) (x : Refusal) (v : Verdict) → LookedUp.Refused x ≡ seenIn frame channel v → Sampled.Refused x ≡ sampledIn s frame channel n v
-unfolding seenIn sampledIn
-sampled-refused-in s frame channel n x (refused r) e = let f : x ≡ r = cc in ap Sampled.Refused f
-sampled-refused-in s frame channel n x (accepted fs) e = by (ltb frame (length fs)) (ltb channel (length (getD fs frame zeroFrame .channels))) e
-  where
-    by : (a b : Bool) → LookedUp.Refused x ≡ pick a (pick b (LookedUp.Channel (viewOf channel (getD fs frame zeroFrame))) (LookedUp.Refused (refusal noChannel 0))) (LookedUp.Refused (refusal noFrame 0))
-        → Sampled.Refused x ≡ pick a (pick b (pick (ltb n (samplesOf channel (getD fs frame zeroFrame))) (sampleIn s channel n (getD fs frame zeroFrame)) (Sampled.Refused (refusal noSample 0))) (Sampled.Refused (refusal noChannel 0))) (Sampled.Refused (refusal noFrame 0))
-    by true true g = let z : _≡_ {A = ℕ} 0 1 = cc in let y : ⊥ = omega arith in absurd y
-    by true false g = let f : x ≡ refusal noChannel 0 = cc in ap Sampled.Refused f
-    by false b g = let f : x ≡ refusal noFrame 0 = cc in ap Sampled.Refused f
-
-pub sample-refused : (s : List ℕ) (frame channel n : ℕ) (x : Refusal) {r : LookedUp} → r ≡ seenOf s frame channel → r ≡ LookedUp.Refused x → Sampled.Refused x ≡ sampleOf s frame channel n
-unfolding sampleOf seenOf
-sample-refused s frame channel n x e f = sampled-refused-in s frame channel n x (verdict s) (sym f ∙ e)
+pub place-refused : (s : List ℕ) (frame channel n : ℕ) (x : Refusal) {r : LookedUp} → r ≡ seenOf s frame channel → r ≡ LookedUp.Refused x → Placed.Refused x ≡ placedOf s frame channel n
+unfolding placedOf placedIn seenOf seenIn
+place-refused s frame channel n x e f =
+    asked-both (λ (a : LookedUp) (b : Placed). LookedUp.Refused x ≡ a → Placed.Refused x ≡ b) LookedUp.Refused Placed.Refused
+    (λ r q. let y : x ≡ r = cc in ap Placed.Refused y) frame channel
+    (λ g. LookedUp.Channel (viewOf channel g))
+    (λ g. pick (ltb n (samplesOf channel g)) (At (placeOf channel n g) (viewOf channel g)) (Placed.Refused (refusal noSample 0))) (verdict s)
+    (λ fs v i c q. let z : _≡_ {A = ℕ} 0 1 = cc in let a : ⊥ = omega arith in absurd a) (sym f ∙ e)
 
 -- The place as it is computed, with the width as it was read.
 pub place-sum : (v : View) (n width : ℕ) → width ≡ widthOf (v .settings .kind) → v .place + (n / v .settings .block * v .octets + v .below + n % v .settings .block * width) ≡ placeSeen v n
 unfolding placeSeen
 place-sum v n width e = rw e
+
+-- ---- a sample, over its place
+
+-- The file is accepted and has the frame, the channel and the sample, which lies at p.
+pub record PlacedAt (s : List ℕ) (frame channel n p : ℕ) (v : View) : Type 0 where
+  pub channelAt : Located s frame channel v
+  pub number : n < countSeen v
+  pub place : p ≡ placeSeen v n
+
+module _ (s : List ℕ) (frame channel n : ℕ) {r : Placed} (e : r ≡ placedOf s frame channel n) where
+  there : {p : ℕ} {v : View} (fs : List Frame) → verdict s ≡ accepted fs → frame < length fs → channel < length (getD fs frame zeroFrame .channels) → n < samplesOf channel (getD fs frame zeroFrame)
+      → p ≡ placeOf channel n (getD fs frame zeroFrame) → v ≡ viewOf channel (getD fs frame zeroFrame) → PlacedAt s frame channel n p v
+  there fs a i c h q w =
+      let l : Located s frame channel _ = record { frames = fs; verdictIs = a; frameIn = i; channelIs = c; view = w } in
+      record { channelAt = l; number = omega (arith, count-seen l); place = q ∙ sym (place-is l n) }
+
+  pub placed-at : {p : ℕ} {v : View} → r ≡ At p v → PlacedAt s frame channel n p v
+  unfolding placedOf placedIn
+  placed-at {p} {v} f =
+      let found : Frame → Placed = λ g. At (placeOf channel n g) (viewOf channel g) in
+      sample-both (λ (a b : Placed). At p v ≡ a → PlacedAt s frame channel n p v) Placed.Refused Placed.Refused
+      (λ x q. let z : _≡_ {A = ℕ} 0 1 = cc in let a : ⊥ = omega arith in absurd a) frame channel found found n (verdict s)
+      (λ fs a i c h q. there fs a i c h (cc) (cc)) (sym f ∙ e)
+
+  pub sample-refused : {x : Refusal} → r ≡ Placed.Refused x → Sampled.Refused x ≡ sampleOf s frame channel n
+  unfolding placedOf placedIn sampleOf sampledIn
+  sample-refused {x} f =
+      sample-both (λ (a : Placed) (b : Sampled). Placed.Refused x ≡ a → Sampled.Refused x ≡ b) Placed.Refused Sampled.Refused
+      (λ r q. let y : x ≡ r = cc in ap Sampled.Refused y) frame channel
+      (λ g. At (placeOf channel n g) (viewOf channel g)) (sampleIn s channel n) n (verdict s)
+      (λ fs a i c h q. let z : _≡_ {A = ℕ} 0 1 = cc in let a : ⊥ = omega arith in absurd a) (sym f ∙ e)
+
+-- The sample that lies at the place that was found.
+module _ {s : List ℕ} {frame channel n p : ℕ} {w : View} (m : PlacedAt s frame channel n p w) where
+  pub sample-found : {v : Value} {width : ℕ} {x : List ℕ} → width ≡ widthOf (w .settings .kind) → x ≡ take width (drop p s) → v ≡ valueOf (w .settings .kind) (w .settings .null) (w .little) x → Sample p v ≡ sampleOf s frame channel n
+  unfolding sampleIn sampleOf sampledIn
+  sample-found ew ex ev =
+      let l = m .channelAt in
+      let k : n < samplesOf channel (frameIn l) = omega (arith, count-seen l, m .number) in
+      let q : p ≡ placeOf channel n (frameIn l) = m .place ∙ place-is l n in
+      let c = settings-seen l in
+      let o = little-seen l in
+      ap (Sample p) (ev ∙ ap (valueOf (w .settings .kind) (w .settings .null) (w .little)) (rw ew at ex))
+      ∙ (λ j. Sample (q j) (valueOf (c j .kind) (c j .null) (o j) (take (widthOf (c j .kind)) (drop (q j) s))))
+      ∙ sym (ap (sampledIn s frame channel n) (l .verdictIs) ∙ simp (lt-ltb frame (length (l .frames)) (l .frameIn), lt-ltb channel _ (l .channelIs), lt-ltb n _ k))

@@ -3,4 +3,5 @@ pub mod Ordered
 pub mod Tables
 pub mod Good
 pub mod Never
+pub mod Order
 pub mod Answers

@@ -6,6 +6,7 @@ use lib.Dec.{ltb}
 use lib.ListN.{length, getD, take, drop}
 use Rattle.octets.specs.Pick.{pick}
 use Rattle.values.specs.Sample.{valueOf}
+use Rattle.heads.specs.declared.Refusal.{Refusal}
 use Rattle.heads.specs.Refusals.{noFrame, noChannel, noSample}
 use Rattle.items.specs.Walk.{refusal}
 use Rattle.layout.specs.Frame.{Frame, widthIn, offsetBits, channelIn, samplesOf, placeOf}
@@ -13,10 +14,28 @@ use Rattle.pass.specs.declared.View.{View}
 use Rattle.reader.specs.declared.Attributes.{Attributes}
 use Rattle.reader.specs.declared.Described.{Described}
 use Rattle.reader.specs.declared.LookedUp.{LookedUp}
+use Rattle.reader.specs.declared.Placed.{Placed}
+use Rattle.reader.specs.declared.Placed.the-variants.{At}
 use Rattle.reader.specs.declared.Sampled.{Sampled}
 use Rattle.reader.specs.declared.Sampled.the-variants.{Sample}
 use Rattle.pass.specs.Verdict.{Verdict, accepted, refused, verdict}
 use Rattle.pass.specs.Scan.{zeroFrame, viewOf}
+
+-- ---- the order of the refusals
+
+-- A question on a refused file answers that file's refusal; then 20, 21 in that order; and else what is asked of the frame.
+abbrev pub asked : {A : Type 0} → (Refusal → A) → (Frame → A) → ℕ → ℕ → Verdict → A
+asked refuse answer frame channel (refused r) = refuse r
+asked refuse answer frame channel (accepted fs) =
+    let f = getD fs frame zeroFrame in
+    pick (ltb frame (length fs))
+    (pick (ltb channel (length (f .channels))) (answer f) (refuse (refusal noChannel 0)))
+    (refuse (refusal noFrame 0))
+
+-- Where a question names a sample too, 22 comes after them.
+abbrev pub askedSample : {A : Type 0} → (Refusal → A) → (Frame → A) → ℕ → ℕ → ℕ → Verdict → A
+askedSample refuse answer frame channel n v =
+    asked refuse (λ f. pick (ltb n (samplesOf channel f)) (answer f) (refuse (refusal noSample 0))) frame channel v
 
 -- ---- attributes
 
@@ -38,15 +57,9 @@ attributesIn channel f =
       null = c .null;
     }
 
--- A question on a refused file answers that file's refusal; then 20, 21 in that order.
+-- The attributes that a question answers, by the verdict on the file.
 unfoldable pub describedIn : ℕ → ℕ → Verdict → Described
-describedIn frame channel (refused r) = Described.Refused r
-describedIn frame channel (accepted fs) =
-    let f = getD fs frame zeroFrame in
-    pick (ltb frame (length fs))
-    (pick (ltb channel (length (f .channels))) (Described.Attributes (attributesIn channel f))
-    (Described.Refused (refusal noChannel 0)))
-    (Described.Refused (refusal noFrame 0))
+describedIn frame channel v = asked Described.Refused (λ f. Described.Attributes (attributesIn channel f)) frame channel v
 
 -- The attributes of a channel in a frame of a file.
 unfoldable pub attributesOf : List ℕ → ℕ → ℕ → Described
@@ -61,17 +74,9 @@ sampleIn s channel n f =
     let place = placeOf channel n f in
     Sample place (valueOf (c .kind) (c .null) (f .little) (take (widthIn c) (drop place s)))
 
--- The file's refusal; then 20, 21, 22 in that order.
+-- The sample that a question answers, by the verdict on the file.
 unfoldable pub sampledIn : List ℕ → ℕ → ℕ → ℕ → Verdict → Sampled
-sampledIn s frame channel n (refused r) = Sampled.Refused r
-sampledIn s frame channel n (accepted fs) =
-    let f = getD fs frame zeroFrame in
-    pick (ltb frame (length fs))
-    (pick (ltb channel (length (f .channels)))
-    (pick (ltb n (samplesOf channel f)) (sampleIn s channel n f)
-    (Sampled.Refused (refusal noSample 0)))
-    (Sampled.Refused (refusal noChannel 0)))
-    (Sampled.Refused (refusal noFrame 0))
+sampledIn s frame channel n v = askedSample Sampled.Refused (sampleIn s channel n) frame channel n v
 
 -- A sample of a file, by frame, channel and number.
 unfoldable pub sampleOf : List ℕ → ℕ → ℕ → ℕ → Sampled
@@ -79,18 +84,21 @@ sampleOf s frame channel n = sampledIn s frame channel n (verdict s)
 
 -- ---- what the answers are made of
 
--- The channel that a question names, as the pass keeps it: the file's refusal; then 20, 21.
+-- The channel that a question names, as the pass keeps it, by the verdict on the file.
 unfoldable pub seenIn : ℕ → ℕ → Verdict → LookedUp
-seenIn frame channel (refused r) = LookedUp.Refused r
-seenIn frame channel (accepted fs) =
-    let f = getD fs frame zeroFrame in
-    pick (ltb frame (length fs))
-    (pick (ltb channel (length (f .channels))) (LookedUp.Channel (viewOf channel f)) (LookedUp.Refused (refusal noChannel 0)))
-    (LookedUp.Refused (refusal noFrame 0))
+seenIn frame channel v = asked LookedUp.Refused (λ f. LookedUp.Channel (viewOf channel f)) frame channel v
 
 -- The same for a file.
 unfoldable pub seenOf : List ℕ → ℕ → ℕ → LookedUp
 seenOf s frame channel = seenIn frame channel (verdict s)
+
+-- The place of the sample that a question names, with its channel as the pass keeps it.
+unfoldable pub placedIn : ℕ → ℕ → ℕ → Verdict → Placed
+placedIn frame channel n v = askedSample Placed.Refused (λ f. At (placeOf channel n f) (viewOf channel f)) frame channel n v
+
+-- The same for a file.
+unfoldable pub placedOf : List ℕ → ℕ → ℕ → ℕ → Placed
+placedOf s frame channel n = placedIn frame channel n (verdict s)
 
 -- The attributes of a channel that is seen.
 unfoldable pub attributesSeen : View → Attributes

@@ -1,13 +1,13 @@
 // The reader: every attribute and sample found.
 //
 // Promises, for any octets at all: `check` counts the frames or answers the refusal of document 01 with its number and place;
-// `describe` answers what stands for a channel in a frame, and `sample` where a sample lies and what it is, or a refusal. All three are
-// thin over `pass::scan_file`, which walks the file once.
+// `describe` answers what stands for a channel in a frame, `place` where a sample lies, and `sample` where it lies and what it is, or a
+// refusal. All are thin over `pass::scan_file`, which walks the file once.
 // Read first: in crate pass specs/Verdict.antt (the file), then specs/Answer.antt (the questions).
 ghost use mathlib.Core.Path.{_≡_};
 ghost use Prim.Native.Nat.{_^_, _<_};
 ghost use Rattle.pass.specs.Verdict.{checkOf};
-ghost use Rattle.reader.specs.Answer.{attributesSeen, attributesOf, placeSeen, sampleOf, seenOf};
+ghost use Rattle.reader.specs.Answer.{attributesSeen, attributesOf, placeSeen, placedOf, sampleOf, seenOf};
 use heads::Refusal;
 use pass::Asked;
 use pass::Checked;
@@ -136,6 +136,12 @@ pub fn describe(s: &[u8], frame: u32, channel: u32) -> Described
     }
 }
 
+// The place of a sample and its channel, or why there is none.
+pub enum Placed {
+    At(usize, View),
+    Refused(Refusal),
+}
+
 // The place of a sample of the channel that is seen.
 fn place_seen(v: View, number: u64) -> usize
     requires { ⌜ (0 < v .settings .block) × (placeSeen v number < 2 ^ 63) ⌝ }
@@ -148,26 +154,37 @@ fn place_seen(v: View, number: u64) -> usize
     (v.place as u64 + offset) as usize
 }
 
-// The place and value of a sample.
-pub fn sample(s: &[u8], frame: u32, channel: u32, number: u64) -> Sampled
-    ensures { λ r. ⌜ r ≡ sampleOf (now (s .entry)) frame channel number ⌝ }
+// The place of a sample and its channel: the file's refusal, then 20, 21, 22.
+pub fn place(s: &[u8], frame: u32, channel: u32, number: u64) -> Placed
+    ensures { λ r. ⌜ r ≡ placedOf (now (s .entry)) frame channel number ⌝ }
 {
     match look_up(s, frame, channel) {
-        LookedUp::Refused(x) => Sampled::Refused(x),
+        LookedUp::Refused(x) => Placed::Refused(x),
         LookedUp::Channel(v) => {
             let c = v.settings;
             let count = v.sequences as u64 * c.block as u64;
             if count <= number {
-                return Sampled::Refused(Refusal {
+                return Placed::Refused(Refusal {
                     number: Refusal::NO_SAMPLE,
                     place: 0,
                 });
             }
-            let place = place_seen(v, number);
-            let w = values::width(c.kind);
+            Placed::At(place_seen(v, number), v)
+        }
+    }
+}
+
+// The place and value of a sample.
+pub fn sample(s: &[u8], frame: u32, channel: u32, number: u64) -> Sampled
+    ensures { λ r. ⌜ r ≡ sampleOf (now (s .entry)) frame channel number ⌝ }
+{
+    match place(s, frame, channel, number) {
+        Placed::Refused(x) => Sampled::Refused(x),
+        Placed::At(at, v) => {
+            let c = v.settings;
             let null = c.null;
-            let octets = octets::part(s, place, w);
-            Sampled::Sample(place, values::sample_value(octets, v.little, c.kind, null))
+            let octets = octets::part(s, at, values::width(c.kind));
+            Sampled::Sample(at, values::sample_value(octets, v.little, c.kind, null))
         }
     }
 }

@@ -1,3 +1,4 @@
 pub mod Places
 pub mod Turned
 pub mod Samples
+pub mod Blocks

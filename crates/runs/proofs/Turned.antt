@@ -1,11 +1,11 @@
 -- Laws of samples turned round.
-use mathlib.Core.Path.{_≡_, refl, ap, _∙_}
+use mathlib.Core.Path.{_≡_, refl, sym, ap, _∙_}
 use mathlib.Core.List.{List, [], _∷_, _++_, reverse, append-assoc}
 use Prim.Native.Nat.{ℕ, zero, suc, _+_, _*_, _-_, _≤_, _<_}
 use native.Mathlib.Nat.{zero-add, suc-add, add-comm, zero-mul, suc-mul, add-mul}
 use native.Mathlib.Omega.{arith}
-use lib.ListN.{length, take, drop, length-append, length-reverse, length-drop}
-use lib.Seq.{drop-drop, drop-at, take-at, take-nil, length-take-le}
+use lib.ListN.{length, take, drop, length-append, length-reverse, length-drop, take-append-drop}
+use lib.Seq.{drop-drop, drop-at, take-at, take-nil, take-append-le, drop-append-le, length-take-le}
 use borrow.Author.Tests.{le-leb, lt-leb}
 use Rattle.runs.specs.Turned.{turned, turnedRun}
 
@@ -15,6 +15,20 @@ unfolding turned
 turned-add w zero n xs = rw (zero-add, zero-mul)
 turned-add w (suc k) n xs =
     rw (suc-add, suc-mul, add-comm (k * w) w, ← drop-drop (k * w) w xs, append-assoc, turned-add w k n (drop w xs))
+
+-- Samples that are there are turned round from them alone.
+turned-front : (w n : ℕ) (xs ys : List ℕ) → n * w ≤ length xs → turned w n (xs ++ ys) ≡ turned w n xs
+unfolding turned
+turned-front w zero xs ys h = refl
+turned-front w (suc n) xs ys h =
+    let m : suc n * w ≡ n * w + w = suc-mul n w in
+    let l : length (drop w xs) ≡ length xs - w = length-drop w xs in
+    rw (take-append-le w xs ys (omega arith), drop-append-le w xs ys (omega arith), turned-front w n (drop w xs) ys (omega arith))
+
+pub turned-take : (w n m : ℕ) (xs : List ℕ) → n * w ≤ m → m ≤ length xs → turned w n (take m xs) ≡ turned w n xs
+turned-take w n m xs h l =
+    let k = length-take-le m xs l in
+    sym (turned-front w n (take m xs) (drop m xs) (omega arith)) ∙ ap (turned w n) (take-append-drop m xs)
 
 -- One octet turned round is itself.
 pub turned-one : (n : ℕ) (xs : List ℕ) → turned 1 n xs ≡ take n xs

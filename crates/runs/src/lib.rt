@@ -11,6 +11,7 @@ ghost use lib.ListN.{length, take, drop};
 ghost use lib.Seq.{sets};
 ghost use Rattle.stores.specs.Storing.{Putting};
 ghost use Rattle.runs.specs.Turned.{turned, turnedRun};
+ghost use Rattle.runs.specs.Eight.{octetsOf};
 
 // How many of the n octets from `from` on stand within `size`.
 fn within(size: usize, from: usize, n: usize) -> usize
@@ -73,19 +74,93 @@ fn turn_each(src: &[u8], from: usize, n: usize, w: usize, dst: &mut [u8], at: us
     }
 }
 
-// Stores eight octets.
-fn store8(dst: &mut [u8], p: usize, a: u8, b: u8, c: u8, d: u8, e: u8, f: u8, g: u8, h: u8)
-    requires { ⌜ p + 8 ≤ length (now dst) ⌝ }
-    ensures { λ _. ⌜ now (dst .exit) ≡ sets (now (dst .entry)) p (a ∷ b ∷ c ∷ d ∷ e ∷ f ∷ g ∷ h ∷ []) ⌝ }
+// Eight octets in a row.
+struct Eight {
+    a: u8,
+    b: u8,
+    c: u8,
+    d: u8,
+    e: u8,
+    f: u8,
+    g: u8,
+    h: u8,
+}
+
+// Reads eight octets.
+fn read8(src: &[u8], q: usize) -> Eight
+    requires { ⌜ q + 8 ≤ length (now src) ⌝ }
+    ensures { λ r. ⌜ octetsOf r ≡ take 8 (drop q (now (src .entry))) ⌝ }
+{
+    Eight {
+        a: src[q],
+        b: src[q + 1],
+        c: src[q + 2],
+        d: src[q + 3],
+        e: src[q + 4],
+        f: src[q + 5],
+        g: src[q + 6],
+        h: src[q + 7],
+    }
+}
+
+// The samples of w octets in them, each turned round.
+fn turn8(x: Eight, w: usize) -> Eight
+    requires { ⌜ (w ≡ 2) ⊎ ((w ≡ 4) ⊎ (w ≡ 8)) ⌝ }
+    ensures { λ r. ⌜ octetsOf r ≡ turned w (8 / w) (octetsOf x) ⌝ }
+{
+    if w == 2 {
+        return Eight {
+            a: x.b,
+            b: x.a,
+            c: x.d,
+            d: x.c,
+            e: x.f,
+            f: x.e,
+            g: x.h,
+            h: x.g,
+        };
+    }
+    if w == 4 {
+        return Eight {
+            a: x.d,
+            b: x.c,
+            c: x.b,
+            d: x.a,
+            e: x.h,
+            f: x.g,
+            g: x.f,
+            h: x.e,
+        };
+    }
+    Eight {
+        a: x.h,
+        b: x.g,
+        c: x.f,
+        d: x.e,
+        e: x.d,
+        f: x.c,
+        g: x.b,
+        h: x.a,
+    }
+}
+
+// Stores four octets, and eight.
+fn store4(dst: &mut [u8], p: usize, a: u8, b: u8, c: u8, d: u8)
+    requires { ⌜ p + 4 ≤ length (now dst) ⌝ }
+    ensures { λ _. ⌜ now (dst .exit) ≡ sets (now (dst .entry)) p (a ∷ b ∷ c ∷ d ∷ []) ⌝ }
 {
     dst[p] = a;
     dst[p + 1] = b;
     dst[p + 2] = c;
     dst[p + 3] = d;
-    dst[p + 4] = e;
-    dst[p + 5] = f;
-    dst[p + 6] = g;
-    dst[p + 7] = h;
+}
+
+fn store8(dst: &mut [u8], p: usize, x: Eight)
+    requires { ⌜ p + 8 ≤ length (now dst) ⌝ }
+    ensures { λ _. ⌜ now (dst .exit) ≡ sets (now (dst .entry)) p (octetsOf x) ⌝ }
+{
+    store4(dst, p, x.a, x.b, x.c, x.d);
+    store4(dst, p + 4, x.e, x.f, x.g, x.h);
 }
 
 // Turns the samples of 16 octets round. All reads stand before all stores, so that the compiler makes wide moves.
@@ -95,34 +170,10 @@ fn turn_block(src: &[u8], q: usize, w: usize, dst: &mut [u8], p: usize)
     requires { ⌜ p + 16 ≤ length (now dst) ⌝ }
     ensures { λ _. ⌜ now (dst .exit) ≡ sets (now (dst .entry)) p (turned w (16 / w) (drop q (now (src .entry)))) ⌝ }
 {
-    let x0 = src[q];
-    let x1 = src[q + 1];
-    let x2 = src[q + 2];
-    let x3 = src[q + 3];
-    let x4 = src[q + 4];
-    let x5 = src[q + 5];
-    let x6 = src[q + 6];
-    let x7 = src[q + 7];
-    let x8 = src[q + 8];
-    let x9 = src[q + 9];
-    let x10 = src[q + 10];
-    let x11 = src[q + 11];
-    let x12 = src[q + 12];
-    let x13 = src[q + 13];
-    let x14 = src[q + 14];
-    let x15 = src[q + 15];
-    if w == 2 {
-        store8(dst, p, x1, x0, x3, x2, x5, x4, x7, x6);
-        store8(dst, p + 8, x9, x8, x11, x10, x13, x12, x15, x14);
-        return;
-    }
-    if w == 4 {
-        store8(dst, p, x3, x2, x1, x0, x7, x6, x5, x4);
-        store8(dst, p + 8, x11, x10, x9, x8, x15, x14, x13, x12);
-        return;
-    }
-    store8(dst, p, x7, x6, x5, x4, x3, x2, x1, x0);
-    store8(dst, p + 8, x15, x14, x13, x12, x11, x10, x9, x8);
+    let x = read8(src, q);
+    let y = read8(src, q + 8);
+    store8(dst, p, turn8(x, w));
+    store8(dst, p + 8, turn8(y, w));
 }
 
 // Turns n samples of w octets round, 16 octets at a time and then the rest.

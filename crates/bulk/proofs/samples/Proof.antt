@@ -5,7 +5,7 @@ use native.Mathlib.Nat.{mul-le-mul}
 use native.Mathlib.Omega.{arith}
 use lib.Seq.{sets}
 use Rattle.bulk.specs.Walked.{Wide}
-use Rattle.bulk.proofs.Placing.{placed-at}
+use Rattle.reader.proofs.Answers.{placed-at}
 use Rattle.bulk.proofs.Reading.{block-some, rest-low, kind-seen, width-wide, in-blocks, seen-bits, read-samples, read-refused, kept, filled}
 use borrow.Author.Needs.{needs}
 use Rattle.bulk.proofs.samples.Statement.{statement}

@@ -1,27 +1,13 @@
 -- `runs::turn_blocks` meets its contract. The loop's invariant: the samples that are left give the buffer that is wanted.
 use borrow.Author.Needs.{needs}
-use mathlib.Core.Path.{_≡_, refl, _∙_}
-use mathlib.Core.Logic.{_⊎_, ⊎-elim}
-use Prim.Native.Nat.{ℕ, _*_, _/_, _≤_, _<_}
+use mathlib.Core.Path.{refl, _∙_}
+use Prim.Native.Nat.{ℕ, _*_, _/_, _≤_}
 use native.Mathlib.Nat.{mul-le-mul-right}
 use native.Mathlib.Omega.{arith}
+use Rattle.runs.proofs.Blocks.{Whole, whole}
 use Rattle.runs.proofs.Samples.{Left, left-less}
 use Rattle.runs.proofs.turn_blocks.Statement.{statement}
 use Rattle.runs.proofs.turn_blocks.Tie as tie
-
--- What the widths of the fast way have in common.
-record Whole (w : ℕ) : Type 0 where
-  some : 0 < w
-  each : 0 < 16 / w
-  size : 16 / w * w ≡ 16
-
-whole : {w : ℕ} → (w ≡ 2) ⊎ ((w ≡ 4) ⊎ (w ≡ 8)) → Whole w
-whole =
-    ⊎-elim
-    (λ e. rw e (record { some = omega arith; each = omega arith; size = refl }))
-    (⊎-elim
-    (λ e. rw e (record { some = omega arith; each = omega arith; size = refl }))
-    (λ e. rw e (record { some = omega arith; each = omega arith; size = refl })))
 
 -- Where a block's samples are left, 16 octets are.
 block : {w left : ℕ} → Whole w → 16 / w ≤ left → 16 ≤ left * w

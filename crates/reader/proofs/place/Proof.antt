@@ -2,11 +2,10 @@
 use Prim.Native.Nat.{_≤_}
 use native.Mathlib.Nat.{mul-le-mul}
 use native.Mathlib.Omega.{arith}
-use Rattle.reader.proofs.Answers.{located, place-small, block-some}
-use Rattle.bulk.proofs.Placing.{placed-refused, placed-none, placed-found}
+use Rattle.reader.proofs.Answers.{located, place-refused, place-none, place-small, block-some, place-found}
 use borrow.Author.Needs.{needs}
-use Rattle.bulk.proofs.place.Statement.{statement}
-use Rattle.bulk.proofs.place.Tie as tie
+use Rattle.reader.proofs.place.Statement.{statement}
+use Rattle.reader.proofs.place.Tie as tie
 
 look-up-requires : tie.Need-look-up-requires
 look-up-requires c κs = search needs
@@ -30,18 +29,18 @@ mul-count c =
     omega (arith, mul-le-mul p q)
 
 returns : tie.Need-returns
-returns c = placed-none _ _ _ _ (c .before .before .before .before .before .before .before .look-up .ensures) _ (c .before .before .before .before .before .v .given .1) (c .if1 .taken)
+returns c = place-none (located _ _ _ _ (c .before .before .before .before .before .before .before .look-up .ensures) (c .before .before .before .before .before .v .given .1)) (c .if1 .taken)
 
 place-seen-requires : tie.Need-place-seen-requires
 place-seen-requires c κs =
     let l = located _ _ _ _ (c .before .before .before .before .before .before .before .look-up .ensures) (c .before .before .before .before .before .v .given .1) in
-    (block-some _ _ _ _ _ l (c .if1 .left), place-small _ _ _ _ _ l (c .if1 .left))
+    (block-some l (c .if1 .left), place-small l (c .if1 .left))
 
 returns-2 : tie.Need-returns-2
-returns-2 c = placed-refused _ _ _ _ (c .before .before .before .look-up .ensures) _ (c .before .x .given .1)
+returns-2 c = place-refused _ _ _ _ _ (c .before .before .before .look-up .ensures) (c .before .x .given .1)
 
 returns-3 : tie.Need-returns-3
-returns-3 c = placed-found _ _ _ _ (c .before .before .before .before .before .before .before .before .look-up .ensures) _ (c .before .before .before .before .before .before .v .given .1) _ (c .before .if1 .left) (c .place-seen .ensures)
+returns-3 c = place-found (located _ _ _ _ (c .before .before .before .before .before .before .before .before .look-up .ensures) (c .before .before .before .before .before .before .v .given .1)) (c .before .if1 .left) (c .place-seen .ensures)
 
 pub place-spec : {M : Type 1} → statement M
 place-spec =

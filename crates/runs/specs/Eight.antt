@@ -1,0 +1,8 @@
+-- Eight octets in a row, which the fast way moves at once. No public contract cites this.
+use mathlib.Core.List.{List, [], _∷_}
+use Prim.Native.Nat.{ℕ}
+use Rattle.runs.specs.declared.Eight.{Eight}
+
+-- They as a list.
+abbrev pub octetsOf : Eight → List ℕ
+octetsOf x = x .a ∷ x .b ∷ x .c ∷ x .d ∷ x .e ∷ x .f ∷ x .g ∷ x .h ∷ []
