@@ -19,6 +19,7 @@ unfoldable pub bitsIn : List ℕ → ℕ → ℕ → ℕ → Verdict → ℕ
 bitsIn s frame channel n (refused r) = 0
 bitsIn s frame channel n (accepted fs) = bitsAt s channel (getD fs frame zeroFrame) n
 
+-- The same by the verdict on the file.
 unfoldable pub bitsOf : List ℕ → ℕ → ℕ → ℕ → ℕ
 bitsOf s frame channel n = bitsIn s frame channel n (verdict s)
 
@@ -33,6 +34,7 @@ unfoldable pub readIn : ℕ → ℕ → ℕ → ℕ → Verdict → Read
 readIn room frame channel first v =
     askedSample Read.Refused (λ f. Samples (min room (samplesOf channel f - first))) frame channel first v
 
+-- The same for a file.
 unfoldable pub readOf : List ℕ → ℕ → ℕ → ℕ → ℕ → Read
 readOf s frame channel first room = readIn room frame channel first (verdict s)
 

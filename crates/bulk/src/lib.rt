@@ -5,7 +5,7 @@
 // Read first: specs/Samples.antt, then `samples` and upwards. A change to a loop wants its speed measured again: each width has a loop
 // of its own, with straight-line reads, because the compiler makes one wide load of them only so.
 ghost use mathlib.Core.Path.{_≡_};
-ghost use Prim.Native.Nat.{_+_, _*_, _^_, _≤_, _<_, min};
+ghost use Prim.Native.Nat.{_+_, _*_, _≤_, min};
 ghost use lib.ListN.{length};
 ghost use lib.Seq.{sets};
 ghost use Rattle.bulk.specs.Samples.{bitsFrom, readOf, bufferAfter};

@@ -3,6 +3,6 @@ use mathlib.Core.List.{List, [], _∷_}
 use Prim.Native.Nat.{ℕ}
 use Rattle.runs.specs.declared.Eight.{Eight}
 
--- They as a list.
+-- The eight octets as a list.
 abbrev pub octetsOf : Eight → List ℕ
 octetsOf x = x .a ∷ x .b ∷ x .c ∷ x .d ∷ x .e ∷ x .f ∷ x .g ∷ x .h ∷ []
