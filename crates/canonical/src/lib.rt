@@ -14,7 +14,6 @@ ghost use lib.ListN.{length, take};
 ghost use lib.Signed.{mag};
 ghost use Rattle.stores.specs.Storing.{Put};
 ghost use Rattle.layout.specs.Frame.{sequenceOctets};
-ghost use Rattle.layout.specs.Measure.{layoutOf};
 ghost use Rattle.laid.specs.Turned.{Even, turnedAll};
 ghost use Rattle.layout.specs.Size.{groupsSize, frameSize};
 ghost use Rattle.groups.specs.Group.{settled, groupsOctets};
@@ -25,7 +24,6 @@ use framing::Framed;
 use heads::Refusal;
 use items::Cursor;
 use items::Next;
-use layout::Layout;
 use pass::Asked;
 use pass::Checked;
 use settings::Settings;
@@ -161,20 +159,6 @@ fn put_order(out: &mut [u8]) -> usize
     stores::put_octet(out, a, 0x00)
 }
 
-// The layout of the first `count` channels.
-fn layout_of(table: [Settings; 256], count: usize) -> Layout
-    requires { ⌜ count ≤ 256 ⌝ }
-    ensures { λ r. ⌜ r ≡ layoutOf 0 (take count table) ⌝ }
-{
-    let mut l = Layout::none();
-    let mut i = 0usize;
-    while i < count {
-        l = l.more(i, 0, table[i]);
-        i += 1;
-    }
-    l
-}
-
 // Writes the frames of an accepted file that has some, behind 01 01 00.
 fn write_frames(s: &[u8], out: &mut [u8]) -> usize
     requires { ⌜ Ready (now s) (now out) ⌝ }
@@ -218,7 +202,7 @@ fn write_frames(s: &[u8], out: &mut [u8]) -> usize
                         }
                     }
                     Effect::Frame { start, len } => {
-                        let l = layout_of(table, n);
+                        let l = layout::layout_of(table, n);
                         match framing::frame_of(frames, st, l.agree, l.octets, len) {
                             Framed::Refused(_) => {
                                 return at;

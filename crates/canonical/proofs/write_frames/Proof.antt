@@ -15,7 +15,7 @@ use Rattle.canonical.proofs.write_frames.Statement.{statement}
 use Rattle.canonical.proofs.write_frames.Tie as tie
 use Rattle.canonical.proofs.write_frames.Reads as reads
 use Rattle.canonical.proofs.write_frames.Lts as lts
-use Rattle.canonical.proofs.layout_of.Reads as layout-of-reads
+use Rattle.layout.proofs.layout_of.Reads as layout-of-reads
 use Rattle.canonical.proofs.put_frame.Reads as put-frame-reads
 use Rattle.canonical.proofs.put_order.Reads as put-order-reads
 use Rattle.effects.proofs.item_effect.Reads as item-effect-reads
@@ -243,7 +243,7 @@ enum-known-effect-3 c = search needs
 -- src/lib.rt:355:29
 layout-of-requires :
     tie.Need-layout-of-requires Inv-loop2 μ-loop2 Inv-loop3 μ-loop3 Inv-loop μ-loop
-layout-of-requires c κs = c .before .before .before .before .loop2 .inv .0
+layout-of-requires c κs = search needs
 
 -- src/lib.rt:356:31
 frame-of-requires : tie.Need-frame-of-requires Inv-loop2 μ-loop2 Inv-loop3 μ-loop3 Inv-loop μ-loop

@@ -1,44 +1,35 @@
 -- Its parts are small.
-use mathlib.Core.Path.{_≡_, ap, sym, _∙_}
 use native.Mathlib.Omega.{arith}
 use Rattle.layout.specs.Size.{frameSize}
 use borrow.Author.Needs.{needs}
-use Rattle.pass.proofs.frame_size.Statement.{statement}
-use Rattle.pass.proofs.frame_size.Tie as tie
-use Rattle.pass.proofs.frame_size.Reads as reads
-use Rattle.pass.proofs.frame_size.Lts as lts
-use Rattle.pass.proofs.length_size.Reads as length-size-reads
-use Rattle.pass.proofs.sequences_size.Reads as sequences-size-reads
+use Rattle.layout.proofs.frame_size.Statement.{statement}
+use Rattle.layout.proofs.frame_size.Tie as tie
+use Rattle.layout.proofs.frame_size.Reads as reads
+use Rattle.layout.proofs.frame_size.Lts as lts
+use Rattle.layout.proofs.length_size.Reads as length-size-reads
+use Rattle.layout.proofs.sequences_size.Reads as sequences-size-reads
 
--- src/lib.rt:517:10
 sequences-size-requires : tie.Need-sequences-size-requires
 sequences-size-requires c κs = search needs
 
--- src/lib.rt:517:5
 add-result : tie.Need-add-result
 add-result c = search needs
 
--- src/lib.rt:517:5
 add-result-2 : tie.Need-add-result-2
 add-result-2 c = search needs
 
--- src/lib.rt:517:52
 length-size-requires : tie.Need-length-size-requires
 length-size-requires c κs = search needs
 
--- src/lib.rt:517:48
 add-result-3 : tie.Need-add-result-3
 add-result-3 c = search needs
 
--- src/lib.rt:517:48
 add-result-4 : tie.Need-add-result-4
 add-result-4 c = search needs
 
--- src/lib.rt:517:5
 add-result-5 : tie.Need-add-result-5
 add-result-5 c = search needs
 
--- src/lib.rt:513:1
 returns : tie.Need-returns
 unfolding frameSize
 returns c = (simp (c .before .sequences-size .ensures .0, c .length-size .ensures .0), omega arith)

@@ -1,29 +1,23 @@
 -- Each way out is what its tests say.
-use mathlib.Core.Path.{_≡_, ap, sym, _∙_}
-use borrow.Author.Tests.{lt-ltb, le-ltb, eq-eqb, ne-eqb}
+use borrow.Author.Tests.{lt-ltb, le-ltb}
 use native.Mathlib.Omega.{arith}
-use Rattle.pass.proofs.length_size.Statement.{statement}
-use Rattle.pass.proofs.length_size.Tie as tie
-use Rattle.pass.proofs.length_size.Reads as reads
-use Rattle.pass.proofs.length_size.Lts as lts
+use Rattle.layout.proofs.length_size.Statement.{statement}
+use Rattle.layout.proofs.length_size.Tie as tie
+use Rattle.layout.proofs.length_size.Reads as reads
+use Rattle.layout.proofs.length_size.Lts as lts
 
--- src/lib.rt:491:9
 returns : tie.Need-returns
 returns c = (simp (lt-ltb _ 128 (c .if1 .taken)), omega arith)
 
--- src/lib.rt:494:9
 returns-2 : tie.Need-returns-2
 returns-2 c = (simp (le-ltb _ 128 (c .before .if1 .left), lt-ltb _ 256 (c .if2 .taken)), omega arith)
 
--- src/lib.rt:497:9
 returns-3 : tie.Need-returns-3
 returns-3 c = (simp (le-ltb _ 128 (c .before .before .if1 .left), le-ltb _ 256 (c .before .if2 .left), lt-ltb _ 65536 (c .if3 .taken)), omega arith)
 
--- src/lib.rt:500:9
 returns-4 : tie.Need-returns-4
 returns-4 c = (simp (le-ltb _ 128 (c .before .before .before .if1 .left), le-ltb _ 256 (c .before .before .if2 .left), le-ltb _ 65536 (c .before .if3 .left), lt-ltb _ 16777216 (c .if4 .taken)), omega arith)
 
--- src/lib.rt:487:1
 returns-5 : tie.Need-returns-5
 returns-5 c = (simp (le-ltb _ 128 (c .before .before .before .if1 .left), le-ltb _ 256 (c .before .before .if2 .left), le-ltb _ 65536 (c .before .if3 .left), le-ltb _ 16777216 (c .if4 .left)), omega arith)
 
