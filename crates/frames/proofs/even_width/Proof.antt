@@ -1,22 +1,20 @@
 -- Every channel passed has the first one's width.
-use borrow.Author.Tests.{eqb-true}
-use Prim.Native.Nat.{ℕ, _+_, _-_, _*_, _≤_, _<_}
-use mathlib.Core.Path.{_≡_, refl, ap, sym, _∙_}
-use mathlib.Core.List.{List, map}
+use Prim.Native.Nat.{ℕ, _-_, _≤_, _<_}
+use mathlib.Core.Path.{_≡_, ap, sym, _∙_}
+use mathlib.Core.List.{List}
 use native.Mathlib.Omega.{arith}
 use borrow.Author.Needs.{needs}
-use lib.ListN.{length, take, drop, getD}
+use lib.ListN.{length, take, getD}
 use Rattle.settings.specs.declared.Settings.{Settings}
 use Rattle.settings.specs.Settings.{zeroSettings}
 use Rattle.values.specs.Sample.{widthOf}
-use Rattle.layout.specs.Frame.{widthIn, channelIn}
 use Rattle.laid.specs.Turned.{Even}
 use borrow.Author.Count.{below-none, below-more}
-use Rattle.canonical.proofs.Coming.{taken-at, taken-long}
-use Rattle.canonical.proofs.even_width.Statement.{statement}
-use Rattle.canonical.proofs.even_width.Tie as tie
-use Rattle.canonical.proofs.even_width.Reads as reads
-use Rattle.canonical.proofs.even_width.Lts as lts
+use Rattle.frames.proofs.Coming.{taken-at, taken-long}
+use Rattle.frames.proofs.even_width.Statement.{statement}
+use Rattle.frames.proofs.even_width.Tie as tie
+use Rattle.frames.proofs.even_width.Reads as reads
+use Rattle.frames.proofs.even_width.Lts as lts
 use Rattle.values.proofs.width.Reads as width-reads
 
 abbrev Inv-loop : tie.InvT-loop
@@ -25,43 +23,33 @@ Inv-loop count table v i₀ i = (i ≤ count) × (count ≤ 256) × (length tabl
 abbrev μ-loop : tie.MeasureT-loop
 μ-loop count table v i₀ i = count - i
 
--- src/lib.rt:184:17
 array-copy-out-first : tie.Need-array-copy-out-first Inv-loop μ-loop
 array-copy-out-first c = search needs
 
--- src/lib.rt:185:9
 width-requires : tie.Need-width-requires Inv-loop μ-loop
 width-requires c κs = search needs
 
--- src/lib.rt:187:5
 loop-holds : tie.Need-loop-holds Inv-loop μ-loop
 loop-holds c = (omega arith, c .before .before .pre, search needs, below-none _)
 
--- src/lib.rt:188:17
 mul-c : tie.Need-mul-c Inv-loop μ-loop
 mul-c c = omega arith
 
--- src/lib.rt:188:17
 array-copy-out-c : tie.Need-array-copy-out-c Inv-loop μ-loop
 array-copy-out-c c = omega arith
 
--- src/lib.rt:189:12
 width-requires-2 : tie.Need-width-requires-2 Inv-loop μ-loop
 width-requires-2 c κs = search needs
 
--- src/lib.rt:190:13
 returns : tie.Need-returns Inv-loop μ-loop
 returns c = λ h. let z : ⊥ = omega arith in absurd z
 
--- src/lib.rt:192:9
 add-i : tie.Need-add-i Inv-loop μ-loop
 add-i c = omega arith
 
--- src/lib.rt:187:5
 loop-less : tie.Need-loop-less Inv-loop μ-loop
 loop-less c = omega arith
 
--- src/lib.rt:187:5
 loop-again : tie.Need-loop-again Inv-loop μ-loop
 loop-again c = (omega arith, c .before .before .before .before .loop .inv .1, c .before .before .before .before .loop .inv .2, below-more _ _ (c .before .before .before .before .loop .inv .3) (sym (c .before .width2 .ensures) ∙ c .if1 .left))
 
@@ -70,7 +58,6 @@ even-taken t n i v e h l f j m =
     let k : j < n = omega (arith, taken-long t n e h) in
     ap (λ (c : Settings). widthOf (c .kind)) (sym (taken-at t n j k)) ∙ f j (omega arith)
 
--- src/lib.rt:180:1
 returns-2 : tie.Need-returns-2 Inv-loop μ-loop
 returns-2 c = λ h. even-taken (c .before .before .before .before .args .t1) (c .before .before .before .before .args .count) (c .before .loop .i) _ (c .before .loop .inv .2) (c .before .loop .inv .1) (c .loop-test .left) (c .before .loop .inv .3)
 

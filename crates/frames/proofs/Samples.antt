@@ -2,21 +2,20 @@
 --     samples-narrow    samples of one octet are as they stand
 --     samples-even      samples of one width are turned round in one run
 -- Assumes nothing.
-use mathlib.Core.Path.{_≡_, refl, sym, ap, _∙_}
+use mathlib.Core.Path.{_≡_, sym, ap, _∙_}
 use mathlib.Core.List.{List}
 use mathlib.Core.Bool.{Bool, true, false}
-use Prim.Native.Nat.{ℕ, _+_, _*_, _/_, _≤_, _<_, min}
+use Prim.Native.Nat.{ℕ, _+_, _*_, _/_, _≤_, _<_}
 use native.Mathlib.Nat.{mul-assoc, mul-one, mul-div-cancel, min-le-left}
 use native.Mathlib.Omega.{arith}
 use lib.ListN.{length, take, length-take}
-use Rattle.runs.specs.Turned.{turned, turnedRun}
-use Rattle.stores.specs.Storing.{Put, Putting, put-fits}
+use Rattle.runs.specs.Turned.{turnedRun}
 use Rattle.runs.proofs.Turned.{turned-one, run-there, length-turned}
 use Rattle.settings.specs.declared.Settings.{Settings}
 use Rattle.layout.specs.Frame.{sequenceOctets}
 use Rattle.laid.specs.Turned.{Even, turnedAll, sequenceSamples}
 use Rattle.laid.proofs.Turned.{octets-even, turned-even}
-use Rattle.canonical.specs.Parts.{samplesTurned}
+use Rattle.frames.specs.Parts.{samplesTurned}
 
 module _ (cs : List Settings) (sequences : ℕ) (x : List ℕ) (n : ℕ) (e : n ≡ sequences * sequenceOctets cs) where
   pub samples-narrow : Even 1 cs → take n x ≡ turnedAll cs sequences x

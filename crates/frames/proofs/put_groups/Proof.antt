@@ -8,11 +8,11 @@ use lib.ListN.{length, take, drop, getD}
 use Rattle.settings.specs.Settings.{zeroSettings}
 use Rattle.groups.specs.Group.{settled, groupsOctets}
 use Rattle.groups.proofs.Sizes.{groups-long}
-use Rattle.canonical.proofs.Coming.{Coming, coming-first, coming-step, coming-done, groups-next, groups-done, taken-at, taken-long}
-use Rattle.canonical.proofs.put_groups.Statement.{statement}
-use Rattle.canonical.proofs.put_groups.Tie as tie
-use Rattle.canonical.proofs.put_groups.Reads as reads
-use Rattle.canonical.proofs.put_groups.Lts as lts
+use Rattle.frames.proofs.Coming.{Coming, coming-first, coming-step, coming-done, groups-next, groups-done, taken-at, taken-long}
+use Rattle.frames.proofs.put_groups.Statement.{statement}
+use Rattle.frames.proofs.put_groups.Tie as tie
+use Rattle.frames.proofs.put_groups.Reads as reads
+use Rattle.frames.proofs.put_groups.Lts as lts
 use Rattle.groups.proofs.put_group.Reads as put-group-reads
 
 abbrev Inv-loop : tie.InvT-loop
