@@ -1,26 +1,23 @@
 -- The octets of a canonical file, as a writer puts them: the samples as runs of the file's octets, and how many octets there are.
 --     be-little       octets that stand lowest first, written highest first
 --     waveform-big, waveform-little    a waveform's samples: as they stand, or each turned about
---     length-size     a length
 --     frame-long, frames-long, canonical-long, canonical-none    frames and the file
 -- Assumes nothing.
 use Prim.Native.Nat.{ℕ, zero, suc, _+_, _*_, _/_, _%_, _<_}
-use mathlib.Core.Path.{_≡_, refl, sym, ap, _∙_}
+use mathlib.Core.Path.{_≡_, refl, sym, _∙_}
 use mathlib.Core.List.{List, [], _∷_, map, reverse, reverseAux-eq}
 use mathlib.Core.Bool.{Bool, true, false}
 use native.Mathlib.Omega.{arith}
-use lib.Dec.{ltb}
 use lib.ListN.{length, getD, take, drop, length-append, length-take, length-drop}
 use Rattle.octets.specs.Pick.{pick}
 use Rattle.octets.specs.Number.{littleOf, numberOf}
 use Rattle.octets.proofs.Laws.{take-octets, drop-octets}
-use Rattle.stores.specs.Number.{be, length-be, Octets}
-use Rattle.stores.specs.Length.{holding, shortest}
+use Rattle.stores.specs.Number.{be, Octets}
 use Rattle.stores.proofs.Number.{be-big}
 use Rattle.settings.specs.declared.Settings.{Settings}
 use Rattle.settings.specs.Settings.{zeroSettings}
 use Rattle.layout.specs.Frame.{Frame, widthIn, blockOctets, sequenceOctets, channelIn, samplesOf, offsetOf}
-use Rattle.layout.specs.Size.{lengthSize, frameSize}
+use Rattle.layout.specs.Size.{frameSize}
 use Rattle.laid.specs.Laid.{Named, sequence, laidFrom, laid, sampleIn}
 use Rattle.laid.specs.Turned.{turnedAll}
 use Rattle.laid.proofs.Places.{offset-inside}
@@ -29,6 +26,7 @@ use Rattle.laid.proofs.Turned.{laid-turned}
 use Rattle.pass.specs.Scan.{sizeOf, sizes}
 use Rattle.reader.proofs.Ordered.{Lies}
 use Rattle.groups.specs.Group.{settled}
+use Rattle.frames.proofs.Given.{length-size}
 use Rattle.canonical.specs.Recording.{sampleBits, tabulate, recordedFrame, recording}
 use Rattle.canonical.specs.Canonical.{waveformOf, frameOctets, framesOctets, canonical}
 use Rattle.groups.proofs.Sizes.{length-item, head-long, groups-long}
@@ -110,17 +108,6 @@ module _ (s : List ℕ) (f : Frame) (l : Lies s f) (octets : (i : ℕ) → getD 
   waveform-little e = waveform-written ∙ rw e (laid-turned (f .channels) (f .sequences) (f .waveform))
 
 -- ---- how many octets
-
-pub length-size : (n : ℕ) → length (shortest n) ≡ lengthSize n
-unfolding shortest holding
-length-size n = by (ltb n 128) (ltb n 256) (ltb n 65_536) (ltb n 16_777_216)
-  where
-    by : (a b c d : Bool) → length (pick a (n ∷ []) ((128 + pick b 1 (pick c 2 (pick d 3 4))) ∷ be (pick b 1 (pick c 2 (pick d 3 4))) n)) ≡ pick a 1 (pick b 2 (pick c 3 (pick d 4 5)))
-    by true b c d = refl
-    by false true c d = ap suc (length-be 1 n)
-    by false false true d = ap suc (length-be 2 n)
-    by false false false true = ap suc (length-be 3 n)
-    by false false false false = ap suc (length-be 4 n)
 
 pub frame-long : (f : Frame) → length (frameOctets (recordedFrame f)) ≡ sizeOf f
 unfolding frameOctets recordedFrame sizeOf frameSize

@@ -16,8 +16,12 @@ use types.Run.{OneOf, miss}
 use denote.Enum.Declared.{tagOf}
 use borrow.Author.Tests.{le-leb, lt-leb}
 use lib.ListN.{length, getD, take, drop, replicate, length-append, length-replicate, length-map}
-use lib.Seq.{getD-append-seam, length-take-le}
+use lib.Seq.{getD-append-seam}
+use lib.IntN.{ℤ}
 use lib.Signed.{mag}
+use mir.Syntax.{w32, w64}
+use mir.Val.{SFits, toZ, ofZ}
+use mir.Facts.{toZ-ofZ}
 use Rattle.octets.proofs.Pick.{both-false}
 use Rattle.octets.proofs.Laws.{take-octets, drop-octets}
 use Rattle.items.specs.declared.Item.{Item}
@@ -54,17 +58,18 @@ use Rattle.pass.specs.declared.Scan.{Scan}
 use Rattle.pass.proofs.Keeps.{meaning, Kept, Keeps, frames-kept, accepted-by, interpret-goes, interpret-refuses, interpret-finished, interpret-fault, firstCursor}
 use Rattle.framing.proofs.Framings.{pointer-small}
 use Rattle.settings.proofs.Shown.{shown, shown-none}
-use Rattle.pass.proofs.Scans.{counted-kept, channels-few, framed-found, shownBy, Records, Filling, shown-full, frame-shown}
+use Rattle.pass.proofs.Scans.{counted-kept, framed-found, shownBy, Records, Filling, shown-full, frame-shown}
 use Rattle.reader.proofs.Ordered.{Lies, accepted-lies, accepted-small}
 use Rattle.groups.specs.Item.{item}
 use Rattle.groups.specs.Head.{headItems}
 use Rattle.groups.specs.Group.{settled, groupsOctets}
 use Rattle.groups.proofs.Puts.{put-as}
+use Rattle.frames.specs.Parts.{samplesTurned, frameParts, waveformLimit, frameGiven}
+use Rattle.frames.proofs.Given.{frame-put}
 use Rattle.canonical.specs.Recording.{Recorded, recordedFrame, recording}
 use Rattle.canonical.specs.Canonical.{waveformOf, frameOctets, framesOctets, canonical}
 use Rattle.canonical.specs.Write.{framesIn, canonicalOf, fits, writtenIn, writtenOf, leftIn, leftOf, Ready}
 use Rattle.canonical.specs.declared.Written.{Written}
-use Rattle.canonical.specs.Parts.{samplesTurned, frameParts}
 use Rattle.canonical.proofs.Octets.{waveform-big, waveform-little, frame-long, frames-long, canonical-long, canonical-none, octets-settled}
 use Rattle.canonical.proofs.Recordings.{waveform-long}
 
@@ -106,18 +111,18 @@ frames-grow s x c fs e =
 
 -- ---- a frame's octets, in the parts in which it is written
 
-recorded-is : (r : Recorded) (count : ℕ) → length (r .channels) ≡ count
-    → frameOctets r ≡ (((headItems count (r .sequences) (r .start) ++ groupsOctets 0 (r .channels)) ++ (0x1E ∷ [])) ++ shortest (r .sequences * sequenceOctets (r .channels))) ++ waveformOf r
+recorded-is : (r : Recorded)
+    → frameOctets r ≡ (((headItems (length (r .channels)) (r .sequences) (r .start) ++ groupsOctets 0 (r .channels)) ++ (0x1E ∷ [])) ++ shortest (r .sequences * sequenceOctets (r .channels))) ++ waveformOf r
 unfolding frameOctets item
-recorded-is r count e =
+recorded-is r =
     let l : shortest (length (waveformOf r)) ≡ shortest (r .sequences * sequenceOctets (r .channels)) = ap shortest (waveform-long r) in
-    rw (e, l) (simp append-assoc)
+    rw l (simp append-assoc)
 
-pub frame-is : (f : Frame) (count : ℕ) → length (f .channels) ≡ count → frameOctets (recordedFrame f) ≡ frameParts (f .start) (f .sequences) (f .channels) count (waveformOf (recordedFrame f))
+pub frame-is : (f : Frame) → frameOctets (recordedFrame f) ≡ frameParts (f .start) (f .sequences) (f .channels) (waveformOf (recordedFrame f))
 unfolding recordedFrame
-frame-is f count e =
-    recorded-is (recordedFrame f) count (simp length-map e)
-    ∙ ap (λ (n : ℕ). (((headItems count (f .sequences) (f .start) ++ groupsOctets 0 (map settled (f .channels))) ++ (0x1E ∷ [])) ++ shortest (f .sequences * n)) ++ waveformOf (recordedFrame f)) (octets-settled (f .channels))
+frame-is f =
+    recorded-is (recordedFrame f)
+    ∙ (λ i. (((headItems (length-map (f .channels) settled i) (f .sequences) (f .start) ++ groupsOctets 0 (map settled (f .channels))) ++ (0x1E ∷ [])) ++ shortest (f .sequences * octets-settled (f .channels) i)) ++ waveformOf (recordedFrame f))
 
 -- The samples of a frame, as they are written.
 pub samples-are : (s : List ℕ) (f : Frame) → Lies s f → ((i : ℕ) → getD (f .waveform) i 0 < 256) → samplesTurned (f .little) (f .channels) (f .sequences) (f .waveform) ≡ waveformOf (recordedFrame f)
@@ -126,6 +131,22 @@ samples-are s f l o = by (f .little) refl
     by : (b : Bool) → f .little ≡ b → samplesTurned (f .little) (f .channels) (f .sequences) (f .waveform) ≡ waveformOf (recordedFrame f)
     by false e = ap (λ (b : Bool). samplesTurned b (f .channels) (f .sequences) (f .waveform)) e ∙ sym (waveform-big s f l o e)
     by true e = ap (λ (b : Bool). samplesTurned b (f .channels) (f .sequences) (f .waveform)) e ∙ sym (waveform-little s f l o e)
+
+-- A start pointer within 32 bits, as it is handed on.
+abbrev pub widened : ℤ → ℤ
+widened z = toZ w64 (ofZ w64 z)
+
+abbrev pub narrowed : ℤ → ℤ
+narrowed z = toZ w32 (ofZ w32 (widened z))
+
+wide-is : (z : ℤ) → mag z < 2147483648 → widened z ≡ z
+wide-is z h = let wide : mag z < 9223372036854775808 = omega arith in toZ-ofZ (record { sfits = wide })
+
+narrow-fits : (z : ℤ) → mag z < 2147483648 → SFits w32 (widened z)
+narrow-fits z h = subst (SFits w32) (sym (wide-is z h)) (record { sfits = h })
+
+narrow-is : (z : ℤ) → mag z < 2147483648 → narrowed z ≡ z
+narrow-is z h = toZ-ofZ (narrow-fits z h) ∙ wide-is z h
 
 -- ---- one frame more
 
@@ -283,34 +304,35 @@ module _ {s d : List ℕ} {table : List Settings} {c : Cursor} {st : Standing} {
         let h : length (p .met) < length all = omega arith in
         subst (Lies s) (ap (λ (fs : List Frame). getD fs (length (p .met)) zeroFrame) split ∙ getD-append-seam (p .met) there (grown .0) zeroFrame) (accepted-lies s all (p .is) (length (p .met)) h)
 
-    long-there : length (take count table) ≡ count
-    long-there =
-        let h = channels-few (st .counted) (p .counted) in
-        length-take-le count table (omega (arith, p .full, ec))
+    same-there : take count table ≡ there .channels
+    same-there = ap (λ (k : ℕ). take k table) ec
 
-    -- Where the frame is written, and that it fits.
-    pub frame-ready : (0 < count) × (count ≤ 256) × (sequences * l .octets ≡ sequences * sequenceOctets (take count table)) × (mag (st .start) < 2147483648)
-    unfolding layoutOf
-    frame-ready =
-        let h : length (take count table) ≡ length (there .channels) = ap (λ (k : ℕ). length (take k table)) ec in
-        (omega (arith, long-there, lies .some), omega (arith, long-there, lies .few), ap (λ (k : Layout). sequences * k .octets) el, pointer-small (st .start) (lies .pointer))
+    octets-there : sequences * sequenceOctets (take count table) ≡ sequences * sequenceOctets (there .channels)
+    octets-there = ap (λ (cs : List Settings). sequences * sequenceOctets cs) same-there
 
-    pub frame-room : (w : List ℕ) → w ≡ valueAt s start len → (sequences * l .octets ≤ length w) × (sequences * l .octets < 4294967296) × (at + frameSize sequences (groupsSize 0 (take count table)) (sequences * l .octets) ≤ length e)
-    unfolding layoutOf sizeOf
-    frame-room w ew =
-        let q : sequences * l .octets ≡ sequences * sequenceOctets (there .channels) = ap (λ (k : Layout). sequences * k .octets) el ∙ ap (λ (k : ℕ). sequences * sequenceOctets (take k table)) ec in
-        let v : length w ≡ length (there .waveform) = ap length ew in
-        let g : frameSize sequences (groupsSize 0 (take count table)) (sequences * l .octets) ≡ sizeOf there = ap (frameSize sequences (groupsSize 0 (take count table))) q ∙ ap (λ (k : ℕ). frameSize sequences (groupsSize 0 (take k table)) (sequences * sequenceOctets (there .channels))) ec in
-        (omega (arith, lies .fits), omega (arith, lies .fits, lies .inside, accepted-small s all (p .is)), omega (arith, p .room, sized, put-long (p .put), p .put .next, frames-long (p .met)))
+    start-small : mag (st .start) < 2147483648
+    start-small = pointer-small (st .start) (lies .pointer)
+
+    pub frame-start : SFits w32 (widened (st .start))
+    frame-start = narrow-fits (st .start) start-small
+
+    -- Where the frame is written it fits.
+    frame-room : at + frameSize sequences (groupsSize 0 (take count table)) (sequences * sequenceOctets (take count table)) ≤ length e
+    unfolding sizeOf
+    frame-room =
+        let g : frameSize sequences (groupsSize 0 (take count table)) (sequences * sequenceOctets (take count table)) ≡ sizeOf there = ap (λ (cs : List Settings). frameSize sequences (groupsSize 0 cs) (sequences * sequenceOctets cs)) same-there in
+        omega (arith, p .room, sized, put-long (p .put), p .put .next, frames-long (p .met))
 
     -- The frame written.
-    pub writing-frame : {w : List ℕ} {at' : ℕ} {e' : List ℕ} → ((k : ℕ) → getD s k 0 < 256) → w ≡ valueAt s start len → Put e at (frameParts (st .start) sequences (take count table) count (samplesTurned (st .little) (take count table) sequences w)) at' e' → Writing s d table d' x (frames + 1) at' e'
+    pub writing-frame : {w : List ℕ} {at' : ℕ} {e' : List ℕ} → ((k : ℕ) → getD s k 0 < 256) → w ≡ valueAt s start len → Putting e at (frameGiven (narrowed (st .start)) (st .little) sequences (take count table) w) at' e' → Writing s d table d' x (frames + 1) at' e'
     writing-frame {w} {at'} {e'} o ew q =
-        let k : frameParts (st .start) sequences (take count table) count (samplesTurned (st .little) (take count table) sequences w) ≡ frameOctets (recordedFrame there) =
-        ap (λ (u : List ℕ). frameParts (st .start) sequences (take count table) count (samplesTurned (st .little) (take count table) sequences u)) ew
-        ∙ ap (λ (m : ℕ). frameParts (st .start) sequences (take m table) count (samplesTurned (st .little) (take m table) sequences (valueAt s start len))) ec
-        ∙ ap (λ (u : List ℕ). frameParts (st .start) sequences (there .channels) count u) (samples-are s there lies (take-octets len (drop start s) (drop-octets start s o)))
-        ∙ sym (frame-is there count (sym (ap (λ (m : ℕ). length (take m table)) ec) ∙ long-there)) in
+        let v : length w ≡ length (there .waveform) = ap length ew in
+        let held : sequences * sequenceOctets (take count table) ≤ length w = omega (arith, octets-there, lies .fits) in
+        let few : sequences * sequenceOctets (take count table) ≤ waveformLimit = omega (arith, octets-there, lies .fits, lies .inside, accepted-small s all (p .is)) in
+        let k : frameParts (narrowed (st .start)) sequences (take count table) (samplesTurned (st .little) (take count table) sequences w) ≡ frameOctets (recordedFrame there) =
+        (λ i. frameParts (narrow-is (st .start) start-small i) sequences (same-there i) (samplesTurned (st .little) (same-there i) sequences (ew i)))
+        ∙ ap (frameParts (there .start) sequences (there .channels)) (samples-are s there lies (take-octets len (drop start s) (drop-octets start s o)))
+        ∙ sym (frame-is there) in
         let w' = framed-found frames st (l .agree) (l .octets) len er fr in
         record {
           is = p .is;
@@ -321,7 +343,7 @@ module _ {s d : List ℕ} {table : List Settings} {c : Cursor} {st : Standing} {
           met = p .met ++ (there ∷ []);
           count = simp length-append (omega (arith, p .count));
           same = same-after;
-          put = put-as (so-far-more (p .met) there) (put-then (p .put) (put-as k q));
+          put = put-as (so-far-more (p .met) there) (put-then (p .put) (put-as k (frame-put (narrowed (st .start)) (st .little) sequences (take count table) w held few frame-room q)));
         }
 
 -- ---- the pass over the records
@@ -365,13 +387,10 @@ module _ {s d : List ℕ} {table : List Settings} {own : ℕ} {c : Cursor} {st :
         (en : n ≡ nextOf s c) (fn : n ≡ Found i d')
         (ee : f ≡ effectOf s st i) (fe : f ≡ Effect.Frame start len)
         (er : r ≡ framedAs frames st (l .agree) (l .octets) len) (fr : r ≡ Taken sequences x) where
-      pub going-ready : (0 < count) × (count ≤ 256) × (sequences * l .octets ≡ sequences * sequenceOctets (take count table)) × (mag (st .start) < 2147483648)
-      going-ready = rw same-taken (frame-ready (p .pass) count l ec laid en fn ee fe er fr)
+      pub going-start : SFits w32 (widened (st .start))
+      going-start = frame-start (p .pass) count l ec laid en fn ee fe er fr
 
-      pub going-room : (w : List ℕ) → w ≡ valueAt s start len → (sequences * l .octets ≤ length w) × (sequences * l .octets < 4294967296) × (at + frameSize sequences (groupsSize 0 (take count table)) (sequences * l .octets) ≤ length e)
-      going-room w ew = rw same-taken (frame-room (p .pass) count l ec laid en fn ee fe er fr w ew)
-
-      pub going-frame : {w : List ℕ} {at' : ℕ} {e' : List ℕ} → ((k : ℕ) → getD s k 0 < 256) → w ≡ valueAt s start len → Put e at (frameParts (st .start) sequences (take count table) count (samplesTurned (st .little) (take count table) sequences w)) at' e' → Going s d table own d' x (frames + 1) at' e'
+      pub going-frame : {w : List ℕ} {at' : ℕ} {e' : List ℕ} → ((k : ℕ) → getD s k 0 < 256) → w ≡ valueAt s start len → Putting e at (frameGiven (narrowed (st .start)) (st .little) sequences (take count table) w) at' e' → Going s d table own d' x (frames + 1) at' e'
       going-frame {w} {at'} {e'} o ew q =
           let z = framed-found frames st (l .agree) (l .octets) len er fr in
           let g = writing-frame (p .pass) count l ec laid en fn ee fe er fr o ew (rw same-taken at q) in

@@ -1,4 +1,3 @@
 pub mod Recording
 pub mod Canonical
 pub mod Write
-pub mod Parts

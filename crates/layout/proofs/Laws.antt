@@ -3,19 +3,24 @@
 --     passed-none    before the first channel
 --     passed-more    one channel further
 --     passed-all     after the last one
+--     Summing        the same over the first records of a table
+--     summing-none, summing-more, summed-up    before the first one, one further, after the last one
+--     take-few       no more records are taken than there are
 --     groups-few     groups take few octets
+--     frame-few      and so does a frame
 -- Assumes nothing.
 use mathlib.Core.Path.{_≡_, refl, sym, ap, _∙_}
 use mathlib.Core.List.{List, [], _∷_}
 use mathlib.Core.Bool.{Bool, true, false}
-use Prim.Native.Nat.{ℕ, zero, suc, _+_, _-_, _*_, _^_, _≤_, _<_, _%_}
+use Prim.Native.Nat.{ℕ, zero, suc, _+_, _-_, _*_, _^_, _≤_, _<_, _%_, min}
 use native.Mathlib.Nat.{add-assoc, zero-add, add-zero, mod-eq-of-lt}
 use native.Mathlib.Numerals.{add-one}
 use native.Mathlib.Omega.{arith}
+use native.Mathlib.Decide.{decLt}
 use borrow.Author.Tests.{ltb-true, ltb-false}
 use lib.Dec.{ltb, eqb}
 use lib.ListN.{length, getD, take, drop, drop-of-length-le}
-use lib.Seq.{drop-cons, take-nil}
+use lib.Seq.{drop-cons, take-nil, take-all, getD-take, length-take-le}
 use Rattle.octets.specs.Pick.{pick, both}
 use Rattle.octets.proofs.Pick.{pick-cases}
 use Rattle.values.proofs.Laws.{width-le}
@@ -23,7 +28,7 @@ use Rattle.settings.specs.declared.Settings.{Settings}
 use Rattle.settings.specs.Settings.{zeroSettings}
 use Rattle.layout.specs.declared.Layout.{Layout}
 use Rattle.layout.specs.Frame.{blockOctets, sequenceOctets, octetsBelow, channelAgrees, allAgree}
-use Rattle.layout.specs.Size.{channelSize, nullSize, groupSize, groupsSize}
+use Rattle.layout.specs.Size.{channelSize, nullSize, groupSize, groupsSize, lengthSize, sequencesSize, frameSize}
 use Rattle.layout.specs.Measure.{layoutOf, noLayout, moreOf, More}
 
 -- Some octets of the channels left: those below `channel`, where i channels are behind.
@@ -124,6 +129,36 @@ passed-all channel cs i l h p =
     let g : l .groups ≡ groupsSize 0 cs = sym (add-zero (l .groups)) ∙ rw d at (p .groups) in
     λ k. record { agree = a k; octets = o k; below = b k; groups = g k }
 
+-- The first n records of a table, i of them behind.
+pub record Summing (channel : ℕ) (table : List Settings) (n i : ℕ) (l : Layout) : Type 0 where
+  pub few : n ≤ 256
+  pub long : length (take n table) ≡ n
+  pub passed : Passed channel (take n table) i l
+
+pub summing-none : {table : List Settings} (channel : ℕ) {n : ℕ} {l : Layout} → length table ≡ 256 → n ≤ 256 → l ≡ noLayout → Summing channel table n 0 l
+summing-none {table = table} channel {n = n} k h e =
+    record { few = h; long = length-take-le n table (omega arith); passed = rw e (passed-none channel (take n table)) }
+
+module _ {channel : ℕ} {table : List Settings} {n i : ℕ} {l : Layout} (p : Summing channel table n i l) where
+  pub summing-more : (m : Layout) → i < n → More i channel (getD table i zeroSettings) l m → Summing channel table n (i + 1) m
+  summing-more m h g =
+      record {
+        few = p .few;
+        long = p .long;
+        passed = passed-more channel (take n table) i (getD table i zeroSettings) l m (omega (arith, p .few)) (omega (arith, p .long)) (sym (getD-take n table i zeroSettings h)) (p .passed) g;
+      }
+
+  pub summed-up : (count : ℕ) → n ≡ count → n ≤ i → l ≡ layoutOf channel (take count table)
+  summed-up count e h = passed-all channel (take n table) i l (omega (arith, p .long)) (p .passed) ∙ ap (λ (k : ℕ). layoutOf channel (take k table)) e
+
+-- There are no more records than 256.
+pub take-few : (count : ℕ) (table : List Settings) → length table ≡ 256 → take (min count 256) table ≡ take count table
+take-few count table e = by (decLt count 256)
+  where
+    by : Dec (count < 256) → take (min count 256) table ≡ take count table
+    by (yes h) = let m : min count 256 ≡ count = omega arith in rw m
+    by (no h) = let m : min count 256 ≡ 256 = omega arith in rw m (take-all 256 table (omega arith) ∙ sym (take-all count table (omega arith)))
+
 -- A group takes at most 64 octets.
 group-few : (k : ℕ) (c : Settings) → groupSize k c ≤ 64
 unfolding groupSize
@@ -137,3 +172,18 @@ pub groups-few : (k : ℕ) (cs : List Settings) → groupsSize k cs ≤ length c
 unfolding groupsSize
 groups-few k [] = omega arith
 groups-few k (c ∷ cs) = omega (arith, group-few k c, groups-few (suc k) cs)
+
+-- A frame of few channels, in a file that has a limit, takes few octets.
+pub frame-few : (sequences groups waveform : ℕ) → groups ≤ 16384 → waveform < 2147483648 → frameSize sequences groups waveform < 4294967296
+unfolding frameSize
+frame-few sequences groups waveform h l =
+    let s : sequencesSize sequences ≤ 6 = pick-cases (λ (m : ℕ). m ≤ 6) (eqb sequences 0) (λ _. omega arith) (λ _. omega arith) in
+    let n : lengthSize waveform ≤ 5 = length-few (ltb waveform 128) (ltb waveform 256) (ltb waveform 65_536) (ltb waveform 16_777_216) in
+    omega arith
+  where
+    length-few : (a b c d : Bool) → pick a 1 (pick b 2 (pick c 3 (pick d 4 5))) ≤ 5
+    length-few true b c d = omega arith
+    length-few false true c d = omega arith
+    length-few false false true d = omega arith
+    length-few false false false true = omega arith
+    length-few false false false false = omega arith

@@ -1,16 +1,17 @@
 // The layout of a frame: what one pass over its channels' settings tells.
 //
 // Promises: `Layout::more`, called for one channel after the other, sums up whether offsets and nulls have their sample widths, the octets of
-// a sequence, those below a channel, and the octets that the channels' groups take in the canonical file. `offset_bits` answers a channel's
-// offset, one that is not defined too.
+// a sequence, those below a channel, and the octets that the channels' groups take in the canonical file; `layout_of` does so for a table.
+// `frame_size` answers how many octets a frame takes there, and `offset_bits` a channel's offset, one that is not defined too.
 // Read first: specs/Frame.antt (frames and the place of a sample), specs/Size.antt.
 ghost use mathlib.Core.Path.{_≡_};
-ghost use Prim.Native.Nat.{_+_, _%_, _^_};
+ghost use Prim.Native.Nat.{_+_, _%_, _^_, _≤_, _<_, min};
 ghost use lib.Dec.{ltb};
+ghost use lib.ListN.{take};
 ghost use Rattle.octets.specs.Pick.{pick, both};
 ghost use Rattle.layout.specs.Frame.{widthIn, blockOctets, offsetBits, widthAgrees, channelAgrees};
-ghost use Rattle.layout.specs.Size.{channelSize, nullSize, groupSize};
-ghost use Rattle.layout.specs.Measure.{noLayout, Small, More};
+ghost use Rattle.layout.specs.Size.{channelSize, nullSize, groupSize, lengthSize, sequencesSize, frameSize};
+ghost use Rattle.layout.specs.Measure.{noLayout, layoutOf, Small, More};
 use settings::Settings;
 use values::Bits;
 
@@ -136,4 +137,58 @@ impl Layout {
             groups: std::num::wrapping_add_u64(self.groups, group_size(i, c, w)),
         }
     }
+}
+
+// No more channels than a frame may have.
+fn few(count: usize) -> usize
+    ensures { λ r. ⌜ r ≡ min count 256 ⌝ }
+{
+    if count < 256 { count } else { 256 }
+}
+
+// The layout of the first `count` channels.
+pub fn layout_of(table: [Settings; 256], count: usize) -> Layout
+    ensures { λ r. ⌜ r ≡ layoutOf 0 (take count table) ⌝ }
+{
+    let n = few(count);
+    let mut l = Layout::none();
+    let mut i = 0usize;
+    while i < n {
+        l = l.more(i, 0, table[i]);
+        i += 1;
+    }
+    l
+}
+
+// The octets of a length in its shortest form.
+fn length_size(n: u32) -> u64
+    ensures { λ r. ⌜ (r ≡ lengthSize n) × (r ≤ 5) ⌝ }
+{
+    if n < 128 {
+        return 1;
+    }
+    if n < 256 {
+        return 2;
+    }
+    if n < 65_536 {
+        return 3;
+    }
+    if n < 16_777_216 {
+        return 4;
+    }
+    5
+}
+
+// The octets of 06.
+fn sequences_size(sequences: u32) -> u64
+    ensures { λ r. ⌜ (r ≡ sequencesSize sequences) × (r ≤ 6) ⌝ }
+{
+    if sequences == 0 { 2 } else { 6 }
+}
+
+// The octets of a frame in the canonical file, whose channels' groups and whose samples take so many.
+pub fn frame_size(sequences: u32, groups: u32, waveform: u32) -> u64
+    ensures { λ r. ⌜ (r ≡ frameSize sequences groups waveform) × (r < 2 ^ 34) ⌝ }
+{
+    12 + sequences_size(sequences) + groups as u64 + (1 + length_size(waveform) + waveform as u64)
 }

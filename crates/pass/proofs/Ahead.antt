@@ -39,7 +39,8 @@ use Rattle.pass.specs.declared.Found.{Found}
 use Rattle.pass.specs.Verdict.{state, interpret, verdict}
 use Rattle.pass.specs.declared.Met.{Met}
 use Rattle.pass.specs.Passing.{Scanning, metWith}
-use Rattle.pass.proofs.Scans.{Records, Filling, Passing, Summing, shownBy, shown-full, framed-found, channels-few, passing-filled, passing-frame, met-room, summing-more}
+use Rattle.layout.proofs.Laws.{Summing, summing-more}
+use Rattle.pass.proofs.Scans.{Records, Filling, Passing, shownBy, shown-full, framed-found, channels-few, passing-filled, passing-frame, met-room}
 use Rattle.pass.proofs.Stretches.{InGroup, root-law, group-law}
 
 -- ---- where a pass goes on
@@ -106,7 +107,7 @@ shown-all x =
     let e : length (replicate channelLimit x) ≤ channelLimit = rw (length-replicate channelLimit x) (omega arith) in
     append-nil (take channelLimit (replicate channelLimit x)) ∙ take-all channelLimit (replicate channelLimit x) e
 
-pub bare-records : (x : Settings) → Records channelLimit (replicate channelLimit x)
+bare-records : (x : Settings) → Records channelLimit (replicate channelLimit x)
 bare-records x = record { low = omega arith; full = length-replicate channelLimit x }
 
 filling-all : (x : Settings) (table : List Settings) → Filling x 0 table channelLimit (replicate channelLimit x)

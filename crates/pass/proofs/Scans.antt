@@ -37,8 +37,8 @@ use Rattle.settings.proofs.Shown.{shown, shown-none, shown-long, shown-fill, sh
 use Rattle.layout.specs.declared.Layout.{Layout}
 use Rattle.layout.specs.Frame.{Frame, sequenceOctets, octetsBelow, allAgree, channelIn}
 use Rattle.layout.specs.Size.{frameSize, groupsSize}
-use Rattle.layout.specs.Measure.{layoutOf, noLayout, More}
-use Rattle.layout.proofs.Laws.{Passed, passed-none, passed-more, passed-all, groups-few}
+use Rattle.layout.specs.Measure.{layoutOf}
+use Rattle.layout.proofs.Laws.{groups-few}
 use Rattle.standing.specs.declared.Standing.{Standing}
 use Rattle.effects.specs.declared.Effect.{Effect}
 use Rattle.framing.specs.declared.Framed.{Framed}
@@ -309,31 +309,10 @@ pub reached-frame : (counted : ℕ) {n own count start len : ℕ} {e : Effect} �
 unfolding reachOf
 reached-frame counted en ee h l ec = let r = en ∙ ap (reachOf counted) ee in omega (arith, channels-few counted l)
 
--- A frame's channels are those that are looked at, and their layout is summed up over them.
+-- A frame's channels are those that are looked at.
 pub reached-count : (counted : ℕ) {n count start len : ℕ} {e : Effect} → n ≡ reachOf counted e → e ≡ Effect.Frame start len → counted ≤ channelLimit → count ≡ channelsOf counted → n ≡ count
 unfolding reachOf
 reached-count counted en ee l ec = let r = en ∙ ap (reachOf counted) ee in omega (arith, channels-few counted l)
-
-pub record Summing (channel : ℕ) (table : List Settings) (n i : ℕ) (l : Layout) : Type 0 where
-  pub few : n ≤ channelLimit
-  pub long : length (take n table) ≡ n
-  pub passed : Passed channel (take n table) i l
-
-pub summing-none : {own : ℕ} {table : List Settings} (channel : ℕ) {n : ℕ} {l : Layout} → Records own table → n ≤ channelLimit → l ≡ noLayout → Summing channel table n 0 l
-summing-none {table = table} channel {n = n} k h e =
-    record { few = h; long = length-take-le n table (omega (arith, k .full)); passed = rw e (passed-none channel (take n table)) }
-
-module _ {channel : ℕ} {table : List Settings} {n i : ℕ} {l : Layout} (p : Summing channel table n i l) where
-  pub summing-more : (m : Layout) → i < n → More i channel (getD table i zeroSettings) l m → Summing channel table n (i + 1) m
-  summing-more m h g =
-      record {
-        few = p .few;
-        long = p .long;
-        passed = passed-more channel (take n table) i (getD table i zeroSettings) l m (omega (arith, p .few)) (omega (arith, p .long)) (sym (getD-take n table i zeroSettings h)) (p .passed) g;
-      }
-
-  pub summed-up : (count : ℕ) → n ≡ count → n ≤ i → l ≡ layoutOf channel (take count table)
-  summed-up count e h = passed-all channel (take n table) i l (omega (arith, p .long)) (p .passed) ∙ ap (λ (k : ℕ). layoutOf channel (take k table)) e
 
 -- ---- effects carried out
 

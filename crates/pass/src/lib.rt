@@ -12,7 +12,7 @@ ghost use lib.ListN.{length, take, replicate};
 ghost use Rattle.items.specs.Walk.{cursor, refusal};
 ghost use Rattle.settings.specs.Settings.{defaultSettings, channelLimit};
 ghost use Rattle.stretch.specs.Stretch.{stretchOf};
-ghost use Rattle.layout.specs.Size.{lengthSize, sequencesSize, frameSize};
+ghost use Rattle.layout.specs.Size.{frameSize};
 ghost use Rattle.layout.specs.Measure.{layoutOf};
 ghost use Rattle.framing.specs.Framing.{octetsLimit, framesLimit, channelsOf};
 ghost use Rattle.pass.specs.Verdict.{placeAt};
@@ -111,40 +111,6 @@ fn refused_item(number: u8, item: Item) -> Scan
     })
 }
 
-// The octets of a length in its shortest form.
-fn length_size(n: u64) -> u64
-    ensures { λ r. ⌜ (r ≡ lengthSize n) × (r ≤ 5) ⌝ }
-{
-    if n < 128 {
-        return 1;
-    }
-    if n < 256 {
-        return 2;
-    }
-    if n < 65_536 {
-        return 3;
-    }
-    if n < 16_777_216 {
-        return 4;
-    }
-    5
-}
-
-// The octets of 06.
-fn sequences_size(sequences: u32) -> u64
-    ensures { λ r. ⌜ (r ≡ sequencesSize sequences) × (r ≤ 6) ⌝ }
-{
-    if sequences == 0 { 2 } else { 6 }
-}
-
-// The octets of a frame in the canonical file.
-fn frame_size(sequences: u32, groups: u64, waveform: u64) -> u64
-    requires { ⌜ (groups ≤ 16384) × (waveform < 2147483648) ⌝ }
-    ensures { λ r. ⌜ (r ≡ frameSize sequences groups waveform) × (r < 4294967296) ⌝ }
-{
-    12 + sequences_size(sequences) + groups + (1 + length_size(waveform) + waveform)
-}
-
 // The settings of a channel that the frame has, else the defaults.
 fn seen(there: bool, s: Settings) -> Settings
     ensures { λ r. ⌜ r ≡ pick there s defaultSettings ⌝ }
@@ -212,7 +178,8 @@ impl Met {
         requires { ⌜ (self .frames ≤ framesLimit) × (self .size ≤ self .frames * 2 ^ 32) × (l .groups ≤ 16384) × (sequences * l .octets < 2147483648) ⌝ }
         ensures { λ r. ⌜ (r ≡ metWith asked st sequences start l c self) × (frameSize sequences (l .groups) (sequences * l .octets) < 4294967296) ⌝ }
     {
-        let size = self.size + frame_size(sequences, l.groups, sequences as u64 * l.octets);
+        let waveform = sequences as u64 * l.octets;
+        let size = self.size + layout::frame_size(sequences, l.groups as u32, waveform as u32);
         let frames = self.frames + 1;
         if self.frames == asked.frame {
             return Met {

@@ -2,7 +2,7 @@
 use mathlib.Core.Path.{_≡_, refl, sym, _∙_}
 use native.Mathlib.Omega.{arith}
 use borrow.Author.Needs.{needs}
-use Prim.Native.Nat.{ℕ, _≤_, _+_, _-_}
+use Prim.Native.Nat.{ℕ, _≤_, _-_}
 use lib.ListN.{length}
 use Rattle.items.proofs.Walks.{next-later}
 use Rattle.settings.specs.Settings.{zeroSettings, applied}
@@ -10,13 +10,13 @@ use Rattle.settings.proofs.Mapped.{mapped, mapped-put}
 use Rattle.stores.proofs.Stores.{put-long}
 use Rattle.pass.specs.Verdict.{carried, withFrame}
 use Rattle.pass.proofs.Scans.{Filling, filling-none, filling-more, reach-few, reached-one, reached-count, records-set, records-mapped, mapped-own, does-stands, does-count, does-all, does-one, does-outside, carried-by, found-as, framed-found}
-use Rattle.canonical.proofs.Writing.{Going, going-first, going-filled, going-stands, going-goes, going-carried, going-ready, going-room, going-frame, written-done, never-refuses}
+use Rattle.canonical.proofs.Writing.{Going, going-first, going-filled, going-stands, going-goes, going-carried, going-start, going-frame, written-done, never-refuses}
 use Rattle.canonical.proofs.write_frames.Statement.{statement}
 use Rattle.canonical.proofs.write_frames.Tie as tie
 use Rattle.canonical.proofs.write_frames.Reads as reads
 use Rattle.canonical.proofs.write_frames.Lts as lts
-use Rattle.canonical.proofs.layout_of.Reads as layout-of-reads
-use Rattle.canonical.proofs.put_frame.Reads as put-frame-reads
+use Rattle.layout.proofs.layout_of.Reads as layout-of-reads
+use Rattle.frames.proofs.put_frame.Reads as put-frame-reads
 use Rattle.canonical.proofs.put_order.Reads as put-order-reads
 use Rattle.effects.proofs.item_effect.Reads as item-effect-reads
 use Rattle.effects.proofs.reach.Reads as reach-reads
@@ -48,289 +48,216 @@ Inv-loop s out₀ at₀ table₀ own₀ c₀ st₀ frames₀ out at table own c 
 abbrev μ-loop : tie.MeasureT-loop
 μ-loop s out₀ at₀ table₀ own₀ c₀ st₀ frames₀ out at table own c st frames = length s - c .at
 
--- src/lib.rt:317:9
 put-order-requires :
     tie.Need-put-order-requires Inv-loop2 μ-loop2 Inv-loop3 μ-loop3 Inv-loop μ-loop
 put-order-requires c κs = omega (arith, c .before .before .before .pre .room)
 
--- src/lib.rt:318:21
 table-requires : tie.Need-table-requires Inv-loop2 μ-loop2 Inv-loop3 μ-loop3 Inv-loop μ-loop
 table-requires c κs = search needs
 
--- src/lib.rt:321:9
 first-requires : tie.Need-first-requires Inv-loop2 μ-loop2 Inv-loop3 μ-loop3 Inv-loop μ-loop
 first-requires c κs = search needs
 
--- src/lib.rt:322:9
 first-requires-2 : tie.Need-first-requires-2 Inv-loop2 μ-loop2 Inv-loop3 μ-loop3 Inv-loop μ-loop
 first-requires-2 c κs = search needs
 
--- src/lib.rt:324:5
 loop-holds : tie.Need-loop-holds Inv-loop2 μ-loop2 Inv-loop3 μ-loop3 Inv-loop μ-loop
 loop-holds c = going-first _ _ _ (c .before .before .before .before .before .before .before .before .before .pre) (c .before .before .table .ensures) (c .before .first .ensures) (c .first2 .ensures) (c .before .before .before .before .before .put-order .ensures)
 
--- src/lib.rt:325:15
 next-item-requires :
     tie.Need-next-item-requires Inv-loop2 μ-loop2 Inv-loop3 μ-loop3 Inv-loop μ-loop
 next-item-requires c κs = search needs
 
--- src/lib.rt:326:25
 enum-known-item : tie.Need-enum-known-item Inv-loop2 μ-loop2 Inv-loop3 μ-loop3 Inv-loop μ-loop
 enum-known-item c = search needs
 
--- src/lib.rt:327:17
 renewed-requires : tie.Need-renewed-requires Inv-loop2 μ-loop2 Inv-loop3 μ-loop3 Inv-loop μ-loop
 renewed-requires c κs = search needs
 
--- src/lib.rt:328:21
 item-effect-requires :
     tie.Need-item-effect-requires Inv-loop2 μ-loop2 Inv-loop3 μ-loop3 Inv-loop μ-loop
 item-effect-requires c κs = search needs
 
--- src/lib.rt:330:21
 reach-requires : tie.Need-reach-requires Inv-loop2 μ-loop2 Inv-loop3 μ-loop3 Inv-loop μ-loop
 reach-requires c κs = search needs
 
--- src/lib.rt:331:17
 loop2-holds : tie.Need-loop2-holds Inv-loop2 μ-loop2 Inv-loop3 μ-loop3 Inv-loop μ-loop
 loop2-holds c = (rw (c .reach .ensures) (reach-few _ _), filling-none (c .before .before .before .before .before .before .before .before .loop .inv .records))
 
--- src/lib.rt:332:21
 mul-table : tie.Need-mul-table Inv-loop2 μ-loop2 Inv-loop3 μ-loop3 Inv-loop μ-loop
 mul-table c = omega (arith, c .before .loop2 .inv .0)
 
--- src/lib.rt:332:21
 array-set-from-table :
     tie.Need-array-set-from-table Inv-loop2 μ-loop2 Inv-loop3 μ-loop3 Inv-loop μ-loop
 array-set-from-table c = omega (arith, c .before .loop2 .inv .0)
 
--- src/lib.rt:333:21
 add-own : tie.Need-add-own Inv-loop2 μ-loop2 Inv-loop3 μ-loop3 Inv-loop μ-loop
 add-own c = omega (arith, c .before .loop2 .inv .0)
 
--- src/lib.rt:331:17
 loop2-less : tie.Need-loop2-less Inv-loop2 μ-loop2 Inv-loop3 μ-loop3 Inv-loop μ-loop
 loop2-less c = omega arith
 
--- src/lib.rt:331:17
 loop2-again : tie.Need-loop2-again Inv-loop2 μ-loop2 Inv-loop3 μ-loop3 Inv-loop μ-loop
 loop2-again c = (c .before .loop2 .inv .0, filling-more (c .before .loop2 .inv .1) (omega (arith, c .before .loop2 .inv .0, c .loop2-test .taken)))
 
--- src/lib.rt:337:25
 enum-told : tie.Need-enum-told Inv-loop2 μ-loop2 Inv-loop3 μ-loop3 Inv-loop μ-loop
 enum-told c = search needs
 
--- src/lib.rt:338:25
 standing-after-requires :
     tie.Need-standing-after-requires Inv-loop2 μ-loop2 Inv-loop3 μ-loop3 Inv-loop μ-loop
 standing-after-requires c κs = search needs
 
--- src/lib.rt:324:5
 loop-less : tie.Need-loop-less Inv-loop2 μ-loop2 Inv-loop3 μ-loop3 Inv-loop μ-loop
 loop-less c = omega (arith, next-later _ _ (c .before .before .before .before .before .before .before .before .before .before .before .before .next-item .ensures) (found-as (c .before .before .before .before .before .before .before .before .before .before .item .given .1) (c .before .before .before .before .before .before .before .before .renewed .ensures)))
 
--- src/lib.rt:324:5
 loop-again : tie.Need-loop-again Inv-loop2 μ-loop2 Inv-loop3 μ-loop3 Inv-loop μ-loop
 loop-again c = going-stands (going-filled (c .before .before .before .before .before .before .before .before .before .before .before .before .before .loop .inv) (c .before .before .before .before .loop2 .inv .1)) (c .before .before .before .before .before .before .before .before .before .before .before .before .next-item .ensures) (found-as (c .before .before .before .before .before .before .before .before .before .before .item .given .1) (c .before .before .before .before .before .before .before .before .renewed .ensures)) (record { low = omega arith; full = (c .before .before .before .before .loop2 .inv .1 .records) .full }) (c .before .before .before .before .before .before .before .item-effect .ensures) (c .standing-after .ensures) (does-count (c .before .before .before .before .loop2 .inv .1 .records) _ _ _ _ (c .before .before .before .before .before .before .before .item-effect .ensures) (c .before .enum-told .given .1) (c .standing-after .ensures))
 
--- src/lib.rt:340:33
 enum-known-effect : tie.Need-enum-known-effect Inv-loop2 μ-loop2 Inv-loop3 μ-loop3 Inv-loop μ-loop
 enum-known-effect c = search needs
 
--- src/lib.rt:342:25
 loop3-holds : tie.Need-loop3-holds Inv-loop2 μ-loop2 Inv-loop3 μ-loop3 Inv-loop μ-loop
 loop3-holds c = ((c .before .before .before .before .loop2 .inv .1 .records) .low, (c .before .before .before .before .loop2 .inv .1 .records) .full, omega arith, refl)
 
--- src/lib.rt:343:56
 mul-apply : tie.Need-mul-apply Inv-loop2 μ-loop2 Inv-loop3 μ-loop3 Inv-loop μ-loop
 mul-apply c = omega (arith, c .before .loop3 .inv .0)
 
--- src/lib.rt:343:56
 array-copy-out-apply :
     tie.Need-array-copy-out-apply Inv-loop2 μ-loop2 Inv-loop3 μ-loop3 Inv-loop μ-loop
 array-copy-out-apply c = omega (arith, c .before .loop3 .inv .0)
 
--- src/lib.rt:343:40
 apply-requires : tie.Need-apply-requires Inv-loop2 μ-loop2 Inv-loop3 μ-loop3 Inv-loop μ-loop
 apply-requires c κs = search needs
 
--- src/lib.rt:343:29
 mul-table-2 : tie.Need-mul-table-2 Inv-loop2 μ-loop2 Inv-loop3 μ-loop3 Inv-loop μ-loop
 mul-table-2 c = omega (arith, c .before .before .before .loop3 .inv .0)
 
--- src/lib.rt:343:29
 array-set-from-table-2 :
     tie.Need-array-set-from-table-2 Inv-loop2 μ-loop2 Inv-loop3 μ-loop3 Inv-loop μ-loop
 array-set-from-table-2 c = omega (arith, c .before .before .before .loop3 .inv .0)
 
--- src/lib.rt:344:29
 add-i : tie.Need-add-i Inv-loop2 μ-loop2 Inv-loop3 μ-loop3 Inv-loop μ-loop
 add-i c = omega (arith, c .before .before .before .loop3 .inv .0)
 
--- src/lib.rt:342:25
 loop3-less : tie.Need-loop3-less Inv-loop2 μ-loop2 Inv-loop3 μ-loop3 Inv-loop μ-loop
 loop3-less c = omega arith
 
--- src/lib.rt:342:25
 loop3-again : tie.Need-loop3-again Inv-loop2 μ-loop2 Inv-loop3 μ-loop3 Inv-loop μ-loop
 loop3-again c = (c .before .before .before .loop3 .inv .0, c .before .before .before .loop3 .inv .1, omega (arith, c .before .before .loop3-test .taken), mapped-put (applied (c .before .before .before .before .before .effect .given .0 .0)) zeroSettings 256 _ (c .before .before .before .before .before .before .before .before .loop2 .table) _ _ (c .before .before .before .loop3 .inv .1) (omega (arith, c .before .before .before .loop3 .inv .0, c .before .before .loop3-test .taken)) (c .before .before .before .loop3 .inv .3) (c .apply .ensures))
 
--- src/lib.rt:346:25
 standing-after-requires-2 :
     tie.Need-standing-after-requires-2 Inv-loop2 μ-loop2 Inv-loop3 μ-loop3 Inv-loop μ-loop
 standing-after-requires-2 c κs = search needs
 
--- src/lib.rt:324:5
 loop-less-2 : tie.Need-loop-less-2 Inv-loop2 μ-loop2 Inv-loop3 μ-loop3 Inv-loop μ-loop
 loop-less-2 c = omega (arith, next-later _ _ (c .before .before .before .before .before .before .before .before .before .before .before .before .before .before .before .next-item .ensures) (found-as (c .before .before .before .before .before .before .before .before .before .before .before .before .before .item .given .1) (c .before .before .before .before .before .before .before .before .before .before .before .renewed .ensures)))
 
--- src/lib.rt:324:5
 loop-again-2 : tie.Need-loop-again-2 Inv-loop2 μ-loop2 Inv-loop3 μ-loop3 Inv-loop μ-loop
 loop-again-2 c = going-stands (going-filled (c .before .before .before .before .before .before .before .before .before .before .before .before .before .before .before .before .loop .inv) (c .before .before .before .before .before .before .before .loop2 .inv .1)) (c .before .before .before .before .before .before .before .before .before .before .before .before .before .before .before .next-item .ensures) (found-as (c .before .before .before .before .before .before .before .before .before .before .before .before .before .item .given .1) (c .before .before .before .before .before .before .before .before .before .before .before .renewed .ensures)) (records-mapped (c .before .before .before .before .before .before .before .loop2 .inv .1 .records) (c .before .before .before .before .effect .given .0 .0) (c .before .before .loop3 .i) (c .before .before .loop3 .inv .3)) (sym (c .before .before .before .before .effect .given .1) ∙ c .before .before .before .before .before .before .before .before .before .before .item-effect .ensures) (c .standing-after2 .ensures) (does-all (c .before .before .before .before .before .before .before .loop2 .inv .1 .records) _ _ _ _ (c .before .before .before .before .before .before .before .before .before .before .item-effect .ensures) (c .before .before .before .before .effect .given .1) (c .standing-after2 .ensures) (mapped-own (c .before .before .before .before .before .before .before .loop2 .inv .1 .records) (c .before .before .before .before .effect .given .0 .0) (c .before .before .loop3 .i) (c .before .before .loop3 .inv .3) (c .before .before .loop3 .inv .2) (c .before .loop3-test .left)))
 
--- src/lib.rt:348:33
 enum-known-effect-2 :
     tie.Need-enum-known-effect-2 Inv-loop2 μ-loop2 Inv-loop3 μ-loop3 Inv-loop μ-loop
 enum-known-effect-2 c = search needs
 
--- src/lib.rt:349:33
 cast-k : tie.Need-cast-k Inv-loop2 μ-loop2 Inv-loop3 μ-loop3 Inv-loop μ-loop
 cast-k c = search needs
 
--- src/lib.rt:351:56
 mul-apply-2 : tie.Need-mul-apply-2 Inv-loop2 μ-loop2 Inv-loop3 μ-loop3 Inv-loop μ-loop
 mul-apply-2 c = search needs
 
--- src/lib.rt:351:56
 array-copy-out-apply-2 :
     tie.Need-array-copy-out-apply-2 Inv-loop2 μ-loop2 Inv-loop3 μ-loop3 Inv-loop μ-loop
 array-copy-out-apply-2 c = search needs
 
--- src/lib.rt:351:40
 apply-requires-2 : tie.Need-apply-requires-2 Inv-loop2 μ-loop2 Inv-loop3 μ-loop3 Inv-loop μ-loop
 apply-requires-2 c κs = search needs
 
--- src/lib.rt:351:29
 mul-table-3 : tie.Need-mul-table-3 Inv-loop2 μ-loop2 Inv-loop3 μ-loop3 Inv-loop μ-loop
 mul-table-3 c = search needs
 
--- src/lib.rt:351:29
 array-set-from-table-3 :
     tie.Need-array-set-from-table-3 Inv-loop2 μ-loop2 Inv-loop3 μ-loop3 Inv-loop μ-loop
 array-set-from-table-3 c = search needs
 
--- src/lib.rt:324:5
 loop-less-3 : tie.Need-loop-less-3 Inv-loop2 μ-loop2 Inv-loop3 μ-loop3 Inv-loop μ-loop
 loop-less-3 c = omega (arith, next-later _ _ (c .before .before .before .before .before .before .before .before .before .before .before .before .before .before .before .next-item .ensures) (found-as (c .before .before .before .before .before .before .before .before .before .before .before .before .before .item .given .1) (c .before .before .before .before .before .before .before .before .before .before .before .renewed .ensures)))
 
--- src/lib.rt:324:5
 loop-again-3 : tie.Need-loop-again-3 Inv-loop2 μ-loop2 Inv-loop3 μ-loop3 Inv-loop μ-loop
 loop-again-3 c = going-goes (going-filled (c .before .before .before .before .before .before .before .before .before .before .before .before .before .before .before .before .loop .inv) (c .before .before .before .before .before .before .before .loop2 .inv .1)) (c .before .before .before .before .before .before .before .before .before .before .before .before .before .before .before .next-item .ensures) (found-as (c .before .before .before .before .before .before .before .before .before .before .before .before .before .item .given .1) (c .before .before .before .before .before .before .before .before .before .before .before .renewed .ensures)) (records-set (c .before .before .before .before .before .before .before .loop2 .inv .1 .records) _ _) (c .before .before .before .before .before .before .before .before .before .before .before .before .before .before .before .before .loop .inv .pass .counted) (does-one (c .before .before .before .before .before .before .before .loop2 .inv .1 .records) _ _ _ _ (c .before .before .before .before .before .before .before .before .before .before .item-effect .ensures) (c .before .before .before .before .effect2 .given .1) (reached-one _ (c .before .before .before .before .before .before .before .before .reach .ensures) (c .before .before .before .before .effect2 .given .1) (c .before .before .before .before .before .before .loop2-test .left) (c .before .before .if1 .taken)) (c .apply2 .ensures))
 
--- src/lib.rt:324:5
 loop-less-4 : tie.Need-loop-less-4 Inv-loop2 μ-loop2 Inv-loop3 μ-loop3 Inv-loop μ-loop
 loop-less-4 c = omega (arith, next-later _ _ (c .before .before .before .before .before .before .before .before .before .before .before .before .before .next-item .ensures) (found-as (c .before .before .before .before .before .before .before .before .before .before .before .item .given .1) (c .before .before .before .before .before .before .before .before .before .renewed .ensures)))
 
--- src/lib.rt:324:5
 loop-again-4 : tie.Need-loop-again-4 Inv-loop2 μ-loop2 Inv-loop3 μ-loop3 Inv-loop μ-loop
 loop-again-4 c = going-goes (going-filled (c .before .before .before .before .before .before .before .before .before .before .before .before .before .before .loop .inv) (c .before .before .before .before .before .loop2 .inv .1)) (c .before .before .before .before .before .before .before .before .before .before .before .before .before .next-item .ensures) (found-as (c .before .before .before .before .before .before .before .before .before .before .before .item .given .1) (c .before .before .before .before .before .before .before .before .before .renewed .ensures)) (c .before .before .before .before .before .loop2 .inv .1 .records) (c .before .before .before .before .before .before .before .before .before .before .before .before .before .before .loop .inv .pass .counted) (does-outside (c .before .before .before .before .before .loop2 .inv .1 .records) _ _ _ _ (c .before .before .before .before .before .before .before .before .item-effect .ensures) (c .before .before .effect2 .given .1) (c .if1 .left))
 
--- src/lib.rt:354:37
 enum-known-effect-3 :
     tie.Need-enum-known-effect-3 Inv-loop2 μ-loop2 Inv-loop3 μ-loop3 Inv-loop μ-loop
 enum-known-effect-3 c = search needs
 
--- src/lib.rt:355:29
 layout-of-requires :
     tie.Need-layout-of-requires Inv-loop2 μ-loop2 Inv-loop3 μ-loop3 Inv-loop μ-loop
-layout-of-requires c κs = c .before .before .before .before .loop2 .inv .0
+layout-of-requires c κs = search needs
 
--- src/lib.rt:356:31
 frame-of-requires : tie.Need-frame-of-requires Inv-loop2 μ-loop2 Inv-loop3 μ-loop3 Inv-loop μ-loop
 frame-of-requires c κs = search needs
 
--- src/lib.rt:358:33
 enum-told-2 : tie.Need-enum-told-2 Inv-loop2 μ-loop2 Inv-loop3 μ-loop3 Inv-loop μ-loop
 enum-told-2 c = search needs
 
--- src/lib.rt:358:33
 same-length : tie.Need-same-length Inv-loop2 μ-loop2 Inv-loop3 μ-loop3 Inv-loop μ-loop
 same-length c = put-long (c .before .before .before .before .before .before .before .before .before .before .before .before .before .before .before .before .before .loop .inv .pass .put) ∙ put-long (c .before .before .before .before .before .before .before .before .before .before .before .before .before .before .before .before .before .before .before .before .before .before .before .put-order .ensures)
 
--- src/lib.rt:358:33
 returns : tie.Need-returns Inv-loop2 μ-loop2 Inv-loop3 μ-loop3 Inv-loop μ-loop
 unfolding withFrame
 returns c = absurd (never-refuses ((going-filled (c .before .before .before .before .before .before .before .before .before .before .before .before .before .before .before .before .before .loop .inv) (c .before .before .before .before .before .before .before .before .loop2 .inv .1)) .pass) _ (c .before .before .before .before .before .before .before .before .before .before .before .before .before .before .before .before .next-item .ensures) (found-as (c .before .before .before .before .before .before .before .before .before .before .before .before .before .before .item .given .1) (c .before .before .before .before .before .before .before .before .before .before .before .before .renewed .ensures)) (going-carried (going-filled (c .before .before .before .before .before .before .before .before .before .before .before .before .before .before .before .before .before .loop .inv) (c .before .before .before .before .before .before .before .before .loop2 .inv .1)) (c .before .before .before .before .before .before .before .before .before .reach .result) (c .before .before .before .layout-of .result) (reached-count _ (c .before .before .before .before .before .before .before .before .before .reach .ensures) (c .before .before .before .before .before .effect3 .given .1) (c .before .before .before .before .before .before .before .before .before .before .before .before .before .before .before .before .before .loop .inv .pass .counted) refl) (c .before .before .before .layout-of .ensures) (c .before .before .before .before .before .before .before .loop2-test .left) _ _ _ (c .before .before .before .before .before .before .before .before .before .before .before .item-effect .ensures) (c .before .before .before .before .before .effect3 .given .1) (c .before .before .frame-of .ensures) (c .enum-told2 .given .1)))
 
--- src/lib.rt:360:43
 enum-known-sequences :
     tie.Need-enum-known-sequences Inv-loop2 μ-loop2 Inv-loop3 μ-loop3 Inv-loop μ-loop
 enum-known-sequences c = search needs
 
--- src/lib.rt:361:37
 part-requires : tie.Need-part-requires Inv-loop2 μ-loop2 Inv-loop3 μ-loop3 Inv-loop μ-loop
 part-requires c κs = search needs
 
--- src/lib.rt:362:44
-cast-size : tie.Need-cast-size Inv-loop2 μ-loop2 Inv-loop3 μ-loop3 Inv-loop μ-loop
-cast-size c = search needs
-
--- src/lib.rt:362:44
-mul-size : tie.Need-mul-size Inv-loop2 μ-loop2 Inv-loop3 μ-loop3 Inv-loop μ-loop
-mul-size c = omega (arith, framed-found (c .before .before .before .before .before .before .before .before .before .before .before .before .before .before .before .before .before .before .before .loop .frames) (c .before .before .before .before .before .before .before .before .before .before .before .before .before .before .before .before .before .before .before .loop .st) (c .before .before .before .before .before .layout-of .result .agree) (c .before .before .before .before .before .layout-of .result .octets) (c .before .before .before .before .before .before .before .effect3 .given .0 .1 .0) (c .before .before .before .before .frame-of .ensures) (c .before .before .sequences .given .1))
-
--- src/lib.rt:363:79
 cast-put-frame : tie.Need-cast-put-frame Inv-loop2 μ-loop2 Inv-loop3 μ-loop3 Inv-loop μ-loop
-cast-put-frame c = omega (arith, c .before .before .before .before .before .before .before .before .before .before .loop2 .inv .0)
+cast-put-frame c = going-start (going-filled (c .before .before .before .before .before .before .before .before .before .before .before .before .before .before .before .before .before .before .before .before .before .loop .inv) (c .before .before .before .before .before .before .before .before .before .before .before .before .loop2 .inv .1)) (c .before .before .before .before .before .before .before .before .before .before .before .before .before .reach .result) (c .before .before .before .before .before .before .before .layout-of .result) (reached-count _ (c .before .before .before .before .before .before .before .before .before .before .before .before .before .reach .ensures) (c .before .before .before .before .before .before .before .before .before .effect3 .given .1) (c .before .before .before .before .before .before .before .before .before .before .before .before .before .before .before .before .before .before .before .before .before .loop .inv .pass .counted) refl) (c .before .before .before .before .before .before .before .layout-of .ensures) (c .before .before .before .before .before .before .before .before .before .before .before .loop2-test .left) (c .before .before .before .before .before .before .before .before .before .before .before .before .before .before .before .before .before .before .before .before .next-item .ensures) (found-as (c .before .before .before .before .before .before .before .before .before .before .before .before .before .before .before .before .before .before .item .given .1) (c .before .before .before .before .before .before .before .before .before .before .before .before .before .before .before .before .renewed .ensures)) (c .before .before .before .before .before .before .before .before .before .before .before .before .before .before .before .item-effect .ensures) (c .before .before .before .before .before .before .before .before .before .effect3 .given .1) (c .before .before .before .before .before .before .frame-of .ensures) (c .before .before .before .before .sequences .given .1)
 
--- src/lib.rt:363:33
 put-frame-requires :
     tie.Need-put-frame-requires Inv-loop2 μ-loop2 Inv-loop3 μ-loop3 Inv-loop μ-loop
-put-frame-requires c κs = (going-ready (going-filled (c .before .before .before .before .before .before .before .before .before .before .before .before .before .before .before .before .before .before .before .before .loop .inv) (c .before .before .before .before .before .before .before .before .before .before .before .loop2 .inv .1)) (c .before .before .before .before .before .before .before .before .before .before .before .before .reach .result) (c .before .before .before .before .before .before .layout-of .result) (reached-count _ (c .before .before .before .before .before .before .before .before .before .before .before .before .reach .ensures) (c .before .before .before .before .before .before .before .before .effect3 .given .1) (c .before .before .before .before .before .before .before .before .before .before .before .before .before .before .before .before .before .before .before .before .loop .inv .pass .counted) refl) (c .before .before .before .before .before .before .layout-of .ensures) (c .before .before .before .before .before .before .before .before .before .before .loop2-test .left) (c .before .before .before .before .before .before .before .before .before .before .before .before .before .before .before .before .before .before .before .next-item .ensures) (found-as (c .before .before .before .before .before .before .before .before .before .before .before .before .before .before .before .before .before .item .given .1) (c .before .before .before .before .before .before .before .before .before .before .before .before .before .before .before .renewed .ensures)) (c .before .before .before .before .before .before .before .before .before .before .before .before .before .before .item-effect .ensures) (c .before .before .before .before .before .before .before .before .effect3 .given .1) (c .before .before .before .before .before .frame-of .ensures) (c .before .before .before .sequences .given .1), going-room (going-filled (c .before .before .before .before .before .before .before .before .before .before .before .before .before .before .before .before .before .before .before .before .loop .inv) (c .before .before .before .before .before .before .before .before .before .before .before .loop2 .inv .1)) (c .before .before .before .before .before .before .before .before .before .before .before .before .reach .result) (c .before .before .before .before .before .before .layout-of .result) (reached-count _ (c .before .before .before .before .before .before .before .before .before .before .before .before .reach .ensures) (c .before .before .before .before .before .before .before .before .effect3 .given .1) (c .before .before .before .before .before .before .before .before .before .before .before .before .before .before .before .before .before .before .before .before .loop .inv .pass .counted) refl) (c .before .before .before .before .before .before .layout-of .ensures) (c .before .before .before .before .before .before .before .before .before .before .loop2-test .left) (c .before .before .before .before .before .before .before .before .before .before .before .before .before .before .before .before .before .before .before .next-item .ensures) (found-as (c .before .before .before .before .before .before .before .before .before .before .before .before .before .before .before .before .before .item .given .1) (c .before .before .before .before .before .before .before .before .before .before .before .before .before .before .before .renewed .ensures)) (c .before .before .before .before .before .before .before .before .before .before .before .before .before .before .item-effect .ensures) (c .before .before .before .before .before .before .before .before .effect3 .given .1) (c .before .before .before .before .before .frame-of .ensures) (c .before .before .before .sequences .given .1) (c .before .part .result .now) (c .before .part .ensures))
+put-frame-requires c κs = search needs
 
--- src/lib.rt:365:42
 add-frames : tie.Need-add-frames Inv-loop2 μ-loop2 Inv-loop3 μ-loop3 Inv-loop μ-loop
-add-frames c = omega (arith, framed-found (c .before .before .before .before .before .before .before .before .before .before .before .before .before .before .before .before .before .before .before .before .before .before .before .loop .frames) (c .before .before .before .before .before .before .before .before .before .before .before .before .before .before .before .before .before .before .before .before .before .before .before .loop .st) (c .before .before .before .before .before .before .before .before .before .layout-of .result .agree) (c .before .before .before .before .before .before .before .before .before .layout-of .result .octets) (c .before .before .before .before .before .before .before .before .before .before .before .effect3 .given .0 .1 .0) (c .before .before .before .before .before .before .before .before .frame-of .ensures) (c .before .before .before .before .before .before .sequences .given .1))
+add-frames c = omega (arith, framed-found (c .before .before .before .before .before .before .before .before .before .before .before .before .before .before .before .before .before .before .before .before .before .before .before .before .before .loop .frames) (c .before .before .before .before .before .before .before .before .before .before .before .before .before .before .before .before .before .before .before .before .before .before .before .before .before .loop .st) (c .before .before .before .before .before .before .before .before .before .before .before .layout-of .result .agree) (c .before .before .before .before .before .before .before .before .before .before .before .layout-of .result .octets) (c .before .before .before .before .before .before .before .before .before .before .before .before .before .effect3 .given .0 .1 .0) (c .before .before .before .before .before .before .before .before .before .before .frame-of .ensures) (c .before .before .before .before .before .before .before .before .sequences .given .1))
 
--- src/lib.rt:324:5
 loop-less-5 : tie.Need-loop-less-5 Inv-loop2 μ-loop2 Inv-loop3 μ-loop3 Inv-loop μ-loop
-loop-less-5 c = omega (arith, next-later _ _ (c .before .before .before .before .before .before .before .before .before .before .before .before .before .before .before .before .before .before .before .before .before .before .next-item .ensures) (found-as (c .before .before .before .before .before .before .before .before .before .before .before .before .before .before .before .before .before .before .before .before .item .given .1) (c .before .before .before .before .before .before .before .before .before .before .before .before .before .before .before .before .before .before .renewed .ensures)))
+loop-less-5 c = omega (arith, next-later _ _ (c .before .before .before .before .before .before .before .before .before .before .before .before .before .before .before .before .before .before .before .before .before .before .before .before .next-item .ensures) (found-as (c .before .before .before .before .before .before .before .before .before .before .before .before .before .before .before .before .before .before .before .before .before .before .item .given .1) (c .before .before .before .before .before .before .before .before .before .before .before .before .before .before .before .before .before .before .before .before .renewed .ensures)))
 
--- src/lib.rt:324:5
 loop-again-5 : tie.Need-loop-again-5 Inv-loop2 μ-loop2 Inv-loop3 μ-loop3 Inv-loop μ-loop
-loop-again-5 c = going-frame (going-filled (c .before .before .before .before .before .before .before .before .before .before .before .before .before .before .before .before .before .before .before .before .before .before .before .loop .inv) (c .before .before .before .before .before .before .before .before .before .before .before .before .before .before .loop2 .inv .1)) (c .before .before .before .before .before .before .before .before .before .before .before .before .before .before .before .reach .result) (c .before .before .before .before .before .before .before .before .before .layout-of .result) (reached-count _ (c .before .before .before .before .before .before .before .before .before .before .before .before .before .before .before .reach .ensures) (c .before .before .before .before .before .before .before .before .before .before .before .effect3 .given .1) (c .before .before .before .before .before .before .before .before .before .before .before .before .before .before .before .before .before .before .before .before .before .before .before .loop .inv .pass .counted) refl) (c .before .before .before .before .before .before .before .before .before .layout-of .ensures) (c .before .before .before .before .before .before .before .before .before .before .before .before .before .loop2-test .left) (c .before .before .before .before .before .before .before .before .before .before .before .before .before .before .before .before .before .before .before .before .before .before .next-item .ensures) (found-as (c .before .before .before .before .before .before .before .before .before .before .before .before .before .before .before .before .before .before .before .before .item .given .1) (c .before .before .before .before .before .before .before .before .before .before .before .before .before .before .before .before .before .before .renewed .ensures)) (c .before .before .before .before .before .before .before .before .before .before .before .before .before .before .before .before .before .item-effect .ensures) (c .before .before .before .before .before .before .before .before .before .before .before .effect3 .given .1) (c .before .before .before .before .before .before .before .before .frame-of .ensures) (c .before .before .before .before .before .before .sequences .given .1) (λ (k : ℕ). omega (arith, c .before .before .before .before .before .before .before .before .before .before .before .before .before .before .before .before .before .before .before .before .before .before .before .before .before .before .before .before .before .before .before .before .shared-slice-known .given k)) (c .before .before .before .before .part .ensures) (c .before .before .put-frame .ensures)
+loop-again-5 c = going-frame (going-filled (c .before .before .before .before .before .before .before .before .before .before .before .before .before .before .before .before .before .before .before .before .before .before .before .before .before .loop .inv) (c .before .before .before .before .before .before .before .before .before .before .before .before .before .before .before .before .loop2 .inv .1)) (c .before .before .before .before .before .before .before .before .before .before .before .before .before .before .before .before .before .reach .result) (c .before .before .before .before .before .before .before .before .before .before .before .layout-of .result) (reached-count _ (c .before .before .before .before .before .before .before .before .before .before .before .before .before .before .before .before .before .reach .ensures) (c .before .before .before .before .before .before .before .before .before .before .before .before .before .effect3 .given .1) (c .before .before .before .before .before .before .before .before .before .before .before .before .before .before .before .before .before .before .before .before .before .before .before .before .before .loop .inv .pass .counted) refl) (c .before .before .before .before .before .before .before .before .before .before .before .layout-of .ensures) (c .before .before .before .before .before .before .before .before .before .before .before .before .before .before .before .loop2-test .left) (c .before .before .before .before .before .before .before .before .before .before .before .before .before .before .before .before .before .before .before .before .before .before .before .before .next-item .ensures) (found-as (c .before .before .before .before .before .before .before .before .before .before .before .before .before .before .before .before .before .before .before .before .before .before .item .given .1) (c .before .before .before .before .before .before .before .before .before .before .before .before .before .before .before .before .before .before .before .before .renewed .ensures)) (c .before .before .before .before .before .before .before .before .before .before .before .before .before .before .before .before .before .before .before .item-effect .ensures) (c .before .before .before .before .before .before .before .before .before .before .before .before .before .effect3 .given .1) (c .before .before .before .before .before .before .before .before .before .before .frame-of .ensures) (c .before .before .before .before .before .before .before .before .sequences .given .1) (λ (k : ℕ). omega (arith, c .before .before .before .before .before .before .before .before .before .before .before .before .before .before .before .before .before .before .before .before .before .before .before .before .before .before .before .before .before .before .before .before .before .before .shared-slice-known .given k)) (c .before .before .before .before .before .before .part .ensures) (c .before .before .put-frame .ensures)
 
--- src/lib.rt:370:25
 enum-told-3 : tie.Need-enum-told-3 Inv-loop2 μ-loop2 Inv-loop3 μ-loop3 Inv-loop μ-loop
 enum-told-3 c = search needs
 
--- src/lib.rt:370:25
 same-length-2 : tie.Need-same-length-2 Inv-loop2 μ-loop2 Inv-loop3 μ-loop3 Inv-loop μ-loop
 same-length-2 c = put-long (c .before .before .before .before .before .before .before .before .before .before .before .before .loop .inv .pass .put) ∙ put-long (c .before .before .before .before .before .before .before .before .before .before .before .before .before .before .before .before .before .before .put-order .ensures)
 
--- src/lib.rt:370:25
 returns-2 : tie.Need-returns-2 Inv-loop2 μ-loop2 Inv-loop3 μ-loop3 Inv-loop μ-loop
 unfolding carried
 returns-2 c = absurd (never-refuses ((going-filled (c .before .before .before .before .before .before .before .before .before .before .before .before .loop .inv) (c .before .before .before .loop2 .inv .1)) .pass) _ (c .before .before .before .before .before .before .before .before .before .before .before .next-item .ensures) (found-as (c .before .before .before .before .before .before .before .before .before .item .given .1) (c .before .before .before .before .before .before .before .renewed .ensures)) (carried-by _ _ _ (c .before .before .before .before .before .before .item-effect .ensures) (c .enum-told3 .given .1)))
 
--- src/lib.rt:373:25
 standing-after-requires-3 :
     tie.Need-standing-after-requires-3 Inv-loop2 μ-loop2 Inv-loop3 μ-loop3 Inv-loop μ-loop
 standing-after-requires-3 c κs = search needs
 
--- src/lib.rt:324:5
 loop-less-6 : tie.Need-loop-less-6 Inv-loop2 μ-loop2 Inv-loop3 μ-loop3 Inv-loop μ-loop
 loop-less-6 c = omega (arith, next-later _ _ (c .before .before .before .before .before .before .before .before .before .before .before .next-item .ensures) (found-as (c .before .before .before .before .before .before .before .before .before .item .given .1) (c .before .before .before .before .before .before .before .renewed .ensures)))
 
--- src/lib.rt:324:5
 loop-again-6 : tie.Need-loop-again-6 Inv-loop2 μ-loop2 Inv-loop3 μ-loop3 Inv-loop μ-loop
 loop-again-6 c = going-stands (going-filled (c .before .before .before .before .before .before .before .before .before .before .before .before .loop .inv) (c .before .before .before .loop2 .inv .1)) (c .before .before .before .before .before .before .before .before .before .before .before .next-item .ensures) (found-as (c .before .before .before .before .before .before .before .before .before .item .given .1) (c .before .before .before .before .before .before .before .renewed .ensures)) (c .before .before .before .loop2 .inv .1 .records) (c .before .before .before .before .before .before .item-effect .ensures) (c .standing-after3 .ensures) (does-stands (c .before .before .before .loop2 .inv .1 .records) _ _ _ _ (c .before .before .before .before .before .before .item-effect .ensures) (c .before .match2 .keys6) (c .standing-after3 .ensures))
 
--- src/lib.rt:378:17
 same-length-3 : tie.Need-same-length-3 Inv-loop2 μ-loop2 Inv-loop3 μ-loop3 Inv-loop μ-loop
 same-length-3 c = put-long (c .before .before .loop .inv .pass .put) ∙ put-long (c .before .before .before .before .before .before .before .before .put-order .ensures)
 
--- src/lib.rt:378:17
 returns-3 : tie.Need-returns-3 Inv-loop2 μ-loop2 Inv-loop3 μ-loop3 Inv-loop μ-loop
 returns-3 c = written-done (c .before .before .loop .inv .pass) (c .before .next-item .result) (c .match .keys2) (c .before .next-item .ensures) (c .before .before .before .before .before .before .before .before .put-order .ensures)
 
@@ -396,8 +323,6 @@ write-frames-spec =
     returns
     enum-known-sequences
     part-requires
-    cast-size
-    mul-size
     cast-put-frame
     put-frame-requires
     add-frames

@@ -2,10 +2,11 @@
 use native.Mathlib.Omega.{arith}
 use borrow.Author.Needs.{needs}
 use Prim.Native.Nat.{_-_}
-use lib.ListN.{replicate}
+use lib.ListN.{replicate, length-replicate}
 use Rattle.settings.specs.Settings.{channelLimit}
-use Rattle.pass.proofs.Scans.{Summing, summing-none, summed-up, channels-few}
-use Rattle.pass.proofs.Ahead.{bare-records, bare-more}
+use Rattle.layout.proofs.Laws.{Summing, summing-none, summed-up}
+use Rattle.pass.proofs.Scans.{channels-few}
+use Rattle.pass.proofs.Ahead.{bare-more}
 use Rattle.pass.proofs.root_layout.Statement.{statement}
 use Rattle.pass.proofs.root_layout.Tie as tie
 use Rattle.pass.proofs.root_layout.Reads as reads
@@ -34,7 +35,7 @@ none-requires c κs = search needs
 
 -- src/lib.rt:315:5
 loop-holds : tie.Need-loop-holds Inv-loop μ-loop
-loop-holds c = summing-none _ (bare-records _) (rw (c .before .before .channels-of .ensures) (channels-few _ (c .before .before .before .pre))) (c .none .ensures)
+loop-holds c = summing-none _ (length-replicate channelLimit (c .before .before .before .args .st .root)) (rw (c .before .before .channels-of .ensures) (channels-few _ (c .before .before .before .pre))) (c .none .ensures)
 
 -- src/lib.rt:316:9
 more-requires : tie.Need-more-requires Inv-loop μ-loop

@@ -9,7 +9,8 @@ use Rattle.items.proofs.Walks.{next-later}
 use Rattle.settings.specs.Settings.{zeroSettings, applied}
 use Rattle.settings.proofs.Mapped.{mapped, mapped-put}
 use Rattle.pass.specs.Verdict.{carried, withFrame}
-use Rattle.pass.proofs.Scans.{Filling, filling-none, filling-more, reach-few, reached-one, reached-frame, reached-count, records-set, records-mapped, mapped-own, does-nothing, does-stands, does-count, does-all, does-one, does-outside, carried-by, found-as, Summing, summing-none, summing-more, summed-up, Passing, passing-at, passing-goes, passing-stands, passing-filled, passing-carried, passing-met, met-room, scanned-end, scanned-fault, scanned-refuses}
+use Rattle.layout.proofs.Laws.{Summing, summing-none, summing-more, summed-up}
+use Rattle.pass.proofs.Scans.{Filling, filling-none, filling-more, reach-few, reached-one, reached-frame, reached-count, records-set, records-mapped, mapped-own, does-nothing, does-stands, does-count, does-all, does-one, does-outside, carried-by, found-as, Passing, passing-at, passing-goes, passing-stands, passing-filled, passing-carried, passing-met, met-room, scanned-end, scanned-fault, scanned-refuses}
 use Rattle.pass.proofs.Stretches.{opened-group, opened-nothing, opened-counted, group-entered, stretch-on}
 use Rattle.pass.proofs.Ahead.{passing-from, passing-group}
 use Rattle.pass.proofs.scan_channels.Statement.{statement}
@@ -323,7 +324,7 @@ none-requires c κs = search needs
 
 -- src/lib.rt:385:25
 loop5-holds : tie.Need-loop5-holds Inv-loop2 μ-loop2 Inv-loop3 μ-loop3 Inv-loop4 μ-loop4 Inv-loop5 μ-loop5 Inv-loop μ-loop
-loop5-holds c = summing-none _ (c .before .before .before .before .before .loop3 .inv .1 .records) (c .before .before .before .before .before .loop3 .inv .0) (c .none .ensures)
+loop5-holds c = summing-none _ (c .before .before .before .before .before .loop3 .inv .1 .records .full) (c .before .before .before .before .before .loop3 .inv .0) (c .none .ensures)
 
 -- src/lib.rt:386:58
 mul-more : tie.Need-mul-more Inv-loop2 μ-loop2 Inv-loop3 μ-loop3 Inv-loop4 μ-loop4 Inv-loop5 μ-loop5 Inv-loop μ-loop

@@ -1,6 +1,7 @@
 -- The frame is kept where it is the one that is asked for, and its octets are added up.
-use mathlib.Core.Path.{_≡_, _∙_, ap, subst}
-use Prim.Native.Nat.{ℕ, _+_, _<_}
+use mathlib.Core.Path.{_≡_, _∙_, ap}
+use Prim.Native.Nat.{_+_, _*_}
+use Rattle.layout.proofs.Laws.{frame-few}
 use Rattle.pass.specs.declared.Found.{Found}
 use Rattle.pass.specs.declared.Met.{Met}
 use Rattle.pass.specs.Passing.{viewMet}
@@ -10,60 +11,61 @@ use Rattle.pass.proofs.Met.with_frame.Statement.{statement}
 use Rattle.pass.proofs.Met.with_frame.Tie as tie
 use Rattle.pass.proofs.Met.with_frame.Reads as reads
 use Rattle.pass.proofs.Met.with_frame.Lts as lts
-use Rattle.pass.proofs.frame_size.Reads as frame-size-reads
+use Rattle.layout.proofs.frame_size.Reads as frame-size-reads
 use Rattle.pass.proofs.view_of.Reads as view-of-reads
 
--- src/lib.rt:215:64
-mul-frame-size : tie.Need-mul-frame-size
-mul-frame-size c = search needs
+mul-waveform : tie.Need-mul-waveform
+mul-waveform c = search needs
 
--- src/lib.rt:215:32
+cast-frame-size : tie.Need-cast-frame-size
+cast-frame-size c = search needs
+
+cast-frame-size-2 : tie.Need-cast-frame-size-2
+cast-frame-size-2 c = search needs
+
 frame-size-requires : tie.Need-frame-size-requires
 frame-size-requires c κs = search needs
 
--- src/lib.rt:215:20
 add-size : tie.Need-add-size
 add-size c = search needs
 
--- src/lib.rt:216:22
 add-frames : tie.Need-add-frames
 add-frames c = search needs
 
--- src/lib.rt:220:37
 view-of-requires : tie.Need-view-of-requires
 view-of-requires c κs = search needs
 
--- src/lib.rt:218:13
 returns : tie.Need-returns
 returns c =
-    let a = c .before .before .before .before .before .before .before .before .args in
+    let a = c .before .before .before .before .before .before .before .before .before .args in
     let n = c .before .before .before .before .before .before .frame-size .ensures in (
       λ k. record {
         frames = a .self .frames + 1;
         found = (ap Found.Frame (c .view-of .ensures) ∙ kept-this _ (a .self .found) (c .before .if1 .taken)) k;
         size = a .self .size + n .0 k;
       },
-      subst (λ (m : ℕ). m < 4294967296) (n .0) (n .1),
+      frame-few (a .sequences) (a .l .groups) (a .sequences * a .l .octets) (c .before .before .before .before .before .before .before .before .before .pre .2) (c .before .before .before .before .before .before .before .before .before .pre .3),
     )
 
--- src/lib.rt:203:5
 returns-2 : tie.Need-returns-2
 returns-2 c =
-    let a = c .before .before .before .before .before .before .before .args in
+    let a = c .before .before .before .before .before .before .before .before .args in
     let n = c .before .before .before .before .before .frame-size .ensures in (
       λ k. record {
         frames = a .self .frames + 1;
         found = kept-before (Found.Frame (viewMet (a .asked .channel) (a .st) (a .sequences) (a .start) (a .l) (a .c))) (a .self .found) (c .if1 .left) k;
         size = a .self .size + n .0 k;
       },
-      subst (λ (m : ℕ). m < 4294967296) (n .0) (n .1),
+      frame-few (a .sequences) (a .l .groups) (a .sequences * a .l .octets) (c .before .before .before .before .before .before .before .before .pre .2) (c .before .before .before .before .before .before .before .before .pre .3),
     )
 
 pub with-frame-spec : {M : Type 1} → statement M
 with-frame-spec =
     tie.close
     (tie.spec
-    mul-frame-size
+    mul-waveform
+    cast-frame-size
+    cast-frame-size-2
     frame-size-requires
     add-size
     add-frames

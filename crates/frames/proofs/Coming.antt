@@ -1,0 +1,222 @@
+-- Loops that store one run after another: the octets still to come, stored from here on, give the wanted buffer.
+--     coming-first             before the first run
+--     coming-put, coming-step  after one run
+--     coming-room              the next run fits
+--     coming-done              after the last run
+--     groups-next, sequence-next, all-next    the next run of a frame's groups and of a waveform that is turned round
+-- Assumes nothing.
+use mathlib.Core.Path.{_≡_, refl, sym, ap, ap₂, subst, _∙_}
+use mathlib.Core.List.{List, [], _∷_, _++_, map}
+use Prim.Native.Nat.{ℕ, zero, suc, _+_, _-_, _*_, _≤_, _<_}
+use native.Mathlib.Omega.{arith}
+use native.Mathlib.Numerals.{add-one}
+use native.Mathlib.Nat.{mul-le-mul-right}
+use lib.ListN.{length, getD, take, drop, length-append, drop-of-length-le, length-drop}
+use lib.Seq.{sets, drop-cons, drop-drop, getD-take, length-take-le}
+use Rattle.stores.specs.Storing.{Put, Putting, put-fits}
+use Rattle.runs.specs.Turned.{turned, turnedRun}
+use Rattle.stores.proofs.Stores.{sets-append, put-long}
+use Rattle.runs.proofs.Turned.{run-there, length-turned}
+use Rattle.values.specs.Sample.{widthOf}
+use Rattle.settings.specs.declared.Settings.{Settings}
+use Rattle.settings.specs.Settings.{zeroSettings}
+use Rattle.layout.specs.Frame.{widthIn, blockOctets, sequenceOctets}
+use Rattle.laid.specs.Turned.{turnedSequence, turnedAll}
+use Rattle.groups.specs.Group.{settled, groupOctets, groupsOctets}
+
+pub record Coming (d : List ℕ) (at : ℕ) (all : List ℕ) (next : ℕ) (rest e : List ℕ) : Type 0 where
+  pub stored : sets e next rest ≡ sets d at all
+  pub place : next + length rest ≡ at + length all
+  pub long : length e ≡ length d
+
+pub coming-first : (d : List ℕ) (at : ℕ) (all : List ℕ) → Coming d at all at all d
+coming-first d at all = record { stored = refl; place = refl; long = refl }
+
+pub coming-put : {d all rest e u more f : List ℕ} {at next r : ℕ} → Coming d at all next rest e → rest ≡ u ++ more → Put e next u r f → Coming d at all r more f
+coming-put {d} {all} {rest} {e} {u} {more} {f} {at} {next} {r} p x q =
+    let l = length-append u more in
+    let m = ap length x in
+    record {
+      stored = rw (q .stored, q .next) (sets-append u more e next ∙ ap (sets e next) (sym x) ∙ p .stored);
+      place = omega (arith, q .next, p .place);
+      long = put-long q ∙ p .long;
+    }
+
+pub coming-room : (u more : List ℕ) {d all rest e : List ℕ} {at next : ℕ} → Coming d at all next rest e → rest ≡ u ++ more → at + length all ≤ length d → next + length u ≤ length e
+coming-room u more p x h =
+    let l = length-append u more in
+    let m = ap length x in
+    omega (arith, p .place, p .long)
+
+pub coming-step : {d all rest e u more f : List ℕ} {at next r : ℕ} → Coming d at all next rest e → rest ≡ u ++ more → at + length all ≤ length d → Putting e next u r f → Coming d at all r more f
+coming-step {u = u} {more = more} p x h q = coming-put p x (put-fits (coming-room u more p x h) q)
+
+pub coming-as : {d all rest more e : List ℕ} {at next : ℕ} → rest ≡ more → Coming d at all next rest e → Coming d at all next more e
+coming-as x p = rw x at p
+
+pub coming-done : {d all rest e : List ℕ} {at next : ℕ} → rest ≡ [] → Coming d at all next rest e → Put d at all next e
+coming-done x p =
+    let q = coming-as x p in
+    record { next = omega (arith, q .place); stored = q .stored }
+
+-- ---- groups
+
+pub groups-next : (cs : List Settings) (i : ℕ) (c : Settings) → i < length cs → c ≡ getD cs i zeroSettings → groupsOctets i (map settled (drop i cs)) ≡ groupOctets i (settled c) ++ groupsOctets (i + 1) (map settled (drop (i + 1) cs))
+unfolding groupsOctets
+groups-next cs i c h e = rw (drop-cons cs i zeroSettings h, add-one, ← e)
+
+pub groups-done : (cs : List Settings) (i : ℕ) → length cs ≤ i → groupsOctets i (map settled (drop i cs)) ≡ []
+unfolding groupsOctets
+groups-done cs i h = rw (drop-of-length-le cs h)
+
+-- ---- a waveform that is turned round
+
+-- One block of a sequence, and the rest of it.
+pub sequence-next : (cs : List Settings) (i : ℕ) (c : Settings) (x : List ℕ) (place : ℕ) → i < length cs → c ≡ getD cs i zeroSettings → turnedSequence (drop i cs) (drop place x) ≡ turned (widthIn c) (c .block) (drop place x) ++ turnedSequence (drop (i + 1) cs) (drop (place + blockOctets c) x)
+unfolding turnedSequence
+sequence-next cs i c x place h e = rw (drop-cons cs i zeroSettings h, add-one, ← e, drop-drop)
+
+pub octets-next : (cs : List Settings) (i : ℕ) (c : Settings) → i < length cs → c ≡ getD cs i zeroSettings → sequenceOctets (drop i cs) ≡ blockOctets c + sequenceOctets (drop (i + 1) cs)
+unfolding sequenceOctets
+octets-next cs i c h e = rw (drop-cons cs i zeroSettings h, add-one, ← e)
+
+pub sequence-done : (cs : List Settings) (i : ℕ) (x : List ℕ) → length cs ≤ i → turnedSequence (drop i cs) x ≡ []
+unfolding turnedSequence
+sequence-done cs i x h = rw (drop-of-length-le cs h)
+
+pub octets-done : (cs : List Settings) (i : ℕ) → length cs ≤ i → sequenceOctets (drop i cs) ≡ 0
+unfolding sequenceOctets
+octets-done cs i h = rw (drop-of-length-le cs h)
+
+-- One sequence, and those after it.
+pub all-next : (cs : List Settings) (n q : ℕ) (x : List ℕ) (place : ℕ) → q < n → turnedAll cs (n - q) (drop place x) ≡ turnedSequence cs (drop place x) ++ turnedAll cs (n - (q + 1)) (drop (place + sequenceOctets cs) x)
+unfolding turnedAll
+all-next cs n q x place h =
+    let e : n - q ≡ suc (n - (q + 1)) = omega arith in
+    rw (e, drop-drop)
+
+pub all-done : (cs : List Settings) (n q : ℕ) (x : List ℕ) → n ≤ q → turnedAll cs (n - q) x ≡ []
+unfolding turnedAll
+all-done cs n q x h =
+    let e : n - q ≡ 0 = omega arith in
+    rw e
+
+pub length-sequence : (cs : List Settings) (x : List ℕ) → sequenceOctets cs ≤ length x → length (turnedSequence cs x) ≡ sequenceOctets cs
+unfolding turnedSequence sequenceOctets blockOctets
+length-sequence [] x h = refl
+length-sequence (c ∷ cs) x h =
+    let l = length-drop (c .block * widthIn c) x in
+    let a : c .block * widthIn c ≤ length x = omega arith in
+    let b : sequenceOctets cs ≤ length (drop (c .block * widthIn c) x) = omega arith in
+    length-append (turned (widthIn c) (c .block) x) (turnedSequence cs (drop (c .block * widthIn c) x))
+    ∙ ap₂ _+_ (length-turned (widthIn c) (c .block) x a) (length-sequence cs (drop (c .block * widthIn c) x) b)
+
+pub length-all : (cs : List Settings) (n : ℕ) (x : List ℕ) → n * sequenceOctets cs ≤ length x → length (turnedAll cs n x) ≡ n * sequenceOctets cs
+unfolding turnedAll
+length-all cs zero x h = omega arith
+length-all cs (suc n) x h =
+    let l = length-drop (sequenceOctets cs) x in
+    let a : sequenceOctets cs ≤ length x = omega arith in
+    let b : n * sequenceOctets cs ≤ length (drop (sequenceOctets cs) x) = omega arith in
+    length-append (turnedSequence cs x) (turnedAll cs n (drop (sequenceOctets cs) x))
+    ∙ ap₂ _+_ (length-sequence cs x a) (length-all cs n (drop (sequenceOctets cs) x) b)
+    ∙ omega arith
+
+-- A block that is turned round, as it was asked for.
+pub block-stored : {e f : List ℕ} {next r : ℕ} (c : Settings) (v place : ℕ) (x : List ℕ) → v ≡ widthOf (c .kind) → place + blockOctets c ≤ length x → Putting e next (turnedRun v (c .block) (drop place x)) r f → Putting e next (turned (widthIn c) (c .block) (drop place x)) r f
+unfolding blockOctets
+block-stored {e} {f} {next} {r} c v place x ev h p =
+    let l = length-drop place x in
+    let k : c .block * widthIn c ≤ length (drop place x) = omega arith in
+    subst (λ (u : List ℕ). Putting e next u r f) (ap (λ (w : ℕ). turnedRun w (c .block) (drop place x)) ev ∙ run-there (widthIn c) (c .block) (drop place x) k) p
+
+-- An element of the first records of a table.
+pub taken-at : (t : List Settings) (n i : ℕ) → i < n → getD t i zeroSettings ≡ getD (take n t) i zeroSettings
+taken-at t n i h = sym (getD-take n t i zeroSettings h)
+
+pub taken-long : (t : List Settings) (n : ℕ) → length t ≡ 256 → n ≤ 256 → length (take n t) ≡ n
+taken-long t n e h = length-take-le n t (omega arith)
+
+-- ---- the loops over a waveform that is turned round
+
+-- Within a sequence that starts at `from` in the waveform x and is stored from `base` on in d: i blocks are behind.
+pub record Blocks (cs : List Settings) (x : List ℕ) (from base : ℕ) (d : List ℕ) (i place next : ℕ) (e : List ℕ) : Type 0 where
+  pub low : i ≤ length cs
+  pub fits : from + sequenceOctets cs ≤ length x
+  pub room : base + length (turnedSequence cs (drop from x)) ≤ length d
+  pub sum : place + sequenceOctets (drop i cs) ≡ from + sequenceOctets cs
+  pub coming : Coming d base (turnedSequence cs (drop from x)) next (turnedSequence (drop i cs) (drop place x)) e
+
+from-long : (cs : List Settings) (x : List ℕ) (from : ℕ) → from + sequenceOctets cs ≤ length x → length (turnedSequence cs (drop from x)) ≡ sequenceOctets cs
+from-long cs x from h =
+    let l = length-drop from x in
+    let k : sequenceOctets cs ≤ length (drop from x) = omega arith in
+    length-sequence cs (drop from x) k
+
+pub blocks-first : (cs : List Settings) (x : List ℕ) (from base : ℕ) (d : List ℕ) → from + sequenceOctets cs ≤ length x → base + sequenceOctets cs ≤ length d → Blocks cs x from base d 0 from base d
+blocks-first cs x from base d h k =
+    record { low = omega arith; fits = h; room = omega (arith, from-long cs x from h); sum = refl; coming = coming-first d base (turnedSequence cs (drop from x)) }
+
+module _ {cs : List Settings} {x : List ℕ} {from base : ℕ} {d : List ℕ} {i place next : ℕ} {e : List ℕ} (p : Blocks cs x from base d i place next e) where
+  pub blocks-fit : (c : Settings) → i < length cs → c ≡ getD cs i zeroSettings → place + blockOctets c ≤ length x
+  blocks-fit c h ec = omega (arith, p .sum, p .fits, octets-next cs i c h ec)
+
+  pub blocks-sum : (c : Settings) (v : ℕ) → i < length cs → c ≡ getD cs i zeroSettings → v ≡ widthOf (c .kind) → place + c .block * v ≤ length x
+  unfolding blockOctets
+  blocks-sum c v h ec ev = rw ev (blocks-fit c h ec)
+
+  pub blocks-next : (c : Settings) (v : ℕ) {r : ℕ} {f : List ℕ} → i < length cs → c ≡ getD cs i zeroSettings → v ≡ widthOf (c .kind) → Putting e next (turnedRun v (c .block) (drop place x)) r f → Blocks cs x from base d (i + 1) (place + c .block * v) r f
+  unfolding blockOctets
+  blocks-next c v {r} {f} h ec ev q =
+      let m : place + c .block * v ≡ place + blockOctets c = ap (λ (w : ℕ). place + c .block * w) ev in
+      rw m
+      record {
+        low = omega arith;
+        fits = p .fits;
+        room = p .room;
+        sum = omega (arith, p .sum, octets-next cs i c h ec);
+        coming = coming-step (p .coming) (sequence-next cs i c x place h ec) (p .room) (block-stored c v place x ev (blocks-fit c h ec) q);
+      }
+
+  pub blocks-place : length cs ≤ i → place ≡ from + sequenceOctets cs
+  blocks-place h = omega (arith, p .sum, octets-done cs i h)
+
+  pub blocks-done : length cs ≤ i → Put d base (turnedSequence cs (drop from x)) next e
+  blocks-done h = coming-done (sequence-done cs i (drop place x) h) (p .coming)
+
+-- All sequences of a waveform x, stored from `at` on in d: q of n are behind.
+pub record Sequences (cs : List Settings) (n : ℕ) (x d : List ℕ) (at q place next : ℕ) (e : List ℕ) : Type 0 where
+  pub low : q ≤ n
+  pub fits : n * sequenceOctets cs ≤ length x
+  pub room : at + length (turnedAll cs n x) ≤ length d
+  pub passed : place ≡ q * sequenceOctets cs
+  pub coming : Coming d at (turnedAll cs n x) next (turnedAll cs (n - q) (drop place x)) e
+
+pub sequences-first : (cs : List Settings) (n : ℕ) (x d : List ℕ) (at : ℕ) → n * sequenceOctets cs ≤ length x → at + n * sequenceOctets cs ≤ length d → Sequences cs n x d at 0 0 at d
+sequences-first cs n x d at h k =
+    let e : n - 0 ≡ n = omega arith in
+    record { low = omega arith; fits = h; room = omega (arith, length-all cs n x h); passed = omega arith; coming = rw e (coming-first d at (turnedAll cs n x)) }
+
+module _ {cs : List Settings} {n : ℕ} {x d : List ℕ} {at q place next : ℕ} {e : List ℕ} (p : Sequences cs n x d at q place next e) where
+  pub sequences-fit : q < n → place + sequenceOctets cs ≤ length x
+  sequences-fit h = omega (arith, p .passed, p .fits, mul-le-mul-right (sequenceOctets cs) (add-one-le' h))
+    where
+      add-one-le' : q < n → q + 1 ≤ n
+      add-one-le' l = omega arith
+
+  pub sequences-room : q < n → next + sequenceOctets cs ≤ length e
+  sequences-room h = omega (arith, from-long cs x place (sequences-fit h), coming-room (turnedSequence cs (drop place x)) (turnedAll cs (n - (q + 1)) (drop (place + sequenceOctets cs) x)) (p .coming) (all-next cs n q x place h) (p .room))
+
+  pub sequences-next : (place' : ℕ) {r : ℕ} {f : List ℕ} → q < n → place' ≡ place + sequenceOctets cs → Put e next (turnedSequence cs (drop place x)) r f → Sequences cs n x d at (q + 1) place' r f
+  sequences-next place' {r} {f} h ep s =
+      rw ep
+      record {
+        low = omega arith;
+        fits = p .fits;
+        room = p .room;
+        passed = omega (arith, p .passed);
+        coming = coming-put (p .coming) (all-next cs n q x place h) s;
+      }
+
+  pub sequences-done : n ≤ q → Put d at (turnedAll cs n x) next e
+  sequences-done h = coming-done (all-done cs n q (drop place x) h) (p .coming)

@@ -1,0 +1,4 @@
+pub mod Coming
+pub mod Samples
+pub mod Given
+pub mod Stored

@@ -1,0 +1,80 @@
+-- Every channel passed has the first one's width.
+use Prim.Native.Nat.{ℕ, _-_, _≤_, _<_}
+use mathlib.Core.Path.{_≡_, ap, sym, _∙_}
+use mathlib.Core.List.{List}
+use native.Mathlib.Omega.{arith}
+use borrow.Author.Needs.{needs}
+use lib.ListN.{length, take, getD}
+use Rattle.settings.specs.declared.Settings.{Settings}
+use Rattle.settings.specs.Settings.{zeroSettings}
+use Rattle.values.specs.Sample.{widthOf}
+use Rattle.laid.specs.Turned.{Even}
+use borrow.Author.Count.{below-none, below-more}
+use Rattle.frames.proofs.Coming.{taken-at, taken-long}
+use Rattle.frames.proofs.even_width.Statement.{statement}
+use Rattle.frames.proofs.even_width.Tie as tie
+use Rattle.frames.proofs.even_width.Reads as reads
+use Rattle.frames.proofs.even_width.Lts as lts
+use Rattle.values.proofs.width.Reads as width-reads
+
+abbrev Inv-loop : tie.InvT-loop
+Inv-loop count table v i₀ i = (i ≤ count) × (count ≤ 256) × (length table ≡ 256) × ((k : ℕ) → k < i → widthOf (getD table k zeroSettings .kind) ≡ v)
+
+abbrev μ-loop : tie.MeasureT-loop
+μ-loop count table v i₀ i = count - i
+
+array-copy-out-first : tie.Need-array-copy-out-first Inv-loop μ-loop
+array-copy-out-first c = search needs
+
+width-requires : tie.Need-width-requires Inv-loop μ-loop
+width-requires c κs = search needs
+
+loop-holds : tie.Need-loop-holds Inv-loop μ-loop
+loop-holds c = (omega arith, c .before .before .pre, search needs, below-none _)
+
+mul-c : tie.Need-mul-c Inv-loop μ-loop
+mul-c c = omega arith
+
+array-copy-out-c : tie.Need-array-copy-out-c Inv-loop μ-loop
+array-copy-out-c c = omega arith
+
+width-requires-2 : tie.Need-width-requires-2 Inv-loop μ-loop
+width-requires-2 c κs = search needs
+
+returns : tie.Need-returns Inv-loop μ-loop
+returns c = λ h. let z : ⊥ = omega arith in absurd z
+
+add-i : tie.Need-add-i Inv-loop μ-loop
+add-i c = omega arith
+
+loop-less : tie.Need-loop-less Inv-loop μ-loop
+loop-less c = omega arith
+
+loop-again : tie.Need-loop-again Inv-loop μ-loop
+loop-again c = (omega arith, c .before .before .before .before .loop .inv .1, c .before .before .before .before .loop .inv .2, below-more _ _ (c .before .before .before .before .loop .inv .3) (sym (c .before .width2 .ensures) ∙ c .if1 .left))
+
+even-taken : (t : List Settings) (n i v : ℕ) → length t ≡ 256 → n ≤ 256 → n ≤ i → ((k : ℕ) → k < i → widthOf (getD t k zeroSettings .kind) ≡ v) → Even v (take n t)
+even-taken t n i v e h l f j m =
+    let k : j < n = omega (arith, taken-long t n e h) in
+    ap (λ (c : Settings). widthOf (c .kind)) (sym (taken-at t n j k)) ∙ f j (omega arith)
+
+returns-2 : tie.Need-returns-2 Inv-loop μ-loop
+returns-2 c = λ h. even-taken (c .before .before .before .before .args .t1) (c .before .before .before .before .args .count) (c .before .loop .i) _ (c .before .loop .inv .2) (c .before .loop .inv .1) (c .loop-test .left) (c .before .loop .inv .3)
+
+pub even-width-spec : {M : Type 1} → statement M
+even-width-spec =
+    tie.close
+    (tie.spec
+    Inv-loop
+    μ-loop
+    array-copy-out-first
+    width-requires
+    loop-holds
+    mul-c
+    array-copy-out-c
+    width-requires-2
+    returns
+    add-i
+    loop-less
+    loop-again
+    returns-2)

@@ -1,0 +1,33 @@
+-- A frame of the canonical file (document 01, "The canonical file"), in the parts in which it is written.
+use mathlib.Core.List.{List, [], _∷_, _++_, map}
+use mathlib.Core.Bool.{Bool, true, false}
+use Prim.Native.Nat.{ℕ, _*_, min}
+use lib.Dec.{leb}
+use lib.ListN.{length, take}
+use lib.IntN.{ℤ}
+use Rattle.octets.specs.Pick.{pick}
+use Rattle.stores.specs.Length.{shortest}
+use Rattle.laid.specs.Turned.{turnedAll}
+use Rattle.settings.specs.declared.Settings.{Settings}
+use Rattle.layout.specs.Frame.{sequenceOctets}
+use Rattle.groups.specs.Head.{headItems}
+use Rattle.groups.specs.Group.{settled, groupsOctets}
+
+-- The samples of a waveform, big-endian: as they stand where the byte order is big, else each turned round.
+abbrev pub samplesTurned : Bool → List Settings → ℕ → List ℕ → List ℕ
+samplesTurned false cs sequences x = take (sequences * sequenceOctets cs) x
+samplesTurned true cs sequences x = turnedAll cs sequences x
+
+-- 05, 06 and 07; a group for each channel in order; then 1E, its length and the samples' octets.
+abbrev pub frameParts : ℤ → ℕ → List Settings → List ℕ → List ℕ
+frameParts start sequences cs samples =
+    (((headItems (length cs) sequences start ++ groupsOctets 0 (map settled cs)) ++ (0x1E ∷ [])) ++ shortest (sequences * sequenceOctets cs)) ++ samples
+
+-- The most octets that a file may have, and so a waveform.
+abbrev pub waveformLimit : ℕ
+waveformLimit = 2_147_483_647
+
+-- The frame of a waveform x that holds its sequences, if these are no more octets than a waveform may have; else no octets.
+unfoldable pub frameGiven : ℤ → Bool → ℕ → List Settings → List ℕ → List ℕ
+frameGiven start little sequences cs x =
+    pick (leb (sequences * sequenceOctets cs) (min (length x) waveformLimit)) (frameParts start sequences cs (samplesTurned little cs sequences x)) []

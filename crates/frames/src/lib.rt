@@ -1,0 +1,197 @@
+// A frame of the canonical file: head, groups, 1E and the samples.
+//
+// Promises: `put_frame` stores a frame from the place `at` on and returns the place after it; where it does not fit, or where the waveform
+// lacks octets of the sequences, nothing is stored and `at` is returned. `Putting` of crate stores says this once.
+// Read first: specs/Parts.antt (the octets; a frame's head and groups are in crate groups).
+// The size is known before the first octet is stored. What is private here stores what fits: `Put` says which octets, from where on.
+ghost use mathlib.Core.Path.{_≡_};
+ghost use mathlib.Core.List.{map};
+ghost use Prim.Native.Nat.{_+_, _*_, _≤_, _<_, min};
+ghost use lib.Dec.{leb};
+ghost use lib.ListN.{length, take};
+ghost use Rattle.stores.specs.Storing.{Put, Putting};
+ghost use Rattle.layout.specs.Frame.{sequenceOctets};
+ghost use Rattle.layout.specs.Size.{groupsSize, frameSize};
+ghost use Rattle.laid.specs.Turned.{Even, turnedAll};
+ghost use Rattle.groups.specs.Group.{settled, groupsOctets};
+ghost use Rattle.frames.specs.Parts.{samplesTurned, frameParts, waveformLimit, frameGiven};
+use settings::Settings;
+
+// The groups of the first `count` channels.
+fn put_groups(out: &mut [u8], at: usize, table: [Settings; 256], count: usize) -> usize
+    requires { ⌜ (count ≤ 256) × (at + groupsSize 0 (take count table) ≤ length (now out)) ⌝ }
+    ensures { λ r. ⌜ Put (now (out .entry)) at (groupsOctets 0 (map settled (take count table))) r (now (out .exit)) ⌝ }
+{
+    let mut i = 0usize;
+    let mut next = at;
+    while i < count {
+        let c = table[i];
+        next = groups::put_group(out, next, i as u8, c);
+        i += 1;
+    }
+    next
+}
+
+// The width of all channels where it is one, else 0.
+fn even_width(table: [Settings; 256], count: usize) -> usize
+    requires { ⌜ count ≤ 256 ⌝ }
+    ensures { λ r. ⌜ (0 < r → Even r (take count table)) ⌝ }
+{
+    let first = table[0];
+    let v = values::width(first.kind);
+    let mut i = 0usize;
+    while i < count {
+        let c = table[i];
+        if values::width(c.kind) != v {
+            return 0;
+        }
+        i += 1;
+    }
+    v
+}
+
+// The samples of all sequences of a waveform, each turned round, block by block.
+fn put_blocks(
+    w: &[u8],
+    sequences: u32,
+    table: [Settings; 256],
+    count: usize,
+    out: &mut [u8],
+    at: usize,
+) -> usize
+    requires { ⌜ (count ≤ 256) × (sequences * sequenceOctets (take count table) ≤ length (now w)) ⌝ }
+    requires { ⌜ at + sequences * sequenceOctets (take count table) ≤ length (now out) ⌝ }
+    ensures { λ r. ⌜ Put (now (out .entry)) at (turnedAll (take count table) sequences (now (w .entry))) r (now (out .exit)) ⌝ }
+{
+    let mut q = 0u32;
+    let mut place = 0usize;
+    let mut next = at;
+    while q < sequences {
+        let mut i = 0usize;
+        while i < count {
+            let c = table[i];
+            let v = values::width(c.kind);
+            next = runs::turn(w, place, c.block as usize, v, out, next);
+            place = place + c.block as usize * v;
+            i += 1;
+        }
+        q += 1;
+    }
+    next
+}
+
+// The samples of a waveform, big-endian: as they stand where their order is big or no sample has two octets, turned round in one run
+// where all have one width, else block by block.
+fn put_samples(
+    w: &[u8],
+    little: bool,
+    sequences: u32,
+    octets: usize,
+    table: [Settings; 256],
+    count: usize,
+    out: &mut [u8],
+    at: usize,
+) -> usize
+    requires { ⌜ (count ≤ 256) × (octets ≡ sequences * sequenceOctets (take count table)) ⌝ }
+    requires { ⌜ (octets ≤ length (now w)) × (at + octets ≤ length (now out)) ⌝ }
+    ensures { λ r. ⌜ Put (now (out .entry)) at (samplesTurned «little» (take count table) sequences (now (w .entry))) r (now (out .exit)) ⌝ }
+{
+    let v = even_width(table, count);
+    if !little {
+        return runs::copy(w, 0, octets, out, at);
+    }
+    if v == 1 {
+        return runs::copy(w, 0, octets, out, at);
+    }
+    if v == 0 {
+        return put_blocks(w, sequences, table, count, out, at);
+    }
+    runs::turn(w, 0, octets / v, v, out, at)
+}
+
+// A frame: 05, 06, 07, the groups, 1E and the samples.
+fn store_frame(
+    w: &[u8],
+    start: i32,
+    little: bool,
+    sequences: u32,
+    octets: usize,
+    table: [Settings; 256],
+    count: usize,
+    out: &mut [u8],
+    at: usize,
+) -> usize
+    requires { ⌜ (count ≤ 256) × (octets ≡ sequences * sequenceOctets (take count table)) ⌝ }
+    requires { ⌜ (octets ≤ length (now w)) × (octets < 4294967296) × (at + frameSize sequences (groupsSize 0 (take count table)) octets ≤ length (now out)) ⌝ }
+    ensures { λ r. ⌜ Put (now (out .entry)) at (frameParts start sequences (take count table) (samplesTurned «little» (take count table) sequences (now (w .entry)))) r (now (out .exit)) ⌝ }
+{
+    let a = groups::put_head(out, at, count as u32, sequences, start);
+    let b = put_groups(out, a, table, count);
+    let c = stores::put_octet(out, b, 0x1E);
+    let d = stores::put_length(out, c, octets as u32);
+    put_samples(w, little, sequences, octets, table, count, out, d)
+}
+
+// No more channels than a frame may have.
+fn few(count: usize) -> usize
+    ensures { λ r. ⌜ r ≡ min count 256 ⌝ }
+{
+    if count < 256 { count } else { 256 }
+}
+
+// No more octets than a waveform may have.
+fn most(long: usize) -> u64
+    ensures { λ r. ⌜ r ≡ min long waveformLimit ⌝ }
+{
+    if long < 2_147_483_647 {
+        long as u64
+    } else {
+        2_147_483_647
+    }
+}
+
+// Whether a waveform of `long` octets holds so many sequences of so many octets, and may do so.
+fn holds(long: usize, sequences: u32, octets: u64) -> bool
+    ensures { λ r. ⌜ r ≡ leb (sequences * octets) (min long waveformLimit) ⌝ }
+{
+    if octets == 0 {
+        return true;
+    }
+    sequences as u64 <= most(long) / octets
+}
+
+// Stores the frame of a waveform, whose channels hold the first `count` settings of a table.
+pub fn put_frame(
+    w: &[u8],
+    start: i32,
+    little: bool,
+    sequences: u32,
+    table: [Settings; 256],
+    count: usize,
+    out: &mut [u8],
+    at: usize,
+) -> usize
+    ensures { λ r. ⌜ Putting (now (out .entry)) at (frameGiven start «little» sequences (take count table) (now (w .entry))) r (now (out .exit)) ⌝ }
+{
+    let k = few(count);
+    let l = layout::layout_of(table, k);
+    if !holds(w.len(), sequences, l.octets) {
+        return at;
+    }
+    let octets = sequences as u64 * l.octets;
+    let size = layout::frame_size(sequences, l.groups as u32, octets as u32);
+    if stores::overruns(out.len(), at, size as usize) {
+        return at;
+    }
+    store_frame(
+        w,
+        start,
+        little,
+        sequences,
+        octets as usize,
+        table,
+        k,
+        out,
+        at,
+    )
+}
