@@ -64,7 +64,7 @@ use Rattle.groups.specs.Item.{item}
 use Rattle.groups.specs.Head.{headItems}
 use Rattle.groups.specs.Group.{settled, groupsOctets}
 use Rattle.groups.proofs.Puts.{put-as}
-use Rattle.frames.specs.Parts.{samplesTurned, frameParts, waveformLimit, frameGiven}
+use Rattle.frames.specs.Parts.{samplesTurned, frameParts, frameGiven}
 use Rattle.frames.proofs.Given.{frame-put}
 use Rattle.canonical.specs.Recording.{Recorded, recordedFrame, recording}
 use Rattle.canonical.specs.Canonical.{waveformOf, frameOctets, framesOctets, canonical}
@@ -328,7 +328,7 @@ module _ {s d : List ℕ} {table : List Settings} {c : Cursor} {st : Standing} {
     writing-frame {w} {at'} {e'} o ew q =
         let v : length w ≡ length (there .waveform) = ap length ew in
         let held : sequences * sequenceOctets (take count table) ≤ length w = omega (arith, octets-there, lies .fits) in
-        let few : sequences * sequenceOctets (take count table) ≤ waveformLimit = omega (arith, octets-there, lies .fits, lies .inside, accepted-small s all (p .is)) in
+        let few : sequences * sequenceOctets (take count table) ≤ octetsLimit = omega (arith, octets-there, lies .fits, lies .inside, accepted-small s all (p .is)) in
         let k : frameParts (narrowed (st .start)) sequences (take count table) (samplesTurned (st .little) (take count table) sequences w) ≡ frameOctets (recordedFrame there) =
         (λ i. frameParts (narrow-is (st .start) start-small i) sequences (same-there i) (samplesTurned (st .little) (same-there i) sequences (ew i)))
         ∙ ap (frameParts (there .start) sequences (there .channels)) (samples-are s there lies (take-octets len (drop start s) (drop-octets start s o)))

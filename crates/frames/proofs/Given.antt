@@ -18,6 +18,7 @@ use lib.Dec.{ltb, leb}
 use lib.IntN.{ℤ}
 use lib.ListN.{length, take, length-append}
 use lib.Seq.{length-take-le}
+use Rattle.framing.specs.Framing.{octetsLimit}
 use Rattle.octets.specs.Pick.{pick}
 use Rattle.stores.specs.Number.{be, length-be}
 use Rattle.stores.specs.Length.{holding, shortest}
@@ -30,7 +31,7 @@ use Rattle.layout.specs.declared.Layout.{Layout}
 use Rattle.layout.specs.Measure.{layoutOf}
 use Rattle.layout.proofs.Laws.{take-few, groups-few}
 use Rattle.groups.proofs.Sizes.{head-long, groups-long}
-use Rattle.frames.specs.Parts.{samplesTurned, frameParts, waveformLimit, frameGiven}
+use Rattle.frames.specs.Parts.{samplesTurned, frameParts, frameGiven}
 use Rattle.frames.proofs.Coming.{length-all}
 
 pub length-size : (n : ℕ) → length (shortest n) ≡ lengthSize n
@@ -45,11 +46,11 @@ length-size n = by (ltb n 128) (ltb n 256) (ltb n 65_536) (ltb n 16_777_216)
     by false false false false = ap suc (length-be 4 n)
 
 module _ (start : ℤ) (little : Bool) (sequences : ℕ) (cs : List Settings) (x : List ℕ) where
-  pub given-some : leb (sequences * sequenceOctets cs) (min (length x) waveformLimit) ≡ true → frameGiven start little sequences cs x ≡ frameParts start sequences cs (samplesTurned little cs sequences x)
+  pub given-some : leb (sequences * sequenceOctets cs) (min (length x) octetsLimit) ≡ true → frameGiven start little sequences cs x ≡ frameParts start sequences cs (samplesTurned little cs sequences x)
   unfolding frameGiven
   given-some e = rw e
 
-  pub given-none : leb (sequences * sequenceOctets cs) (min (length x) waveformLimit) ≡ false → frameGiven start little sequences cs x ≡ []
+  pub given-none : leb (sequences * sequenceOctets cs) (min (length x) octetsLimit) ≡ false → frameGiven start little sequences cs x ≡ []
   unfolding frameGiven
   given-none e = rw e
 
@@ -66,9 +67,9 @@ module _ (start : ℤ) (little : Bool) (sequences : ℕ) (cs : List Settings) (x
     parts-long =
         simp (length-append, head-long, groups-long, length-size, samples-long) (omega arith)
 
-    pub frame-put : {d e : List ℕ} {at r : ℕ} → sequences * sequenceOctets cs ≤ waveformLimit → at + frameSize sequences (groupsSize 0 cs) (sequences * sequenceOctets cs) ≤ length d → Putting d at (frameGiven start little sequences cs x) r e → Put d at (frameParts start sequences cs (samplesTurned little cs sequences x)) r e
+    pub frame-put : {d e : List ℕ} {at r : ℕ} → sequences * sequenceOctets cs ≤ octetsLimit → at + frameSize sequences (groupsSize 0 cs) (sequences * sequenceOctets cs) ≤ length d → Putting d at (frameGiven start little sequences cs x) r e → Put d at (frameParts start sequences cs (samplesTurned little cs sequences x)) r e
     frame-put {d} {e} {at} {r} few room p =
-        put-fits (rw parts-long room) (subst (λ (v : List ℕ). Putting d at v r e) (given-some (le-leb (sequences * sequenceOctets cs) (min (length x) waveformLimit) (omega arith))) p)
+        put-fits (rw parts-long room) (subst (λ (v : List ℕ). Putting d at v r e) (given-some (le-leb (sequences * sequenceOctets cs) (min (length x) octetsLimit) (omega arith))) p)
 
 -- ---- the test
 
@@ -106,19 +107,19 @@ module _ (table : List Settings) (count k : ℕ) (full : length table ≡ 256) (
 
   module _ (sequences : ℕ) (x : List ℕ) where
     abbrev Held : Bool → Type 0
-    Held t = leb (sequences * l .octets) (min (length x) waveformLimit) ≡ t
+    Held t = leb (sequences * l .octets) (min (length x) octetsLimit) ≡ t
 
-    held-first : {t : Bool} → Held t → leb (sequences * sequenceOctets (take count table)) (min (length x) waveformLimit) ≡ t
-    held-first h = ap (λ (n : ℕ). leb (sequences * n) (min (length x) waveformLimit)) (sym (octets-are ∙ ap sequenceOctets first-same)) ∙ h
+    held-first : {t : Bool} → Held t → leb (sequences * sequenceOctets (take count table)) (min (length x) octetsLimit) ≡ t
+    held-first h = ap (λ (n : ℕ). leb (sequences * n) (min (length x) octetsLimit)) (sym (octets-are ∙ ap sequenceOctets first-same)) ∙ h
 
     pub not-held : (start : ℤ) (little : Bool) (d : List ℕ) (at : ℕ) → Held false → Putting d at (frameGiven start little sequences (take count table) x) at d
     not-held start little d at h =
         subst (λ (v : List ℕ). Putting d at v at d) (sym (given-none start little sequences (take count table) x (held-first h))) (putting-none d at)
 
     module _ (h : Held true) where
-      pub held-few : (sequences * l .octets ≤ length x) × (sequences * l .octets ≤ waveformLimit)
+      pub held-few : (sequences * l .octets ≤ length x) × (sequences * l .octets ≤ octetsLimit)
       held-few =
-          let m = leb-true (sequences * l .octets) (min (length x) waveformLimit) h in
+          let m = leb-true (sequences * l .octets) (min (length x) octetsLimit) h in
           (omega arith, omega arith)
 
       pub parts-given : {z start : ℤ} (little : Bool) → z ≡ start → frameParts z sequences (take k table) (samplesTurned little (take k table) sequences x) ≡ frameGiven start little sequences (take count table) x

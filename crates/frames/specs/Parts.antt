@@ -5,6 +5,7 @@ use Prim.Native.Nat.{ℕ, _*_, min}
 use lib.Dec.{leb}
 use lib.ListN.{length, take}
 use lib.IntN.{ℤ}
+use Rattle.framing.specs.Framing.{octetsLimit}
 use Rattle.octets.specs.Pick.{pick}
 use Rattle.stores.specs.Length.{shortest}
 use Rattle.laid.specs.Turned.{turnedAll}
@@ -23,11 +24,7 @@ abbrev pub frameParts : ℤ → ℕ → List Settings → List ℕ → List ℕ
 frameParts start sequences cs samples =
     (((headItems (length cs) sequences start ++ groupsOctets 0 (map settled cs)) ++ (0x1E ∷ [])) ++ shortest (sequences * sequenceOctets cs)) ++ samples
 
--- The most octets that a file may have, and so a waveform.
-abbrev pub waveformLimit : ℕ
-waveformLimit = 2_147_483_647
-
--- The frame of a waveform x that holds its sequences, if these are no more octets than a waveform may have; else no octets.
+-- The frame of a waveform x that holds its sequences, if these are no more octets than a file may have; else no octets.
 unfoldable pub frameGiven : ℤ → Bool → ℕ → List Settings → List ℕ → List ℕ
 frameGiven start little sequences cs x =
-    pick (leb (sequences * sequenceOctets cs) (min (length x) waveformLimit)) (frameParts start sequences cs (samplesTurned little cs sequences x)) []
+    pick (leb (sequences * sequenceOctets cs) (min (length x) octetsLimit)) (frameParts start sequences cs (samplesTurned little cs sequences x)) []

@@ -14,8 +14,10 @@ ghost use Rattle.layout.specs.Frame.{sequenceOctets};
 ghost use Rattle.layout.specs.Size.{groupsSize, frameSize};
 ghost use Rattle.laid.specs.Turned.{Even, turnedAll};
 ghost use Rattle.groups.specs.Group.{settled, groupsOctets};
-ghost use Rattle.frames.specs.Parts.{samplesTurned, frameParts, waveformLimit, frameGiven};
+ghost use Rattle.frames.specs.Parts.{samplesTurned, frameParts, frameGiven};
+ghost use Rattle.framing.specs.Framing.{octetsLimit};
 use settings::Settings;
+use standing::Standing;
 
 // The groups of the first `count` channels.
 fn put_groups(out: &mut [u8], at: usize, table: [Settings; 256], count: usize) -> usize
@@ -139,20 +141,20 @@ fn few(count: usize) -> usize
     if count < 256 { count } else { 256 }
 }
 
-// No more octets than a waveform may have.
+// No more octets than a file may have.
 fn most(long: usize) -> u64
-    ensures { λ r. ⌜ r ≡ min long waveformLimit ⌝ }
+    ensures { λ r. ⌜ r ≡ min long octetsLimit ⌝ }
 {
-    if long < 2_147_483_647 {
+    if long < Standing::OCTETS {
         long as u64
     } else {
-        2_147_483_647
+        Standing::OCTETS as u64
     }
 }
 
 // Whether a waveform of `long` octets holds so many sequences of so many octets, and may do so.
 fn holds(long: usize, sequences: u32, octets: u64) -> bool
-    ensures { λ r. ⌜ r ≡ leb (sequences * octets) (min long waveformLimit) ⌝ }
+    ensures { λ r. ⌜ r ≡ leb (sequences * octets) (min long octetsLimit) ⌝ }
 {
     if octets == 0 {
         return true;
