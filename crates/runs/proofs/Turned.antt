@@ -2,10 +2,10 @@
 use mathlib.Core.Path.{_≡_, refl, sym, ap, _∙_}
 use mathlib.Core.List.{List, [], _∷_, _++_, reverse, append-assoc}
 use Prim.Native.Nat.{ℕ, zero, suc, _+_, _*_, _-_, _≤_, _<_}
-use native.Mathlib.Nat.{zero-add, suc-add, add-comm, zero-mul, suc-mul, add-mul}
+use native.Mathlib.Nat.{zero-add, suc-add, add-comm, zero-mul, suc-mul}
 use native.Mathlib.Omega.{arith}
 use lib.ListN.{length, take, drop, length-append, length-reverse, length-drop, take-append-drop}
-use lib.Seq.{drop-drop, drop-at, take-at, take-nil, take-append-le, drop-append-le, length-take-le}
+use lib.Seq.{drop-drop, take-nil, take-append-le, drop-append-le, length-take-le}
 use borrow.Author.Tests.{le-leb, lt-leb}
 use Rattle.runs.specs.Turned.{turned, turnedRun}
 
@@ -46,26 +46,6 @@ length-turned w (suc n) xs h =
     let l : length (drop w xs) ≡ length xs - w = length-drop w xs in
     rw (length-append, length-reverse, length-take-le w xs (omega arith), length-turned w n (drop w xs) (omega arith))
     (omega arith)
-
-nth : (w i m : ℕ) (xs : List ℕ) → (i + suc m) * w ≤ length xs
-    → take w (drop (i * w) (turned w (i + suc m) xs)) ≡ reverse (take w (drop (i * w) xs))
-unfolding turned
-nth w i m xs h =
-    let ys = drop (i * w) xs in
-    let t = add-mul i (suc m) w in
-    let u = suc-mul m w in
-    let l = length-drop (i * w) xs in
-    let few = length-turned w i xs (omega arith) in
-    let one = length-reverse (take w ys) ∙ length-take-le w ys (omega arith) in
-    rw (turned-add w i (suc m) xs, drop-at (turned w i xs) (turned w (suc m) ys) (i * w) few)
-    (take-at (reverse (take w ys)) (turned w m (drop w ys)) w one)
-
--- The sample i of those turned round is the sample i turned round.
-pub turned-nth : (w n i : ℕ) (xs : List ℕ) → i < n → n * w ≤ length xs
-    → take w (drop (i * w) (turned w n xs)) ≡ reverse (take w (drop (i * w) xs))
-turned-nth w n i xs h l =
-    let e : i + suc (n - i - 1) ≡ n = omega arith in
-    rw e at (nth w i (n - i - 1) xs (rw e l))
 
 -- Where the samples are there, the run is them, and else it is empty.
 pub run-there : (w n : ℕ) (xs : List ℕ) → n * w ≤ length xs → turnedRun w n xs ≡ turned w n xs

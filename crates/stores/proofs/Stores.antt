@@ -61,15 +61,6 @@ none false d at e = record { next = rw e; stored = rw e }
 pub putting-none : (d : List ℕ) (at : ℕ) → Putting d at [] at d
 putting-none d at = none (fitsIn d at []) d at refl
 
-long : (t : Bool) (d : List ℕ) (at : ℕ) (vs : List ℕ) → fitsIn d at vs ≡ t → length (storedIn d at vs) ≡ length d
-unfolding storedIn
-long true d at vs e = rw e (length-sets d at vs)
-long false d at vs e = rw e
-
--- The buffer's length is kept in either case.
-pub putting-long : {d e vs : List ℕ} {at r : ℕ} → Putting d at vs r e → length e ≡ length d
-putting-long {d} {vs = vs} {at = at} p = ap length (p .stored) ∙ long (fitsIn d at vs) d at vs refl
-
 -- One list stored after another, where there is room for both, is the two appended.
 pub putting-then : {d e f u v : List ℕ} {at r t : ℕ} → at + (length u + length v) ≤ length d
     → Putting d at u r e → Putting e r v t f → Putting d at (u ++ v) t f
