@@ -25,9 +25,9 @@ use Rattle.definitions.specs.Define.{tagged}
 use Rattle.layout.specs.Frame.{Frame, sequenceOctets, allAgree}
 use Rattle.standing.specs.declared.Standing.{Standing}
 use Rattle.framing.specs.declared.Framed.the-variants.{Taken}
-use Rattle.standing.specs.Standing.{withContinued}
+use Rattle.standing.specs.Standing.{octetsLimit, framesLimit, withContinued}
 use Rattle.effects.specs.Effects.{rootEffect}
-use Rattle.framing.specs.Framing.{octetsLimit, framesLimit, channelsOf, pointerAfter, framedAs}
+use Rattle.framing.specs.Framing.{channelsOf, pointerAfter, framedAs}
 use Rattle.pass.specs.Verdict.{State, state, goes, frameChannels, withFrame, carried}
 use Rattle.framing.proofs.Framings.{pointer-small, framed-taken}
 use Rattle.groups.proofs.Sizes.{length-item}

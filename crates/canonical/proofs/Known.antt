@@ -34,10 +34,10 @@ use Rattle.items.specs.declared.Item.{Item}
 use Rattle.items.specs.declared.Item.the-variants.{Plain, Member}
 use Rattle.items.specs.declared.Next.the-variants.{Found, End}
 use Rattle.heads.specs.Head.{channelOf, lengthOf, unknownContext, rootOnly, primitiveHead, groupLength, groupHead, headOf}
-use Rattle.heads.specs.Refusals.{contextTag, notInGroup}
+use Rattle.heads.specs.Refusals.{contextTag, barredTag}
 use Rattle.items.specs.Walk.{cursor, itemOf, nextIn, nextOf}
 use Rattle.effects.specs.Effects.{valueAt}
-use Rattle.framing.specs.Framing.{octetsLimit}
+use Rattle.standing.specs.Standing.{octetsLimit}
 use Rattle.groups.specs.Item.{item}
 use Rattle.groups.specs.Group.{channelOctets}
 use Rattle.groups.proofs.Sizes.{length-item}
@@ -107,7 +107,7 @@ last-picked x y z w false false false t = refl
 head-usual : (inside : Bool) (tag : ℕ) (u : List ℕ) → usual inside tag ≡ true → headOf inside (tag ∷ u) ≡ primitiveHead tag (length u) (lengthOf u)
 unfolding headOf usual
 head-usual inside tag u t =
-    last-picked (Head.Refused contextTag) (Head.Refused notInGroup) (groupHead u (channelOf 4 0 0 u)) (primitiveHead tag (length u) (lengthOf u))
+    last-picked (Head.Refused contextTag) (Head.Refused barredTag) (groupHead u (channelOf 4 0 0 u)) (primitiveHead tag (length u) (lengthOf u))
     (unknownContext tag) (both inside (rootOnly tag)) (eqb tag 0x3F) t
 
 pub head-known : (inside : Bool) (tag n : ℕ) (rest : List ℕ) → usual inside tag ≡ true → n < 4294967296 → n ≤ length rest → headOf inside (tag ∷ (shortest n ++ rest)) ≡ Primitive tag (length (shortest n) + 1) n

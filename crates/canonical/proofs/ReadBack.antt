@@ -15,7 +15,7 @@ use Rattle.settings.specs.declared.Settings.{Settings}
 use Rattle.settings.specs.Settings.{defaultTable}
 use Rattle.definitions.specs.Define.{tagged}
 use Rattle.layout.specs.Frame.{Frame}
-use Rattle.framing.specs.Framing.{octetsLimit, framesLimit}
+use Rattle.standing.specs.Standing.{octetsLimit, framesLimit}
 use Rattle.pass.specs.Verdict.{State, state, firstState, Verdict, accepted, carried, verdict}
 use Rattle.stores.specs.Length.{shortest}
 use Rattle.canonical.specs.Recording.{Recorded, recording}

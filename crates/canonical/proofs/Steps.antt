@@ -29,7 +29,7 @@ use Rattle.definitions.specs.Define.{tagged, defined}
 use Rattle.layout.specs.Frame.{Frame}
 use Rattle.standing.specs.declared.Standing.{Standing}
 use Rattle.effects.specs.Effects.{effectOf, plainEffect, rootEffect, memberEffect, oneEffect, groupEffect}
-use Rattle.framing.specs.Framing.{octetsLimit}
+use Rattle.standing.specs.Standing.{octetsLimit}
 use Rattle.pass.specs.Verdict.{State, state, Verdict, accepted, goes, oneChanged, carried, placeAt, afterItem, interpret}
 use Rattle.groups.specs.Item.{item}
 use Rattle.canonical.proofs.Known.{usual, group, startAt, ahead, Inside, rest-known, value-known, next-plain, next-group, inside-first, next-member, member-rest, inside-next, next-left}

@@ -9,8 +9,8 @@
 use mathlib.Core.Path.{_≡_, refl, sym, ap, subst, _∙_}
 use mathlib.Core.List.{List, [], _∷_, _++_, map, append-assoc, append-nil, map-append}
 use mathlib.Core.Bool.{Bool, true, false}
-use Prim.Native.Nat.{ℕ, zero, suc, _+_, _*_, _^_, _≤_, _<_}
-use native.Mathlib.Nat.{add-zero, zero-add, add-assoc}
+use Prim.Native.Nat.{ℕ, suc, _+_, _*_, _≤_, _<_}
+use native.Mathlib.Nat.{zero-add, add-assoc}
 use native.Mathlib.Omega.{arith}
 use types.Run.{OneOf, miss}
 use denote.Enum.Declared.{tagOf}
@@ -31,8 +31,8 @@ use Rattle.items.specs.declared.Next.{Next}
 use Rattle.items.specs.declared.Next.the-variants.{Found, End}
 use Rattle.items.proofs.Next.{the-type}
 use Rattle.items.specs.declared.Within.the-variants.{Root}
-use Rattle.heads.specs.Refusals.{bufferShort}
-use Rattle.items.specs.Walk.{nextOf, itemsFrom, itemsOf, cursor, refusal, fault}
+use Rattle.heads.specs.Refusals.{noRoom}
+use Rattle.items.specs.Walk.{nextOf, itemsFrom, cursor, refusal}
 use Rattle.items.proofs.Walks.{items-found, items-end, items-refused}
 use Rattle.stores.specs.Length.{shortest}
 use Rattle.stores.specs.Storing.{Put, Putting, put-fits}
@@ -47,15 +47,15 @@ use Rattle.standing.specs.declared.Standing.{Standing}
 use Rattle.effects.specs.declared.Effect.{Effect}
 use Rattle.framing.specs.declared.Framed.{Framed}
 use Rattle.framing.specs.declared.Framed.the-variants.{Taken}
-use Rattle.standing.specs.Standing.{firstStanding}
+use Rattle.standing.specs.Standing.{octetsLimit, firstStanding}
 use Rattle.effects.specs.Effects.{effectOf, valueAt, standingAfter}
-use Rattle.framing.specs.Framing.{octetsLimit, channelsOf, framedAs}
-use Rattle.pass.specs.Verdict.{State, state, firstState, Outcome, goes, refuses, frameChannels, frameAt, withFrame, carried, placeAt, Verdict, accepted, refused, interpret, verdict}
+use Rattle.framing.specs.Framing.{channelsOf, framedAs}
+use Rattle.pass.specs.Verdict.{State, state, Outcome, goes, refuses, frameAt, withFrame, carried, placeAt, Verdict, accepted, refused, interpret, verdict}
 use Rattle.pass.specs.Scan.{zeroFrame, sizeOf, sizes, scannedIn, scanOf}
 use Rattle.pass.specs.declared.Asked.{Asked}
 use Rattle.pass.specs.declared.Checked.{Checked}
 use Rattle.pass.specs.declared.Scan.{Scan}
-use Rattle.pass.proofs.Keeps.{meaning, Kept, Keeps, frames-kept, accepted-by, interpret-goes, interpret-refuses, interpret-finished, interpret-fault, firstCursor}
+use Rattle.pass.proofs.Keeps.{Keeps, frames-kept, accepted-by, interpret-goes, interpret-refuses, interpret-finished, interpret-fault}
 use Rattle.framing.proofs.Framings.{pointer-small}
 use Rattle.settings.proofs.Shown.{shown, shown-none}
 use Rattle.pass.proofs.Scans.{counted-kept, framed-found, shownBy, Records, Filling, shown-full, frame-shown}
@@ -70,7 +70,7 @@ use Rattle.canonical.specs.Recording.{Recorded, recordedFrame, recording
 use Rattle.canonical.specs.Canonical.{waveformOf, frameOctets, framesOctets, canonical}
 use Rattle.canonical.specs.Write.{framesIn, canonicalOf, fits, writtenIn, writtenOf, leftIn, leftOf, Ready}
 use Rattle.canonical.specs.declared.Written.{Written}
-use Rattle.canonical.proofs.Octets.{waveform-big, waveform-little, frame-long, frames-long, canonical-long, canonical-none, octets-settled}
+use Rattle.canonical.proofs.Octets.{waveform-big, waveform-little, frames-long, canonical-long, canonical-none, octets-settled}
 use Rattle.canonical.proofs.Recordings.{waveform-long}
 
 -- ---- the frames met so far are the first of the file's
@@ -451,9 +451,9 @@ module _ (s d : List ℕ) (q : Asked) (r : Scan) (e : r ≡ scanOf q s) where
       long-is = canonical-long (framesIn (verdict s)) (λ z. some (taken-is .1 ∙ z)) ∙ omega (arith, taken-is .2)
 
       -- It does not fit.
-      pub written-short : fits (canonicalOf s) d ≡ false → Answer (Written.Refused (refusal bufferShort 0)) d
+      pub written-short : fits (canonicalOf s) d ≡ false → Answer (Written.Refused (refusal noRoom 0)) d
       unfolding writtenIn leftIn canonicalOf
-      written-short f = answer-is (Written.Refused (refusal bufferShort 0)) d (rw f) (rw f)
+      written-short f = answer-is (Written.Refused (refusal noRoom 0)) d (rw f) (rw f)
 
       pub short-buffer : length d < r .size + 3 → fits (canonicalOf s) d ≡ false
       unfolding fits canonicalOf

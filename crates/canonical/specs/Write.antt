@@ -6,10 +6,10 @@ use mathlib.Core.Path.{_≡_}
 use lib.Dec.{leb}
 use lib.ListN.{length, drop}
 use Rattle.octets.specs.Pick.{pick, both}
-use Rattle.heads.specs.Refusals.{bufferShort}
+use Rattle.heads.specs.Refusals.{noRoom}
 use Rattle.items.specs.Walk.{refusal}
 use Rattle.layout.specs.Frame.{Frame}
-use Rattle.framing.specs.Framing.{octetsLimit}
+use Rattle.standing.specs.Standing.{octetsLimit}
 use Rattle.pass.specs.Scan.{sizes}
 use Rattle.pass.specs.Verdict.{Verdict, accepted, refused, verdict}
 use Rattle.canonical.specs.declared.Written.{Written}
@@ -34,7 +34,7 @@ unfoldable pub writtenIn : List ℕ → Verdict → Written
 writtenIn buffer (refused r) = Written.Refused r
 writtenIn buffer (accepted fs) =
     let octets = canonical (recording fs) in
-    pick (fits octets buffer) (Written.Octets (length octets)) (Written.Refused (refusal bufferShort 0))
+    pick (fits octets buffer) (Written.Octets (length octets)) (Written.Refused (refusal noRoom 0))
 
 -- A refusal changes no octet of the buffer; on success the canonical file stands at its start, and octets past it keep what they held.
 unfoldable pub leftIn : List ℕ → Verdict → List ℕ

@@ -75,7 +75,7 @@ fn write_frames(s: &[u8], out: &mut [u8]) -> usize
                     }
                     Effect::One(channel, change) => {
                         let k = channel as usize;
-                        if k < 256 {
+                        if k < Settings::CHANNELS {
                             table[k] = settings::apply(table[k], change);
                         }
                     }
@@ -140,7 +140,7 @@ pub fn write_canonical(s: &[u8], out: &mut [u8]) -> Written
     }
     let size = pass.size as usize;
     let short = Written::Refused(Refusal {
-        number: Refusal::BUFFER,
+        number: Refusal::NO_ROOM,
         place: 0,
     });
     if Standing::OCTETS - 3 < size {

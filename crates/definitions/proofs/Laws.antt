@@ -1,18 +1,15 @@
 -- Laws of definitions.
 --     define-..    the ways of a definition
 -- Assumes nothing.
-use mathlib.Core.Path.{_≡_, refl, sym, ap, _∙_}
+use mathlib.Core.Path.{_≡_}
 use mathlib.Core.List.{List}
-use mathlib.Core.Bool.{Bool, true, false, not}
+use mathlib.Core.Bool.{Bool, true, false}
 use Prim.Native.Nat.{ℕ}
 use borrow.Author.Tests.{eq-eqb, ne-eqb}
 use lib.ListN.{length}
-use Rattle.octets.specs.Pick.{pick}
 use Rattle.heads.specs.Refusals.{unfitLength, unfitValue}
 use Rattle.settings.specs.declared.Settings.{Settings}
 use Rattle.definitions.specs.declared.Attribute.{Attribute}
-use Rattle.settings.specs.declared.Change.{Change}
-use Rattle.definitions.specs.declared.Defined.{Defined}
 use Rattle.definitions.specs.declared.Defined.the-variants.{Changed, Refused}
 use Rattle.definitions.specs.Define.{lengthFits, standingIn, changeOf, inRange, defined}
 

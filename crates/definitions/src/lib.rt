@@ -162,9 +162,9 @@ fn in_range(c: Change) -> bool
         Change::Block(n) => block_fits(n),
         Change::Class(_) => true,
         Change::Lead(_) => true,
-        Change::Kind(n) => n <= 8,
-        Change::Interval(x) => scale_fits(2, x),
-        Change::Resolution(x) => scale_fits(22, x),
+        Change::Kind(n) => n <= Settings::LAST_KIND,
+        Change::Interval(x) => scale_fits(Settings::LAST_INTERVAL_UNIT, x),
+        Change::Resolution(x) => scale_fits(Settings::LAST_RESOLUTION_UNIT, x),
         Change::Offset(_) => true,
         Change::Null(_) => true,
     }
@@ -181,7 +181,7 @@ pub fn define(a: Attribute, v: &[u8], little: bool, base: Settings) -> Defined
     ensures { λ r. ⌜ r ≡ defined a «little» base (now (v .entry)) ⌝ }
 {
     if !length_fits(a, v.len()) {
-        return Defined::Refused(Refusal::LENGTH);
+        return Defined::Refused(Refusal::UNFIT_LENGTH);
     }
     if v.len() == 0 {
         return Defined::Changed(standing_in(a, base));
@@ -190,7 +190,7 @@ pub fn define(a: Attribute, v: &[u8], little: bool, base: Settings) -> Defined
     if in_range(c) {
         Defined::Changed(c)
     } else {
-        Defined::Refused(Refusal::VALUE)
+        Defined::Refused(Refusal::UNFIT_VALUE)
     }
 }
 
@@ -241,7 +241,7 @@ pub fn settle(a: Attribute, v: &[u8], little: bool, base: Settings, s: Settings)
     ensures { λ r. ⌜ r ≡ settledAs s (defined a «little» base (now (v .entry))) ⌝ }
 {
     if !length_fits(a, v.len()) {
-        return Settled::Refused(Refusal::LENGTH);
+        return Settled::Refused(Refusal::UNFIT_LENGTH);
     }
     if v.len() == 0 {
         return Settled::Record(settings::apply(s, standing_in(a, base)));
@@ -250,6 +250,6 @@ pub fn settle(a: Attribute, v: &[u8], little: bool, base: Settings, s: Settings)
     if in_range(c) {
         Settled::Record(settings::apply(s, c))
     } else {
-        Settled::Refused(Refusal::VALUE)
+        Settled::Refused(Refusal::UNFIT_VALUE)
     }
 }

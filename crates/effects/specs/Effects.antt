@@ -8,7 +8,7 @@ use lib.ListN.{length, getD, take, drop}
 use Rattle.octets.specs.Pick.{pick}
 use Rattle.octets.specs.Number.{numberOf, signedOf}
 use Rattle.items.specs.declared.Item.{Item}
-use Rattle.heads.specs.Refusals.{unfitLength, unfitValue, channelRange, compressed}
+use Rattle.heads.specs.Refusals.{unfitLength, unfitValue, channelNumber, compressed}
 use Rattle.definitions.specs.declared.Tagged.{Tagged}
 use Rattle.definitions.specs.declared.Defined.{Defined}
 use Rattle.settings.specs.Settings.{defaultSettings, channelLimit, applied}
@@ -86,7 +86,7 @@ memberEffect st channel v Tagged.Other = Pass
 
 -- A group's channel number is below the channel count, else refusal 8. A group met while no channel count stands is ignored.
 unfoldable pub groupEffect : Standing → ℕ → Effect
-groupEffect st channel = pick (eqb (st .counted) 0) Pass (pick (ltb channel (st .counted)) Pass (Refused channelRange))
+groupEffect st channel = pick (eqb (st .counted) 0) Pass (pick (ltb channel (st .counted)) Pass (Refused channelNumber))
 
 -- The octets of a value.
 abbrev pub valueAt : List ℕ → ℕ → ℕ → List ℕ

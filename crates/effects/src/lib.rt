@@ -1,10 +1,8 @@
-// What an item of a file asks for.
 //
 // Promises, for any octets at all: `item_effect` answers what an item asks for where this stands before it, or its refusal (6 to 9);
 // `standing_after` answers what stands after an effect, and `reach` how many records an effect looks at. No record is changed here.
 // Read first: specs/Effects.antt; what stands is in crate standing, and what a waveform gives in crate framing.
 ghost use mathlib.Core.Path.{_≡_};
-ghost use Prim.Native.Nat.{min};
 ghost use Rattle.definitions.specs.Define.{tagged};
 ghost use Rattle.effects.specs.Effects.{orderEffect, countEffect, sequencesEffect, startEffect, compressedEffect, allEffect, oneEffect, rootEffect, plainEffect, memberEffect, groupEffect, effectOf, standingAfter};
 ghost use Rattle.effects.specs.Reach.{reachOf};
@@ -43,14 +41,14 @@ fn order_effect(v: &[u8]) -> Effect
     ensures { λ r. ⌜ r ≡ orderEffect (now (v .entry)) ⌝ }
 {
     if 1 < v.len() {
-        return Effect::Refused(Refusal::LENGTH);
+        return Effect::Refused(Refusal::UNFIT_LENGTH);
     }
     if v.len() == 0 {
         return Effect::Order(false);
     }
     let b = v[0];
     if 1 < b {
-        return Effect::Refused(Refusal::VALUE);
+        return Effect::Refused(Refusal::UNFIT_VALUE);
     }
     Effect::Order(b == 1)
 }
@@ -60,17 +58,17 @@ fn count_effect(little: bool, v: &[u8]) -> Effect
     ensures { λ r. ⌜ r ≡ countEffect «little» (now (v .entry)) ⌝ }
 {
     if 4 < v.len() {
-        return Effect::Refused(Refusal::LENGTH);
+        return Effect::Refused(Refusal::UNFIT_LENGTH);
     }
     if v.len() == 0 {
         return Effect::Count(0);
     }
     let n = octets::four(v, little);
     if n == 0 {
-        return Effect::Refused(Refusal::VALUE);
+        return Effect::Refused(Refusal::UNFIT_VALUE);
     }
-    if 256 < n {
-        return Effect::Refused(Refusal::VALUE);
+    if Settings::CHANNELS < n as usize {
+        return Effect::Refused(Refusal::UNFIT_VALUE);
     }
     Effect::Count(n)
 }
@@ -80,14 +78,14 @@ fn sequences_effect(little: bool, v: &[u8]) -> Effect
     ensures { λ r. ⌜ r ≡ sequencesEffect «little» (now (v .entry)) ⌝ }
 {
     if 4 < v.len() {
-        return Effect::Refused(Refusal::LENGTH);
+        return Effect::Refused(Refusal::UNFIT_LENGTH);
     }
     if v.len() == 0 {
         return Effect::Sequences(0);
     }
     let n = octets::four(v, little);
     if n == 0 {
-        return Effect::Refused(Refusal::VALUE);
+        return Effect::Refused(Refusal::UNFIT_VALUE);
     }
     Effect::Sequences(n)
 }
@@ -97,7 +95,7 @@ fn start_effect(little: bool, continued: i64, v: &[u8]) -> Effect
     ensures { λ r. ⌜ r ≡ startEffect «little» continued (now (v .entry)) ⌝ }
 {
     if 4 < v.len() {
-        return Effect::Refused(Refusal::LENGTH);
+        return Effect::Refused(Refusal::UNFIT_LENGTH);
     }
     if v.len() == 0 {
         return Effect::Start(continued);
@@ -189,7 +187,7 @@ fn group_effect(st: Standing, channel: u32) -> Effect
     if channel < st.counted {
         return Effect::Pass;
     }
-    Effect::Refused(Refusal::CHANNEL_RANGE)
+    Effect::Refused(Refusal::CHANNEL_NUMBER)
 }
 
 // What an item of the file s asks for.
@@ -247,13 +245,6 @@ pub fn standing_after(st: Standing, e: Effect) -> Standing
     x
 }
 
-// As many records as there are.
-fn at_most(count: usize) -> usize
-    ensures { λ r. ⌜ r ≡ min count 256 ⌝ }
-{
-    if count < 256 { count } else { 256 }
-}
-
 // How many records, from channel 0 on, an effect looks at: up to the channel that it changes, or those of a frame.
 pub fn reach(e: Effect, counted: u32) -> usize
     ensures { λ r. ⌜ r ≡ reachOf counted e ⌝ }
@@ -265,8 +256,8 @@ pub fn reach(e: Effect, counted: u32) -> usize
         Effect::Sequences(_) => 0,
         Effect::Start(_) => 0,
         Effect::All(_) => 0,
-        Effect::One(channel, _) => at_most(channel as usize + 1),
-        Effect::Frame { start: _, len: _ } => at_most(framing::channels_of(counted) as usize),
+        Effect::One(channel, _) => Settings::at_most(channel as usize + 1),
+        Effect::Frame { start: _, len: _ } => Settings::at_most(framing::channels_of(counted) as usize),
         Effect::Refused(_) => 0,
     }
 }

@@ -18,7 +18,7 @@ use lib.Dec.{ltb, leb}
 use lib.IntN.{ℤ}
 use lib.ListN.{length, take, length-append}
 use lib.Seq.{length-take-le}
-use Rattle.framing.specs.Framing.{octetsLimit}
+use Rattle.standing.specs.Standing.{octetsLimit}
 use Rattle.octets.specs.Pick.{pick}
 use Rattle.stores.specs.Number.{be, length-be}
 use Rattle.stores.specs.Length.{holding, shortest}

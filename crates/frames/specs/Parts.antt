@@ -5,7 +5,7 @@ use Prim.Native.Nat.{ℕ, _*_, min}
 use lib.Dec.{leb}
 use lib.ListN.{length, take}
 use lib.IntN.{ℤ}
-use Rattle.framing.specs.Framing.{octetsLimit}
+use Rattle.standing.specs.Standing.{octetsLimit}
 use Rattle.octets.specs.Pick.{pick}
 use Rattle.stores.specs.Length.{shortest}
 use Rattle.laid.specs.Turned.{turnedAll}

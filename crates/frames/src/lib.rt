@@ -15,13 +15,14 @@ ghost use Rattle.layout.specs.Size.{groupsSize, frameSize};
 ghost use Rattle.laid.specs.Turned.{Even, turnedAll};
 ghost use Rattle.groups.specs.Group.{settled, groupsOctets};
 ghost use Rattle.frames.specs.Parts.{samplesTurned, frameParts, frameGiven};
-ghost use Rattle.framing.specs.Framing.{octetsLimit};
+ghost use Rattle.settings.specs.Settings.{channelLimit};
+ghost use Rattle.standing.specs.Standing.{octetsLimit};
 use settings::Settings;
 use standing::Standing;
 
 // The groups of the first `count` channels.
-fn put_groups(out: &mut [u8], at: usize, table: [Settings; 256], count: usize) -> usize
-    requires { ⌜ (count ≤ 256) × (at + groupsSize 0 (take count table) ≤ length (now out)) ⌝ }
+fn put_groups(out: &mut [u8], at: usize, table: [Settings; Settings::CHANNELS], count: usize) -> usize
+    requires { ⌜ (count ≤ channelLimit) × (at + groupsSize 0 (take count table) ≤ length (now out)) ⌝ }
     ensures { λ r. ⌜ Put (now (out .entry)) at (groupsOctets 0 (map settled (take count table))) r (now (out .exit)) ⌝ }
 {
     let mut i = 0usize;
@@ -35,8 +36,8 @@ fn put_groups(out: &mut [u8], at: usize, table: [Settings; 256], count: usize) -
 }
 
 // The width of all channels where it is one, else 0.
-fn even_width(table: [Settings; 256], count: usize) -> usize
-    requires { ⌜ count ≤ 256 ⌝ }
+fn even_width(table: [Settings; Settings::CHANNELS], count: usize) -> usize
+    requires { ⌜ count ≤ channelLimit ⌝ }
     ensures { λ r. ⌜ (0 < r → Even r (take count table)) ⌝ }
 {
     let first = table[0];
@@ -56,12 +57,12 @@ fn even_width(table: [Settings; 256], count: usize) -> usize
 fn put_blocks(
     w: &[u8],
     sequences: u32,
-    table: [Settings; 256],
+    table: [Settings; Settings::CHANNELS],
     count: usize,
     out: &mut [u8],
     at: usize,
 ) -> usize
-    requires { ⌜ (count ≤ 256) × (sequences * sequenceOctets (take count table) ≤ length (now w)) ⌝ }
+    requires { ⌜ (count ≤ channelLimit) × (sequences * sequenceOctets (take count table) ≤ length (now w)) ⌝ }
     requires { ⌜ at + sequences * sequenceOctets (take count table) ≤ length (now out) ⌝ }
     ensures { λ r. ⌜ Put (now (out .entry)) at (turnedAll (take count table) sequences (now (w .entry))) r (now (out .exit)) ⌝ }
 {
@@ -89,12 +90,12 @@ fn put_samples(
     little: bool,
     sequences: u32,
     octets: usize,
-    table: [Settings; 256],
+    table: [Settings; Settings::CHANNELS],
     count: usize,
     out: &mut [u8],
     at: usize,
 ) -> usize
-    requires { ⌜ (count ≤ 256) × (octets ≡ sequences * sequenceOctets (take count table)) ⌝ }
+    requires { ⌜ (count ≤ channelLimit) × (octets ≡ sequences * sequenceOctets (take count table)) ⌝ }
     requires { ⌜ (octets ≤ length (now w)) × (at + octets ≤ length (now out)) ⌝ }
     ensures { λ r. ⌜ Put (now (out .entry)) at (samplesTurned «little» (take count table) sequences (now (w .entry))) r (now (out .exit)) ⌝ }
 {
@@ -118,12 +119,12 @@ fn store_frame(
     little: bool,
     sequences: u32,
     octets: usize,
-    table: [Settings; 256],
+    table: [Settings; Settings::CHANNELS],
     count: usize,
     out: &mut [u8],
     at: usize,
 ) -> usize
-    requires { ⌜ (count ≤ 256) × (octets ≡ sequences * sequenceOctets (take count table)) ⌝ }
+    requires { ⌜ (count ≤ channelLimit) × (octets ≡ sequences * sequenceOctets (take count table)) ⌝ }
     requires { ⌜ (octets ≤ length (now w)) × (octets < 4294967296) × (at + frameSize sequences (groupsSize 0 (take count table)) octets ≤ length (now out)) ⌝ }
     ensures { λ r. ⌜ Put (now (out .entry)) at (frameParts start sequences (take count table) (samplesTurned «little» (take count table) sequences (now (w .entry)))) r (now (out .exit)) ⌝ }
 {
@@ -132,13 +133,6 @@ fn store_frame(
     let c = stores::put_octet(out, b, 0x1E);
     let d = stores::put_length(out, c, octets as u32);
     put_samples(w, little, sequences, octets, table, count, out, d)
-}
-
-// No more channels than a frame may have.
-fn few(count: usize) -> usize
-    ensures { λ r. ⌜ r ≡ min count 256 ⌝ }
-{
-    if count < 256 { count } else { 256 }
 }
 
 // No more octets than a file may have.
@@ -168,14 +162,14 @@ pub fn put_frame(
     start: i32,
     little: bool,
     sequences: u32,
-    table: [Settings; 256],
+    table: [Settings; Settings::CHANNELS],
     count: usize,
     out: &mut [u8],
     at: usize,
 ) -> usize
     ensures { λ r. ⌜ Putting (now (out .entry)) at (frameGiven start «little» sequences (take count table) (now (w .entry))) r (now (out .exit)) ⌝ }
 {
-    let k = few(count);
+    let k = Settings::at_most(count);
     let l = layout::layout_of(table, k);
     if !holds(w.len(), sequences, l.octets) {
         return at;

@@ -11,14 +11,13 @@ use native.Mathlib.Omega.{arith}
 use borrow.Author.Tests.{lt-ltb, le-ltb, le-leb, lt-leb, eq-eqb, ne-eqb, leb-true, ltb-true, ltb-false}
 use lib.Dec.{ltb, leb}
 use lib.IntN.{ℤ, pos, negsuc, _+ℤ_}
-use lib.Signed.{leZ, mag}
-use Rattle.octets.specs.Pick.{pick, both}
-use Rattle.heads.specs.Refusals.{fileLimit, frameLimit, widthDiffers, pointerRange, waveformShort}
+use lib.Signed.{mag}
+use Rattle.octets.specs.Pick.{both}
+use Rattle.heads.specs.Refusals.{longFile, manyFrames, sampleWidth, startRange, shortWaveform}
 use Rattle.standing.specs.declared.Standing.{Standing}
-use Rattle.framing.specs.declared.Framed.{Framed}
 use Rattle.framing.specs.declared.Framed.the-variants.{Taken, Refused}
-use Rattle.standing.specs.Standing.{withContinued}
-use Rattle.framing.specs.Framing.{octetsLimit, framesLimit, sequencesOf, pointerFits, pointerAfter, framedAs}
+use Rattle.standing.specs.Standing.{octetsLimit, framesLimit, withContinued}
+use Rattle.framing.specs.Framing.{sequencesOf, pointerFits, pointerAfter, framedAs}
 
 module _ (set long octets : ℕ) where
   pub sequences-set : (set ≡ 0 → ⊥) → set ≡ sequencesOf set long octets
@@ -72,28 +71,28 @@ pub sequences-few : (n octets long : ℕ) → 0 < octets → ltb long (n * octet
 sequences-few n octets long p t = le-trans (le-mul-of-pos-right n p) (ltb-false long (n * octets) t)
 
 module _ (frames : ℕ) (st : Standing) (agree : Bool) (octets long : ℕ) where
-  pub framed-empty : octets ≡ 0 → Refused fileLimit ≡ framedAs frames st agree octets long
+  pub framed-empty : octets ≡ 0 → Refused longFile ≡ framedAs frames st agree octets long
   unfolding framedAs
   framed-empty z = simp (eq-eqb octets 0 z)
 
-  pub framed-large : (octets ≡ 0 → ⊥) → octetsLimit < long → Refused fileLimit ≡ framedAs frames st agree octets long
+  pub framed-large : (octets ≡ 0 → ⊥) → octetsLimit < long → Refused longFile ≡ framedAs frames st agree octets long
   unfolding framedAs
   framed-large z h = simp (ne-eqb octets 0 z, lt-ltb octetsLimit long h)
 
-  pub framed-limit : (octets ≡ 0 → ⊥) → long ≤ octetsLimit → framesLimit ≤ frames → Refused frameLimit ≡ framedAs frames st agree octets long
+  pub framed-limit : (octets ≡ 0 → ⊥) → long ≤ octetsLimit → framesLimit ≤ frames → Refused manyFrames ≡ framedAs frames st agree octets long
   unfolding framedAs
   framed-limit z h k = simp (ne-eqb octets 0 z, le-ltb octetsLimit long h, le-leb framesLimit frames k)
 
-  pub framed-width : (octets ≡ 0 → ⊥) → long ≤ octetsLimit → frames < framesLimit → not agree ≡ true → Refused widthDiffers ≡ framedAs frames st agree octets long
+  pub framed-width : (octets ≡ 0 → ⊥) → long ≤ octetsLimit → frames < framesLimit → not agree ≡ true → Refused sampleWidth ≡ framedAs frames st agree octets long
   unfolding framedAs
   framed-width z h k a = simp (ne-eqb octets 0 z, le-ltb octetsLimit long h, lt-leb framesLimit frames k, a)
 
-  pub framed-pointer : (octets ≡ 0 → ⊥) → long ≤ octetsLimit → frames < framesLimit → not agree ≡ false → pointerFits (st .start) ≡ false → Refused pointerRange ≡ framedAs frames st agree octets long
+  pub framed-pointer : (octets ≡ 0 → ⊥) → long ≤ octetsLimit → frames < framesLimit → not agree ≡ false → pointerFits (st .start) ≡ false → Refused startRange ≡ framedAs frames st agree octets long
   unfolding framedAs
   framed-pointer z h k a p = simp (ne-eqb octets 0 z, le-ltb octetsLimit long h, lt-leb framesLimit frames k, a, p)
 
   module _ (z : octets ≡ 0 → ⊥) (h : long ≤ octetsLimit) (k : frames < framesLimit) (a : not agree ≡ false) (p : pointerFits (st .start) ≡ true) where
-    pub framed-short : (n : ℕ) → n ≡ sequencesOf (st .sequences) long octets → ltb long (n * octets) ≡ true → Refused waveformShort ≡ framedAs frames st agree octets long
+    pub framed-short : (n : ℕ) → n ≡ sequencesOf (st .sequences) long octets → ltb long (n * octets) ≡ true → Refused shortWaveform ≡ framedAs frames st agree octets long
     unfolding framedAs
     framed-short n e t = simp (ne-eqb octets 0 z, le-ltb octetsLimit long h, lt-leb framesLimit frames k, a, p, ap (λ (m : ℕ). ltb long (m * octets)) (sym e) ∙ t)
 

@@ -5,19 +5,11 @@ use lib.Dec.{eqb, leb, ltb}
 use lib.IntN.{ℤ, pos, negsuc, _+ℤ_}
 use lib.Signed.{leZ}
 use Rattle.octets.specs.Pick.{pick, both}
-use Rattle.heads.specs.Refusals.{fileLimit, frameLimit, widthDiffers, pointerRange, waveformShort}
+use Rattle.heads.specs.Refusals.{longFile, manyFrames, sampleWidth, startRange, shortWaveform}
 use Rattle.standing.specs.declared.Standing.{Standing}
 use Rattle.framing.specs.declared.Framed.{Framed}
 use Rattle.framing.specs.declared.Framed.the-variants.{Taken, Refused}
-use Rattle.standing.specs.Standing.{withContinued}
-
--- The octets of a file at most.
-abbrev pub octetsLimit : ℕ
-octetsLimit = 2_147_483_647
-
--- The frames of a file at most.
-abbrev pub framesLimit : ℕ
-framesLimit = 4096
+use Rattle.standing.specs.Standing.{octetsLimit, framesLimit, withContinued}
 
 -- How many channels a frame has: as counted; 1 where no count stands.
 unfoldable pub channelsOf : ℕ → ℕ
@@ -41,10 +33,10 @@ pointerAfter st sequences = st .start +ℤ pos (st .root .block * sequences)
 unfoldable pub framedAs : ℕ → Standing → Bool → ℕ → ℕ → Framed
 framedAs frames st agree octets long =
     let sequences = sequencesOf (st .sequences) long octets in
-    pick (eqb octets 0) (Refused fileLimit)
-    (pick (ltb octetsLimit long) (Refused fileLimit)
-    (pick (leb framesLimit frames) (Refused frameLimit)
-    (pick (not agree) (Refused widthDiffers)
-    (pick (not (pointerFits (st .start))) (Refused pointerRange)
-    (pick (ltb long (sequences * octets)) (Refused waveformShort)
+    pick (eqb octets 0) (Refused longFile)
+    (pick (ltb octetsLimit long) (Refused longFile)
+    (pick (leb framesLimit frames) (Refused manyFrames)
+    (pick (not agree) (Refused sampleWidth)
+    (pick (not (pointerFits (st .start))) (Refused startRange)
+    (pick (ltb long (sequences * octets)) (Refused shortWaveform)
     (Taken sequences (withContinued (pointerAfter st sequences) st)))))))

@@ -64,24 +64,24 @@ pub fn frame_of(frames: u32, st: Standing, agree: bool, octets: u64, long: usize
     ensures { λ r. ⌜ r ≡ framedAs frames st agree octets long ⌝ }
 {
     if octets == 0 {
-        return Framed::Refused(Refusal::FILE_LIMIT);
+        return Framed::Refused(Refusal::LONG_FILE);
     }
     if Standing::OCTETS < long {
-        return Framed::Refused(Refusal::FILE_LIMIT);
+        return Framed::Refused(Refusal::LONG_FILE);
     }
     if Standing::FRAMES <= frames {
-        return Framed::Refused(Refusal::FRAME_LIMIT);
+        return Framed::Refused(Refusal::MANY_FRAMES);
     }
     if !agree {
-        return Framed::Refused(Refusal::WIDTH);
+        return Framed::Refused(Refusal::SAMPLE_WIDTH);
     }
     let start = st.start;
     if !pointer_fits(start) {
-        return Framed::Refused(Refusal::POINTER_RANGE);
+        return Framed::Refused(Refusal::START_RANGE);
     }
     let sequences = sequences_of(st.sequences, long, octets);
     if too_short(long, sequences, octets) {
-        return Framed::Refused(Refusal::WAVEFORM_SHORT);
+        return Framed::Refused(Refusal::SHORT_WAVEFORM);
     }
     let root = st.root;
     let z = pointer_after(start, root.block, sequences);

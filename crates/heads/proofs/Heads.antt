@@ -5,17 +5,17 @@
 --     channel-within, length-within, head-within        no part reaches past the end
 -- Assumes nothing.
 use Prim.Native.Nat.{ℕ, zero, suc, _+_, _-_, _*_, _%_, _^_, _≤_, _<_, zero-le}
-use mathlib.Core.Path.{_≡_, refl, sym, _∙_, ap, subst}
+use mathlib.Core.Path.{_≡_, refl, sym, _∙_, subst}
 use mathlib.Core.List.{List, [], _∷_}
 use mathlib.Core.Bool.{Bool, true, false}
-use native.Mathlib.Nat.{mul-assoc, add-mul, one-mul, mul-le-mul-right, pow-succ', pow-zero, le-mul-of-pos-right, pow-le-pow-right, le-trans}
+use native.Mathlib.Nat.{mul-assoc, add-mul, one-mul, mul-le-mul-right, pow-succ', pow-zero, le-mul-of-pos-right, pow-le-pow-right}
 use native.Mathlib.Numerals.{sub-one, add-one}
 use native.Mathlib.Omega.{arith}
-use borrow.Author.Tests.{lt-ltb, le-ltb, eq-eqb, ne-eqb, leb-false, ltb-false, ltb-true}
+use borrow.Author.Tests.{lt-ltb, le-ltb, eq-eqb, ne-eqb, ltb-false}
 use lib.Dec.{ltb, eqb}
 use lib.ListN.{length, getD, take, drop, drop-of-length-le, length-drop}
 use lib.Seq.{drop-cons, take-all}
-use Rattle.octets.specs.Pick.{pick, both}
+use Rattle.octets.specs.Pick.{both}
 use Rattle.octets.specs.Number.{bigFrom}
 use Rattle.octets.proofs.Pick.{pick-cases}
 use Rattle.heads.specs.declared.Channel.{Channel}
@@ -23,7 +23,7 @@ use Rattle.heads.specs.declared.Channel.the-variants.{Number, PastEnd, T
 use Rattle.heads.specs.declared.Length.{Length}
 use Rattle.heads.specs.declared.Length.the-variants.{Known, Bad}
 use Rattle.heads.specs.declared.Head.{Head}
-use Rattle.heads.specs.Refusals.{contextTag, pastEnd, notInGroup}
+use Rattle.heads.specs.Refusals.{contextTag, pastEnd, barredTag}
 use Rattle.heads.specs.Head.{channelOf, lengthOf, unknownContext, rootOnly, primitiveHead, groupLength, groupHead, headOf}
 
 -- ---- the channel number, octet by octet
@@ -145,7 +145,7 @@ abbrev pub HeadWithin : ℕ → Head → Type 0
 HeadWithin end (Head.Primitive tag start n) = (0 < start) × (start + n ≤ end)
 HeadWithin end (Head.Definite c start n) = (0 < start) × (start + n ≤ end)
 HeadWithin end (Head.Open c start) = (0 < start) × (start ≤ end)
-HeadWithin end (Head.Refused k) = k ≤ notInGroup
+HeadWithin end (Head.Refused k) = k ≤ barredTag
 
 primitive-within : (tag rest : ℕ) (l : Length) → LengthWithin rest l → HeadWithin (suc rest) (primitiveHead tag rest l)
 unfolding primitiveHead
@@ -204,7 +204,7 @@ unfolding headOf
 head-context inside [] n t = absurd (n refl)
 head-context inside (b ∷ u) n t = simp t
 
-pub head-barred : (inside : Bool) (u : List ℕ) → (length u ≡ 0 → ⊥) → unknownContext (first u) ≡ false → both inside (rootOnly (first u)) ≡ true → Head.Refused notInGroup ≡ headOf inside u
+pub head-barred : (inside : Bool) (u : List ℕ) → (length u ≡ 0 → ⊥) → unknownContext (first u) ≡ false → both inside (rootOnly (first u)) ≡ true → Head.Refused barredTag ≡ headOf inside u
 unfolding headOf
 head-barred inside [] n t b = absurd (n refl)
 head-barred inside (a ∷ u) n t b = simp (t, b)

@@ -7,7 +7,7 @@ use lib.ListN.{length, take, drop}
 use lib.Dec.{ltb, eqb}
 use Rattle.octets.specs.Pick.{pick, both, either}
 use Rattle.octets.specs.Number.{bigFrom}
-use Rattle.heads.specs.Refusals.{contextTag, lengthForm, pastEnd, channelForm, notInGroup}
+use Rattle.heads.specs.Refusals.{contextTag, lengthOctet, pastEnd, longChannel, barredTag}
 use Rattle.heads.specs.declared.Channel.{Channel}
 use Rattle.heads.specs.declared.Channel.the-variants.{Number, TooLong}
 use Rattle.heads.specs.declared.Length.{Length}
@@ -49,28 +49,28 @@ rootOnly tag =
 -- Open length stands only on 3Fh (2), and the value may not run past the end (3). `rest` octets follow the tag.
 unfoldable pub primitiveHead : ℕ → ℕ → Length → Head
 primitiveHead tag rest (Length.Known n octets) = pick (ltb (rest - octets) n) (Refused pastEnd) (Primitive tag (octets + 1) n)
-primitiveHead tag rest (Length.Open octets) = Refused lengthForm
+primitiveHead tag rest (Length.Open octets) = Refused lengthOctet
 primitiveHead tag rest Length.PastEnd = Refused pastEnd
-primitiveHead tag rest Length.Bad = Refused lengthForm
+primitiveHead tag rest Length.Bad = Refused lengthOctet
 
 -- A group's own extent is looked at here, before its contents. Its channel number took k octets, and `rest` follow those.
 unfoldable pub groupLength : ℕ → ℕ → ℕ → Length → Head
 groupLength channel k rest (Length.Known n octets) = pick (ltb (rest - octets) n) (Refused pastEnd) (Definite channel (k + octets + 1) n)
 groupLength channel k rest (Length.Open octets) = Head.Open channel (k + octets + 1)
 groupLength channel k rest Length.PastEnd = Refused pastEnd
-groupLength channel k rest Length.Bad = Refused lengthForm
+groupLength channel k rest Length.Bad = Refused lengthOctet
 
 -- 3Fh has a channel number between tag and length: 4 or 3 as met.
 unfoldable pub groupHead : List ℕ → Channel → Head
 groupHead u (Channel.Number channel k) = groupLength channel k (length (drop k u)) (lengthOf (drop k u))
 groupHead u Channel.PastEnd = Refused pastEnd
-groupHead u Channel.TooLong = Refused channelForm
+groupHead u Channel.TooLong = Refused longChannel
 
 -- Within an item the order is 1, 5, channel number (4 or 3 as met), 2, 3. Where there is no octet at all, 3; a walk never asks there.
 unfoldable pub headOf : Bool → List ℕ → Head
 headOf inside [] = Refused pastEnd
 headOf inside (tag ∷ u) =
     pick (unknownContext tag) (Refused contextTag)
-    (pick (both inside (rootOnly tag)) (Refused notInGroup)
+    (pick (both inside (rootOnly tag)) (Refused barredTag)
     (pick (eqb tag 0x3F) (groupHead u (channelOf 4 0 0 u))
     (primitiveHead tag (length u) (lengthOf u))))

@@ -6,20 +6,20 @@ abbrev pub contextTag : ℕ
 contextTag = 1
 
 -- 2: length octet 85h to FFh, or 80h not on 3Fh
-abbrev pub lengthForm : ℕ
-lengthForm = 2
+abbrev pub lengthOctet : ℕ
+lengthOctet = 2
 
 -- 3: channel number, length or value runs past the file or definite group around it
 abbrev pub pastEnd : ℕ
 pastEnd = 3
 
 -- 4: fourth channel octet has its top bit set
-abbrev pub channelForm : ℕ
-channelForm = 4
+abbrev pub longChannel : ℕ
+longChannel = 4
 
 -- 5: 01, 05, 06, 07, 0E, 1E or 3F inside a group
-abbrev pub notInGroup : ℕ
-notInGroup = 5
+abbrev pub barredTag : ℕ
+barredTag = 5
 
 -- 6: length of a tag in the table that isn't among those given there
 abbrev pub unfitLength : ℕ
@@ -30,36 +30,36 @@ abbrev pub unfitValue : ℕ
 unfitValue = 7
 
 -- 8: channel number not below the channel count
-abbrev pub channelRange : ℕ
-channelRange = 8
+abbrev pub channelNumber : ℕ
+channelNumber = 8
 
 -- 9: 0Eh of length above 0
 abbrev pub compressed : ℕ
 compressed = 9
 
 -- 10: open group: file ends between two of its items
-abbrev pub groupOpen : ℕ
-groupOpen = 10
+abbrev pub unendedGroup : ℕ
+unendedGroup = 10
 
 -- 11: a frame after 4,096 frames
-abbrev pub frameLimit : ℕ
-frameLimit = 11
+abbrev pub manyFrames : ℕ
+manyFrames = 11
 
 -- 12: a channel below the count whose defined offset or null hasn't its sample width
-abbrev pub widthDiffers : ℕ
-widthDiffers = 12
+abbrev pub sampleWidth : ℕ
+sampleWidth = 12
 
 -- 13: start pointer outside signed 32 bits
-abbrev pub pointerRange : ℕ
-pointerRange = 13
+abbrev pub startRange : ℕ
+startRange = 13
 
 -- 14: waveform shorter than sequences times G
-abbrev pub waveformShort : ℕ
-waveformShort = 14
+abbrev pub shortWaveform : ℕ
+shortWaveform = 14
 
 -- 15: file above 2,147,483,647 octets
-abbrev pub fileLimit : ℕ
-fileLimit = 15
+abbrev pub longFile : ℕ
+longFile = 15
 
 -- 20, 21, 22: no such frame, channel, sample
 abbrev pub noFrame : ℕ
@@ -72,5 +72,5 @@ abbrev pub noSample : ℕ
 noSample = 22
 
 -- 23: canonical file longer than the output buffer or than 15's limit
-abbrev pub bufferShort : ℕ
-bufferShort = 23
+abbrev pub noRoom : ℕ
+noRoom = 23

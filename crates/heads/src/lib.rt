@@ -18,33 +18,33 @@ pub struct Refusal {
 impl Refusal {
     pub const CONTEXT_TAG: u8 = 1;
 
-    pub const LENGTH_FORM: u8 = 2;
+    pub const LENGTH_OCTET: u8 = 2;
 
     pub const PAST_END: u8 = 3;
 
-    pub const CHANNEL_FORM: u8 = 4;
+    pub const LONG_CHANNEL: u8 = 4;
 
-    pub const NOT_IN_GROUP: u8 = 5;
+    pub const BARRED_TAG: u8 = 5;
 
-    pub const LENGTH: u8 = 6;
+    pub const UNFIT_LENGTH: u8 = 6;
 
-    pub const VALUE: u8 = 7;
+    pub const UNFIT_VALUE: u8 = 7;
 
-    pub const CHANNEL_RANGE: u8 = 8;
+    pub const CHANNEL_NUMBER: u8 = 8;
 
     pub const COMPRESSED: u8 = 9;
 
-    pub const GROUP_OPEN: u8 = 10;
+    pub const UNENDED_GROUP: u8 = 10;
 
-    pub const FRAME_LIMIT: u8 = 11;
+    pub const MANY_FRAMES: u8 = 11;
 
-    pub const WIDTH: u8 = 12;
+    pub const SAMPLE_WIDTH: u8 = 12;
 
-    pub const POINTER_RANGE: u8 = 13;
+    pub const START_RANGE: u8 = 13;
 
-    pub const WAVEFORM_SHORT: u8 = 14;
+    pub const SHORT_WAVEFORM: u8 = 14;
 
-    pub const FILE_LIMIT: u8 = 15;
+    pub const LONG_FILE: u8 = 15;
 
     pub const NO_FRAME: u8 = 20;
 
@@ -52,7 +52,7 @@ impl Refusal {
 
     pub const NO_SAMPLE: u8 = 22;
 
-    pub const BUFFER: u8 = 23;
+    pub const NO_ROOM: u8 = 23;
 }
 
 // A channel number and how many octets it takes, or why there is none.
@@ -205,13 +205,13 @@ fn primitive_head(tag: u8, u: &[u8]) -> Head
             }
         }
         Length::Open { octets: _ } => Head::Refused {
-            number: Refusal::LENGTH_FORM,
+            number: Refusal::LENGTH_OCTET,
         },
         Length::PastEnd => Head::Refused {
             number: Refusal::PAST_END,
         },
         Length::Bad => Head::Refused {
-            number: Refusal::LENGTH_FORM,
+            number: Refusal::LENGTH_OCTET,
         },
     }
 }
@@ -243,7 +243,7 @@ fn group_length(channel: u32, k: usize, v: &[u8]) -> Head
             number: Refusal::PAST_END,
         },
         Length::Bad => Head::Refused {
-            number: Refusal::LENGTH_FORM,
+            number: Refusal::LENGTH_OCTET,
         },
     }
 }
@@ -258,7 +258,7 @@ fn group_head(u: &[u8]) -> Head
             number: Refusal::PAST_END,
         },
         Channel::TooLong => Head::Refused {
-            number: Refusal::CHANNEL_FORM,
+            number: Refusal::LONG_CHANNEL,
         },
     }
 }
@@ -280,7 +280,7 @@ pub fn item_head(inside: bool, u: &[u8]) -> Head
     }
     if barred(inside, tag) {
         return Head::Refused {
-            number: Refusal::NOT_IN_GROUP,
+            number: Refusal::BARRED_TAG,
         };
     }
     if tag == 0x3F {

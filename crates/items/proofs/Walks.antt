@@ -10,11 +10,9 @@
 use Prim.Native.Nat.{ℕ, zero, suc, _+_, _-_, _≤_, _<_}
 use mathlib.Core.Path.{_≡_, refl, sym, _∙_, ap, subst}
 use mathlib.Core.List.{List, [], _∷_}
-use mathlib.Core.Bool.{Bool, true, false}
+use mathlib.Core.Bool.{Bool}
 use native.Mathlib.Omega.{arith}
-use lib.Dec.{ltb}
 use lib.ListN.{length, take, drop, length-take, length-drop}
-use Rattle.octets.specs.Pick.{pick}
 use Rattle.octets.proofs.Pick.{pick-cases}
 use Rattle.heads.specs.declared.Head.{Head}
 use Rattle.items.specs.declared.Within.{Within}
@@ -23,9 +21,9 @@ use Rattle.items.specs.declared.Item.{Item}
 use Rattle.heads.specs.declared.Refusal.{Refusal}
 use Rattle.items.specs.declared.Next.{Next}
 use Rattle.items.specs.declared.Next.the-variants.{Found, End}
-use Rattle.heads.specs.Refusals.{groupOpen}
+use Rattle.heads.specs.Refusals.{unendedGroup}
 use Rattle.heads.specs.Head.{headOf}
-use Rattle.items.specs.Walk.{Items, item, finished, fault, standsIn, isInside, extent, ended, endsOpen, itemOf, nextIn, nextOf, follow, walk, itemsFrom}
+use Rattle.items.specs.Walk.{item, finished, fault, standsIn, isInside, extent, ended, endsOpen, itemOf, nextIn, nextOf, follow, walk, itemsFrom}
 use Rattle.heads.proofs.Heads.{HeadWithin, head-within}
 
 -- ---- what stands at a cursor
@@ -88,7 +86,7 @@ pub record FoundAt (long at : ℕ) (i : Item) (d : Cursor) : Type 0 where
 abbrev Inner : ℕ → ℕ → Next → Type 0
 Inner long at (Next.Found i d) = FoundAt long at i d
 Inner long at Next.End = Unit {0}
-Inner long at (Next.Refused r) = r .number ≤ groupOpen
+Inner long at (Next.Refused r) = r .number ≤ unendedGroup
 
 inner-item : (long at left : ℕ) (w : Within) (h : Head) → at + left ≤ long → HeadWithin left h → Inner long at (itemOf at w h)
 unfolding itemOf
@@ -124,7 +122,7 @@ pub next-later : (s : List ℕ) (c : Cursor) {n : Next} {i : Item} {d : Cursor} 
 next-later s c e f = let p = next-found s c e f in omega arith
 
 -- A fault of form has one of the numbers up to 10.
-pub next-refused : (s : List ℕ) (c : Cursor) {n : Next} {r : Refusal} → n ≡ nextOf s c → n ≡ Next.Refused r → r .number ≤ groupOpen
+pub next-refused : (s : List ℕ) (c : Cursor) {n : Next} {r : Refusal} → n ≡ nextOf s c → n ≡ Next.Refused r → r .number ≤ unendedGroup
 next-refused s c e f = subst (Inner (length s) (c .at)) (sym e ∙ f) (inner-next s c)
 
 -- ---- all items

@@ -5,7 +5,7 @@ use mathlib.Core.Bool.{Bool, true, false}
 use lib.ListN.{length, take, drop}
 use lib.Dec.{ltb, eqb}
 use Rattle.octets.specs.Pick.{pick, both}
-use Rattle.heads.specs.Refusals.{groupOpen}
+use Rattle.heads.specs.Refusals.{unendedGroup}
 use Rattle.heads.specs.Head.{headOf}
 use Rattle.heads.specs.declared.Head.{Head}
 use Rattle.heads.specs.declared.Refusal.{Refusal}
@@ -47,7 +47,7 @@ extent s at (Within.Open channel place) = drop at s
 abbrev pub ended : Within → Next
 ended Within.Root = End
 ended (Within.Definite channel end) = End
-ended (Within.Open channel place) = Next.Refused (refusal groupOpen place)
+ended (Within.Open channel place) = Next.Refused (refusal unendedGroup place)
 
 -- In an open group an item 00 with length 0, in any length form, ends it.
 abbrev pub endsOpen : ℕ → ℕ → Bool

@@ -147,7 +147,7 @@ fn end_of(within: Within) -> Next
         Within::Root => Next::End,
         Within::Definite { channel: _, end: _ } => Next::End,
         Within::Open { channel: _, place } => Next::Refused(Refusal {
-            number: Refusal::GROUP_OPEN,
+            number: Refusal::UNENDED_GROUP,
             place,
         }),
     }

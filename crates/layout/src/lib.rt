@@ -139,18 +139,11 @@ impl Layout {
     }
 }
 
-// No more channels than a frame may have.
-fn few(count: usize) -> usize
-    ensures { λ r. ⌜ r ≡ min count 256 ⌝ }
-{
-    if count < 256 { count } else { 256 }
-}
-
 // The layout of the first `count` channels.
-pub fn layout_of(table: [Settings; 256], count: usize) -> Layout
+pub fn layout_of(table: [Settings; Settings::CHANNELS], count: usize) -> Layout
     ensures { λ r. ⌜ r ≡ layoutOf 0 (take count table) ⌝ }
 {
-    let n = few(count);
+    let n = Settings::at_most(count);
     let mut l = Layout::none();
     let mut i = 0usize;
     while i < n {

@@ -5,7 +5,7 @@
 -- Assumes nothing.
 use mathlib.Core.Path.{_≡_, refl, sym, ap, subst, _∙_}
 use mathlib.Core.List.{List, append-nil}
-use mathlib.Core.Bool.{Bool, false}
+use mathlib.Core.Bool.{false}
 use Prim.Native.Nat.{ℕ, _+_, _-_, _*_, _^_, _≤_, _<_, min}
 use native.Mathlib.Omega.{arith}
 use lib.Dec.{ltb, eqb}
@@ -20,23 +20,23 @@ use Rattle.items.specs.declared.Within.the-variants.{Root}
 use Rattle.items.specs.Walk.{nextOf, itemsFrom, cursor}
 use Rattle.settings.specs.declared.Settings.{Settings}
 use Rattle.settings.specs.Settings.{channelLimit, defaultSettings, defaultTable, zeroSettings}
-use Rattle.settings.proofs.Shown.{shown, shown-none, shown-long, shown-set, shown-get}
+use Rattle.settings.proofs.Shown.{shown, shown-none, shown-set, shown-get}
 use Rattle.layout.specs.declared.Layout.{Layout}
 use Rattle.layout.specs.Size.{frameSize}
 use Rattle.layout.specs.Measure.{layoutOf, More}
 use Rattle.standing.specs.declared.Standing.{Standing}
-use Rattle.standing.specs.Standing.{withRoot}
+use Rattle.standing.specs.Standing.{octetsLimit, framesLimit, withRoot}
 use Rattle.effects.specs.declared.Effect.{Effect}
 use Rattle.framing.specs.declared.Framed.{Framed}
 use Rattle.framing.specs.declared.Framed.the-variants.{Taken}
 use Rattle.effects.specs.Effects.{effectOf}
-use Rattle.framing.specs.Framing.{framesLimit, channelsOf, framedAs}
+use Rattle.framing.specs.Framing.{channelsOf, framedAs}
 use Rattle.stretch.specs.declared.Stretch.{Stretch}
 use Rattle.stretch.specs.Stretch.{stretchOf}
 use Rattle.pass.specs.declared.Asked.{Asked}
 use Rattle.pass.specs.declared.View.{View}
 use Rattle.pass.specs.declared.Found.{Found}
-use Rattle.pass.specs.Verdict.{state, interpret, verdict}
+use Rattle.pass.specs.Verdict.{state, interpret}
 use Rattle.pass.specs.declared.Met.{Met}
 use Rattle.pass.specs.Passing.{Scanning, metWith}
 use Rattle.layout.proofs.Laws.{Summing, summing-more}
@@ -150,7 +150,7 @@ module _ {s : List ℕ} {q : Asked} {table : List Settings} {c : Cursor} {st : S
 module _ {s : List ℕ} {q : Asked} {table : List Settings} {c : Cursor} {st : Standing} {m : Met} (p : Passing s q table 0 c st (m .frames) (m .found) (m .size))
     (l : Layout) (el : l ≡ layoutOf (q .channel) (take (channelsOf (st .counted)) (replicate channelLimit (st .root))))
     (len : ℕ) {sequences : ℕ} {x : Standing} {r : Framed} (er : r ≡ framedAs (m .frames) st (l .agree) (l .octets) len) (fr : r ≡ Taken sequences x) where
-  pub bare-room : (m .frames ≤ framesLimit) × (m .size ≤ m .frames * 2 ^ 32) × (l .groups ≤ 16384) × (sequences * l .octets < 2147483648)
+  pub bare-room : (m .frames ≤ framesLimit) × (m .size ≤ m .frames * 2 ^ 32) × (l .groups ≤ 16384) × (sequences * l .octets ≤ octetsLimit)
   bare-room = met-room (bare-full p) l el (bare-few p (channelsOf (st .counted)) refl) len er fr
 
   pub bare-met : {n : Next} {i : Item} {d : Cursor} {start : ℕ} {m' : Met} {e : Effect}

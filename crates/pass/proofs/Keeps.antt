@@ -19,12 +19,12 @@ use Rattle.items.specs.declared.Cursor.{Cursor}
 use Rattle.items.specs.declared.Next.{Next}
 use Rattle.items.specs.declared.Next.the-variants.{Found, End}
 use Rattle.items.specs.declared.Within.the-variants.{Root}
-use Rattle.heads.specs.Refusals.{fileLimit}
+use Rattle.heads.specs.Refusals.{longFile}
 use Rattle.items.specs.Walk.{Items, item, finished, fault, cursor, nextOf, itemsFrom, itemsOf, refusal}
 use Rattle.items.proofs.Walks.{next-later, items-found, items-end, items-refused}
 use Rattle.layout.specs.Frame.{Frame}
 use Rattle.effects.specs.Effects.{effectOf}
-use Rattle.framing.specs.Framing.{octetsLimit}
+use Rattle.standing.specs.Standing.{octetsLimit}
 use Rattle.pass.specs.Verdict.{State, firstState, Outcome, goes, refuses, carried, placeAt, Verdict, accepted, refused, afterItem, interpret, verdict}
 
 -- What an item does.
@@ -108,7 +108,7 @@ pub items-first : (s : List ℕ) → itemsOf s ≡ itemsFrom s firstCursor
 unfolding itemsOf
 items-first s = refl
 
-limit-by : (s : List ℕ) (fs : List Frame) (b : Bool) (v : Verdict) → ltb octetsLimit (length s) ≡ b → pick b (refused (refusal fileLimit 0)) v ≡ accepted fs → (length s ≤ octetsLimit) × (v ≡ accepted fs)
+limit-by : (s : List ℕ) (fs : List Frame) (b : Bool) (v : Verdict) → ltb octetsLimit (length s) ≡ b → pick b (refused (refusal longFile 0)) v ≡ accepted fs → (length s ≤ octetsLimit) × (v ≡ accepted fs)
 limit-by s fs true v e f = let z : _≡_ {A = ℕ} 0 1 = cc in let w : ⊥ = omega arith in absurd w
 limit-by s fs false v e f = (ltb-false octetsLimit (length s) e, f)
 

@@ -5,20 +5,18 @@
 -- Assumes nothing.
 use mathlib.Core.Path.{_≡_, refl, sym, ap, subst, _∙_}
 use mathlib.Core.List.{List, [], _∷_, _++_}
-use mathlib.Core.Bool.{Bool, true, false, not}
-use Prim.Native.Nat.{ℕ, zero, suc, _+_, _-_, _*_, _^_, _≤_, _<_, min}
+use mathlib.Core.Bool.{Bool, not}
+use Prim.Native.Nat.{ℕ, _+_, _-_, _*_, _^_, _≤_, _<_, min}
 use native.Mathlib.Nat.{add-zero, add-assoc, zero-add}
-use native.Mathlib.Numerals.{add-one}
 use native.Mathlib.Omega.{arith}
 use native.Mathlib.Decide.{decLt}
 use types.Run.{OneOf, hit, miss}
 use denote.Enum.Declared.{tagOf}
 use borrow.Author.Tests.{lt-ltb, le-ltb, ltb-true, ltb-false, leb-false, eqb-true, eqb-false, eq-eqb, ne-eqb}
 use lib.Dec.{ltb, leb, eqb}
-use lib.IntN.{ℤ}
-use lib.ListN.{length, getD, take, drop, set, replicate, length-append, length-take, length-set, length-map, length-replicate, List·getD-append, List·getD-eq-default}
+use lib.ListN.{length, getD, take, set, replicate, length-append, length-set, length-replicate, List·getD-append}
 use lib.Seq.{length-take-le, getD-append-seam, getD-take, set-out}
-use Rattle.octets.specs.Pick.{pick, both}
+use Rattle.octets.specs.Pick.{pick}
 use Rattle.octets.proofs.Pick.{pick-cases}
 use Rattle.items.specs.declared.Item.{Item}
 use Rattle.items.specs.declared.Cursor.{Cursor}
@@ -26,8 +24,8 @@ use Rattle.heads.specs.declared.Refusal.{Refusal}
 use Rattle.items.specs.declared.Next.{Next}
 use Rattle.items.specs.declared.Next.the-variants.{Found as FoundItem, End}
 use Rattle.items.specs.declared.Within.the-variants.{Root}
-use Rattle.heads.specs.Refusals.{fileLimit}
-use Rattle.items.specs.Walk.{Items, item, finished, fault, nextOf, itemsFrom, itemsOf, cursor, refusal}
+use Rattle.heads.specs.Refusals.{longFile}
+use Rattle.items.specs.Walk.{nextOf, itemsFrom, itemsOf, cursor, refusal}
 use Rattle.items.proofs.Walks.{items-found, items-end, items-refused}
 use Rattle.settings.specs.declared.Settings.{Settings}
 use Rattle.settings.specs.declared.Change.{Change}
@@ -35,8 +33,8 @@ use Rattle.settings.specs.Settings.{channelLimit, defaultSettings, defaultTable
 use Rattle.settings.proofs.Mapped.{mapped, mapped-long}
 use Rattle.settings.proofs.Shown.{shown, shown-none, shown-long, shown-fill, shown-map, shown-set, shown-get, shown-take}
 use Rattle.layout.specs.declared.Layout.{Layout}
-use Rattle.layout.specs.Frame.{Frame, sequenceOctets, octetsBelow, allAgree, channelIn}
-use Rattle.layout.specs.Size.{frameSize, groupsSize}
+use Rattle.layout.specs.Frame.{Frame, channelIn}
+use Rattle.layout.specs.Size.{frameSize}
 use Rattle.layout.specs.Measure.{layoutOf}
 use Rattle.layout.proofs.Laws.{groups-few}
 use Rattle.standing.specs.declared.Standing.{Standing}
@@ -48,13 +46,12 @@ use Rattle.pass.specs.declared.View.{View}
 use Rattle.pass.specs.declared.Found.{Found}
 use Rattle.pass.specs.declared.Found.the-variants.{Nothing}
 use Rattle.pass.specs.declared.Checked.{Checked}
-use Rattle.pass.specs.declared.Scan.{Scan}
-use Rattle.standing.specs.Standing.{firstStanding}
+use Rattle.standing.specs.Standing.{octetsLimit, framesLimit, firstStanding}
 use Rattle.effects.specs.Effects.{valueAt, effectOf, standingAfter}
 use Rattle.effects.proofs.Effect.{the-type}
 use Rattle.effects.specs.Reach.{reachOf}
-use Rattle.framing.specs.Framing.{octetsLimit, framesLimit, channelsOf, sequencesOf, pointerFits, pointerAfter, framedAs}
-use Rattle.pass.specs.Verdict.{State, state, firstState, Outcome, goes, refuses, oneChanged, frameChannels, frameAt, withFrame, carried, placeAt, Verdict, accepted, refused, afterItem, interpret, verdict}
+use Rattle.framing.specs.Framing.{channelsOf, pointerFits, framedAs}
+use Rattle.pass.specs.Verdict.{State, state, goes, refuses, oneChanged, frameAt, withFrame, carried, placeAt, accepted, refused, interpret, verdict}
 use Rattle.pass.specs.declared.Met.{Met}
 use Rattle.pass.specs.Passing.{Scanning, noneMet, metWith}
 use Rattle.pass.proofs.Keeps.{interpret-goes, interpret-refuses}
@@ -247,7 +244,7 @@ module _ {s : List ℕ} {q : Asked} {table : List Settings} {c : Cursor} {st : S
       }
 
 -- 15 comes first.
-pub scanned-large : (s : List ℕ) (q : Asked) → octetsLimit < length s → refusedScan (refusal fileLimit 0) ≡ scanOf q s
+pub scanned-large : (s : List ℕ) (q : Asked) → octetsLimit < length s → refusedScan (refusal longFile 0) ≡ scanOf q s
 unfolding scanOf scannedIn verdict
 scanned-large s q h = simp (lt-ltb octetsLimit (length s) h)
 
@@ -486,7 +483,7 @@ module _ {s : List ℕ} {q : Asked} {table : List Settings} {own : ℕ} {c : Cur
 module _ {s : List ℕ} {q : Asked} {table : List Settings} {own : ℕ} {c : Cursor} {st : Standing} {m : Met} (p : Passing s q table own c st (m .frames) (m .found) (m .size))
     (l : Layout) (el : l ≡ layoutOf (q .channel) (take (channelsOf (st .counted)) table)) (few : channelsOf (st .counted) ≤ own)
     (len : ℕ) {sequences : ℕ} {x : Standing} {r : Framed} (er : r ≡ framedAs (m .frames) st (l .agree) (l .octets) len) (fr : r ≡ Taken sequences x) where
-  pub met-room : (m .frames ≤ framesLimit) × (m .size ≤ m .frames * 2 ^ 32) × (l .groups ≤ 16384) × (sequences * l .octets < 2147483648)
+  pub met-room : (m .frames ≤ framesLimit) × (m .size ≤ m .frames * 2 ^ 32) × (l .groups ≤ 16384) × (sequences * l .octets ≤ octetsLimit)
   met-room =
       let w = framed-found (m .frames) st (l .agree) (l .octets) len er fr in
       (p .pass .limit, p .pass .room, passing-groups p (channelsOf (st .counted)) l refl el few, omega (arith, w .0, w .1))

@@ -17,7 +17,7 @@ use Rattle.octets.specs.Number.{numberOf}
 use Rattle.octets.proofs.Pick.{pick-cases}
 use Rattle.items.specs.declared.Item.{Item}
 use Rattle.items.specs.declared.Item.the-variants.{Plain}
-use Rattle.heads.specs.Refusals.{fileLimit}
+use Rattle.heads.specs.Refusals.{longFile}
 use Rattle.settings.specs.declared.Settings.{Settings}
 use Rattle.definitions.specs.declared.Attribute.{Attribute}
 use Rattle.settings.specs.declared.Change.{Change}
@@ -29,9 +29,9 @@ use Rattle.layout.specs.Frame.{sequenceOctets, allAgree}
 use Rattle.standing.specs.declared.Standing.{Standing}
 use Rattle.effects.specs.declared.Effect.{Effect}
 use Rattle.framing.specs.declared.Framed.{Framed}
-use Rattle.standing.specs.Standing.{withOrder, withCount, withSequences, withStart, withRoot, withContinued}
+use Rattle.standing.specs.Standing.{octetsLimit, framesLimit, withOrder, withCount, withSequences, withStart, withRoot, withContinued}
 use Rattle.effects.specs.Effects.{orderEffect, countEffect, sequencesEffect, startEffect, compressedEffect, allEffect, oneEffect, rootEffect, plainEffect, memberEffect, groupEffect, valueAt, effectOf}
-use Rattle.framing.specs.Framing.{octetsLimit, framesLimit, sequencesOf, pointerFits, pointerAfter, framedAs}
+use Rattle.framing.specs.Framing.{sequencesOf, pointerFits, pointerAfter, framedAs}
 use Rattle.pass.specs.Verdict.{State, state, Outcome, goes, refuses, oneChanged, frameChannels, frameAt, withFrame, carried}
 use Rattle.pass.proofs.Keeps.{meaning}
 
@@ -48,7 +48,7 @@ pub data Definition (s : List ℕ) (base : Settings) : Change → Type 0 where
 
 abbrev Gives : List ℕ → Settings → Defined → Type 0
 Gives s base (Defined.Changed c) = Definition s base c
-Gives s base (Defined.Refused n) = n < fileLimit
+Gives s base (Defined.Refused n) = n < longFile
 
 defined-gives : (s : List ℕ) (base : Settings) (a : Attribute) (little : Bool) (start len : ℕ) → Gives s base (defined a little base (valueAt s start len))
 unfolding defined
@@ -79,7 +79,7 @@ Asks s st i (Effect.Start z) = Unit {0}
 Asks s st i (Effect.All c) = Definition s defaultSettings c
 Asks s st i (Effect.One channel c) = Definition s (st .root) c
 Asks s st i (Effect.Frame start long) = Waveform s i start long
-Asks s st i (Effect.Refused n) = n < fileLimit
+Asks s st i (Effect.Refused n) = n < longFile
 
 module _ (s : List ℕ) (st : Standing) where
   all-asks : (i : Item) (d : Defined) → Gives s defaultSettings d → Asks s st i (allEffect d)
@@ -182,7 +182,7 @@ pub record TakenBy (frames : ℕ) (st : Standing) (agree : Bool) (octets long n 
 
 abbrev Framing : ℕ → Standing → Bool → ℕ → ℕ → Framed → Type 0
 Framing frames st agree octets long (Framed.Taken n y) = TakenBy frames st agree octets long n y
-Framing frames st agree octets long (Framed.Refused k) = (octets ≡ 0 → ⊥) → long ≤ octetsLimit → k < fileLimit
+Framing frames st agree octets long (Framed.Refused k) = (octets ≡ 0 → ⊥) → long ≤ octetsLimit → k < longFile
 
 framed-gives : (frames : ℕ) (st : Standing) (agree : Bool) (octets long : ℕ) → Framing frames st agree octets long (framedAs frames st agree octets long)
 unfolding framedAs
@@ -224,7 +224,7 @@ pub data Step (s : List ℕ) (x : State) (i : Item) : State → Type 0 where
 -- 15 would come only of a sequence without octets or of a file above the limit.
 abbrev Steps : List ℕ → State → Item → Outcome → Type 0
 Steps s x i (goes y) = Step s x i y
-Steps s x i (refuses n) = (sequenceOctets (frameChannels x) ≡ 0 → ⊥) → length s ≤ octetsLimit → n < fileLimit
+Steps s x i (refuses n) = (sequenceOctets (frameChannels x) ≡ 0 → ⊥) → length s ≤ octetsLimit → n < longFile
 
 -- No value is longer than the file.
 value-short : (s : List ℕ) (start len : ℕ) → length (valueAt s start len) ≤ length s
@@ -257,5 +257,5 @@ module _ (s : List ℕ) (x : State) (i : Item) where
   pub meaning-steps : (y : State) → meaning s x i ≡ goes y → Step s x i y
   meaning-steps y e = subst (Steps s x i) e steps
 
-  pub meaning-refused : (n : ℕ) → meaning s x i ≡ refuses n → (sequenceOctets (frameChannels x) ≡ 0 → ⊥) → length s ≤ octetsLimit → n < fileLimit
+  pub meaning-refused : (n : ℕ) → meaning s x i ≡ refuses n → (sequenceOctets (frameChannels x) ≡ 0 → ⊥) → length s ≤ octetsLimit → n < longFile
   meaning-refused n e = subst (Steps s x i) e steps

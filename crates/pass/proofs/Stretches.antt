@@ -42,7 +42,7 @@ use Rattle.effects.specs.declared.Effect.{Effect}
 use Rattle.effects.specs.Effects.{valueAt, allEffect, oneEffect, rootEffect, plainEffect, memberEffect, groupEffect, effectOf}
 use Rattle.stretch.specs.declared.Stretch.{Stretch}
 use Rattle.stretch.specs.Stretch.{Step, leaves, ends, steppedOver, stepOf, stretch, onward, runFrom, runOf, stretchOf}
-use Rattle.stretch.proofs.Leads.{Led, Does, itemIn, step-led, next-short, value-ahead, extent-later}
+use Rattle.stretch.proofs.Leads.{Led, itemIn, step-led, next-short, value-ahead, extent-later}
 use Rattle.pass.specs.Verdict.{State, state, goes, oneChanged, carried, interpret}
 use Rattle.pass.specs.Passing.{openedBy, beginsAt}
 use Rattle.pass.proofs.Keeps.{meaning, interpret-goes}

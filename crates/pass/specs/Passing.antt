@@ -15,7 +15,8 @@ use Rattle.layout.specs.declared.Layout.{Layout}
 use Rattle.layout.specs.Frame.{Frame}
 use Rattle.layout.specs.Size.{frameSize}
 use Rattle.standing.specs.declared.Standing.{Standing}
-use Rattle.framing.specs.Framing.{octetsLimit, framesLimit, channelsOf}
+use Rattle.standing.specs.Standing.{octetsLimit, framesLimit}
+use Rattle.framing.specs.Framing.{channelsOf}
 use Rattle.stretch.specs.Stretch.{steppedOver}
 use Rattle.pass.specs.declared.Asked.{Asked}
 use Rattle.pass.specs.declared.View.{View}
@@ -70,7 +71,7 @@ metWith q st sequences start l c m =
       size = m .size + frameSize sequences (l .groups) (sequences * l .octets);
     }
 
--- The channel of a group that takes effect here; 256, which is no channel, for every other item.
+-- The channel of a group that takes effect here; for every other item the number of records, which is no channel.
 unfoldable pub openedBy : ℕ → Item → ℕ
 openedBy counted (Item.Plain place tag start len) = channelLimit
 openedBy counted (Item.Group place channel) = pick (ltb channel counted) channel channelLimit

@@ -6,7 +6,7 @@ use lib.ListN.{length, getD, set, take, replicate}
 use Rattle.octets.specs.Pick.{pick}
 use Rattle.items.specs.declared.Item.{Item}
 use Rattle.heads.specs.declared.Refusal.{Refusal}
-use Rattle.heads.specs.Refusals.{fileLimit}
+use Rattle.heads.specs.Refusals.{longFile}
 use Rattle.items.specs.Walk.{Items, item, finished, fault, itemsOf, refusal}
 use Rattle.settings.specs.declared.Settings.{Settings}
 use Rattle.settings.specs.Settings.{channelLimit, defaultTable, zeroSettings, applied, allApplied}
@@ -15,10 +15,10 @@ use Rattle.effects.specs.declared.Effect.{Effect}
 use Rattle.framing.specs.declared.Framed.{Framed}
 use Rattle.pass.specs.declared.Checked.{Checked}
 use Rattle.pass.specs.declared.Checked.the-variants.{Frames}
-use Rattle.standing.specs.Standing.{firstStanding}
+use Rattle.standing.specs.Standing.{octetsLimit, firstStanding}
 use Rattle.effects.specs.Effects.{valueAt, effectOf, standingAfter}
 use Rattle.layout.specs.Frame.{Frame, sequenceOctets, allAgree}
-use Rattle.framing.specs.Framing.{octetsLimit, channelsOf, framedAs}
+use Rattle.framing.specs.Framing.{channelsOf, framedAs}
 
 -- What stands between two items: what stands outside the channels' own records, those records, and the frames met so far.
 pub record State : Type 0 where
@@ -103,7 +103,7 @@ interpret s x (fault r) = refused r
 
 -- 15 comes first.
 unfoldable pub verdict : List ℕ → Verdict
-verdict s = pick (ltb octetsLimit (length s)) (refused (refusal fileLimit 0)) (interpret s firstState (itemsOf s))
+verdict s = pick (ltb octetsLimit (length s)) (refused (refusal longFile 0)) (interpret s firstState (itemsOf s))
 
 -- The answer of the check: the number of frames, or the refusal.
 unfoldable pub checkedAs : Verdict → Checked

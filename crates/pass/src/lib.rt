@@ -6,7 +6,7 @@
 // definitions in stretches where they can, and every other item by what crate effects says of it.
 // Read first: specs/Verdict.antt (the file), specs/Scan.antt (what a pass answers), then specs/Passing.antt (what it knows on its way).
 ghost use mathlib.Core.Path.{_≡_};
-ghost use Prim.Native.Nat.{_+_, _*_, _^_, _≤_, _<_, min};
+ghost use Prim.Native.Nat.{_+_, _*_, _-_, _^_, _≤_, _<_, min};
 ghost use Rattle.octets.specs.Pick.{pick};
 ghost use lib.ListN.{length, take, replicate};
 ghost use Rattle.items.specs.Walk.{cursor, refusal};
@@ -14,7 +14,8 @@ ghost use Rattle.settings.specs.Settings.{defaultSettings, channelLimit};
 ghost use Rattle.stretch.specs.Stretch.{stretchOf};
 ghost use Rattle.layout.specs.Size.{frameSize};
 ghost use Rattle.layout.specs.Measure.{layoutOf};
-ghost use Rattle.framing.specs.Framing.{octetsLimit, framesLimit, channelsOf};
+ghost use Rattle.standing.specs.Standing.{octetsLimit, framesLimit};
+ghost use Rattle.framing.specs.Framing.{channelsOf};
 ghost use Rattle.pass.specs.Verdict.{placeAt};
 ghost use Rattle.pass.specs.Scan.{refusedScan, scanOf};
 ghost use Rattle.pass.specs.Passing.{Scanning, openedBy, beginsAt, noneMet, metScan, metWith, viewMet};
@@ -175,7 +176,7 @@ impl Met {
         l: Layout,
         c: Settings,
     ) -> Met
-        requires { ⌜ (self .frames ≤ framesLimit) × (self .size ≤ self .frames * 2 ^ 32) × (l .groups ≤ 16384) × (sequences * l .octets < 2147483648) ⌝ }
+        requires { ⌜ (self .frames ≤ framesLimit) × (self .size ≤ self .frames * 2 ^ 32) × (l .groups ≤ 16384) × (sequences * l .octets ≤ octetsLimit) ⌝ }
         ensures { λ r. ⌜ (r ≡ metWith asked st sequences start l c self) × (frameSize sequences (l .groups) (sequences * l .octets) < 4294967296) ⌝ }
     {
         let waveform = sequences as u64 * l.octets;
@@ -199,12 +200,14 @@ impl Met {
 
 // The last record for every channel number above it.
 fn index(channel: u32) -> usize
-    ensures { λ r. ⌜ r ≡ min channel 255 ⌝ }
+    ensures { λ r. ⌜ r ≡ min channel (channelLimit - 1) ⌝ }
 {
-    if channel < 255 { channel as usize } else { 255 }
+    let last = Settings::CHANNELS - 1;
+    let k = channel as usize;
+    if k < last { k } else { last }
 }
 
-// The channel of a group that takes effect here; 256 for every other item.
+// The channel of a group that takes effect here; for every other item the number of records, which is no channel.
 fn opened(item: Item, counted: u32) -> usize
     ensures { λ r. ⌜ r ≡ openedBy counted item ⌝ }
 {
@@ -214,12 +217,12 @@ fn opened(item: Item, counted: u32) -> usize
             tag: _,
             start: _,
             len: _,
-        } => 256,
+        } => Settings::CHANNELS,
         Item::Group { place: _, channel } => {
             if channel < counted {
                 channel as usize
             } else {
-                256
+                Settings::CHANNELS
             }
         }
         Item::Member {
@@ -228,8 +231,8 @@ fn opened(item: Item, counted: u32) -> usize
             tag: _,
             start: _,
             len: _,
-        } => 256,
-        Item::Mark { place: _ } => 256,
+        } => Settings::CHANNELS,
+        Item::Mark { place: _ } => Settings::CHANNELS,
     }
 }
 
@@ -310,7 +313,7 @@ fn scan_channels(s: &[u8], asked: Asked, from: Cursor, standing: Standing, befor
                 let root = st.root;
                 // The definitions at the front of a group are taken as a stretch.
                 let k = opened(item, st.counted);
-                if k < 256 {
+                if k < Settings::CHANNELS {
                     while own <= k {
                         table[own] = root;
                         own += 1;
@@ -342,7 +345,7 @@ fn scan_channels(s: &[u8], asked: Asked, from: Cursor, standing: Standing, befor
                     }
                     Effect::One(channel, change) => {
                         let k = channel as usize;
-                        if k < 256 {
+                        if k < Settings::CHANNELS {
                             table[k] = settings::apply(table[k], change);
                         }
                     }
@@ -444,7 +447,7 @@ pub fn scan_file(s: &[u8], asked: Asked) -> Scan
 {
     if Standing::OCTETS < s.len() {
         return refused_scan(Refusal {
-            number: Refusal::FILE_LIMIT,
+            number: Refusal::LONG_FILE,
             place: 0,
         });
     }

@@ -17,7 +17,7 @@ use Rattle.octets.specs.Pick.{pick}
 use Rattle.values.specs.Sample.{widthOf}
 use Rattle.items.specs.declared.Cursor.{Cursor}
 use Rattle.heads.specs.declared.Refusal.{Refusal}
-use Rattle.heads.specs.Refusals.{fileLimit}
+use Rattle.heads.specs.Refusals.{longFile}
 use Rattle.items.specs.Walk.{refusal, itemsOf}
 use Rattle.items.proofs.Walks.{next-refused}
 use Rattle.settings.specs.declared.Settings.{Settings}
@@ -25,7 +25,8 @@ use Rattle.settings.specs.declared.Change.{Change}
 use Rattle.settings.specs.Settings.{blockLimit, lastKind, defaultSettings}
 use Rattle.definitions.specs.Define.{inRange}
 use Rattle.layout.specs.Frame.{blockOctets, sequenceOctets}
-use Rattle.framing.specs.Framing.{octetsLimit, channelsOf}
+use Rattle.standing.specs.Standing.{octetsLimit}
+use Rattle.framing.specs.Framing.{channelsOf}
 use Rattle.pass.specs.Verdict.{State, firstState, frameChannels, refused, interpret, verdict}
 use Rattle.pass.proofs.Keeps.{Keeps, verdict-law, firstCursor, items-first}
 use Rattle.pass.proofs.Steps.{meaning-steps, meaning-refused}
@@ -87,21 +88,21 @@ module _ (s : List ℕ) where
       sequence-some (frameChannels x) (every-take (Each InRange) (channelsOf (x .standing .counted)) (x .channels) (p .table .table))
       (frame-channels s x c (p .lying) .0)
 
-  refused-below : length s ≤ octetsLimit → (r : Refusal) → interpret s firstState (itemsOf s) ≡ refused r → r .number < fileLimit
+  refused-below : length s ≤ octetsLimit → (r : Refusal) → interpret s firstState (itemsOf s) ≡ refused r → r .number < longFile
   refused-below h r e =
-      verdict-law s (Filled s) filled-keeps (λ v. (q : Refusal) → v ≡ refused q → q .number < fileLimit)
+      verdict-law s (Filled s) filled-keeps (λ v. (q : Refusal) → v ≡ refused q → q .number < longFile)
       (λ x c p q f. let z : _≡_ {A = ℕ} 0 1 = cc in let w : ⊥ = omega arith in absurd w)
       (λ x c t p g q f. let k : t .number ≡ q .number = cc in omega (arith, next-refused s c refl g))
       (λ x c i d n p g m q f. let k : n ≡ q .number = cc in let o = octets-some x c p in omega (arith, meaning-refused s x i n m (omega arith) h))
       firstState firstCursor filled-first r (rw items-first at e)
 
-  pub never-limit : length s ≤ octetsLimit → (r : Refusal) → interpret s firstState (itemsOf s) ≡ refused r → r .number ≡ fileLimit → ⊥
+  pub never-limit : length s ≤ octetsLimit → (r : Refusal) → interpret s firstState (itemsOf s) ≡ refused r → r .number ≡ longFile → ⊥
   never-limit h r e f = let b = refused-below h r e in let w : ⊥ = omega arith in w
 
-  pub only-limit : (r : Refusal) → verdict s ≡ refused r → r .number ≡ fileLimit → octetsLimit < length s
+  pub only-limit : (r : Refusal) → verdict s ≡ refused r → r .number ≡ longFile → octetsLimit < length s
   unfolding verdict
   only-limit r e f = by (ltb octetsLimit (length s)) refl e
     where
-      by : (b : Bool) → ltb octetsLimit (length s) ≡ b → pick b (refused (refusal fileLimit 0)) (interpret s firstState (itemsOf s)) ≡ refused r → octetsLimit < length s
+      by : (b : Bool) → ltb octetsLimit (length s) ≡ b → pick b (refused (refusal longFile 0)) (interpret s firstState (itemsOf s)) ≡ refused r → octetsLimit < length s
       by true t q = ltb-true octetsLimit (length s) t
       by false t q = absurd (never-limit (ltb-false octetsLimit (length s) t) r q f)

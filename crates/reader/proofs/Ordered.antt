@@ -24,7 +24,8 @@ use Rattle.settings.specs.Settings.{channelLimit, defaultSettings, allApplied}
 use Rattle.layout.specs.Frame.{Frame, sequenceOctets, allAgree}
 use Rattle.standing.specs.declared.Standing.{Standing}
 use Rattle.effects.specs.Effects.{valueAt}
-use Rattle.framing.specs.Framing.{octetsLimit, framesLimit, channelsOf, pointerFits}
+use Rattle.standing.specs.Standing.{octetsLimit, framesLimit}
+use Rattle.framing.specs.Framing.{channelsOf, pointerFits}
 use Rattle.pass.specs.Verdict.{State, state, firstState, oneChanged, frameChannels, frameAt, accepted, verdict}
 use Rattle.pass.specs.Scan.{zeroFrame}
 use Rattle.pass.proofs.Keeps.{Kept, Keeps, firstCursor, accepted-by, accepted-kept}

@@ -15,15 +15,15 @@ channelLimit = 256
 abbrev pub blockLimit : ℕ
 blockLimit = 1_048_576
 
--- The last data type, and the last unit of an interval and of a resolution.
+-- The last data type.
 abbrev pub lastKind : ℕ
 lastKind = 8
 
--- The highest unit of an interval.
+-- The last unit of an interval.
 abbrev pub lastIntervalUnit : ℕ
 lastIntervalUnit = 2
 
--- The highest unit of a resolution.
+-- The last unit of a resolution.
 abbrev pub lastResolutionUnit : ℕ
 lastResolutionUnit = 22
 

@@ -1,11 +1,12 @@
 // The settings of a channel: the attributes of document 01's table that may stand in a group, their defaults and limits, and one of
 // them changed.
 //
-// Promises: `Settings::default` and `Settings::table` answer document 01's defaults; `apply` carries a change out in one record. A new
-// attribute is one more case of `Change`, and of `Attribute` in crate definitions.
+// Promises: `Settings::default` and `Settings::table` answer document 01's defaults; `apply` carries a change out in one record;
+// `Settings::at_most` cuts a count down to the channels that a frame may have. A new attribute is one more case of `Change`, and of `Attribute` in crate definitions.
 // Read first: specs/Settings.antt.
 ghost use mathlib.Core.Path.{_≡_};
-ghost use Rattle.settings.specs.Settings.{defaultSettings, defaultTable, applied};
+ghost use Prim.Native.Nat.{min};
+ghost use Rattle.settings.specs.Settings.{channelLimit, defaultSettings, defaultTable, applied};
 use values::Bits;
 
 // A unit, an exponent of ten and a mantissa.
@@ -33,6 +34,15 @@ impl Settings {
 
     // The largest block length.
     pub const BLOCK_LIMIT: u32 = 1_048_576;
+
+    // The last data type.
+    pub const LAST_KIND: u8 = 8;
+
+    // The last unit of an interval.
+    pub const LAST_INTERVAL_UNIT: u8 = 2;
+
+    // The last unit of a resolution.
+    pub const LAST_RESOLUTION_UNIT: u8 = 22;
 
     // Document 01's defaults.
     pub fn default() -> Settings
@@ -64,6 +74,17 @@ impl Settings {
     {
         let d = Settings::default();
         [d; Settings::CHANNELS]
+    }
+
+    // No more channels than a frame may have.
+    pub fn at_most(count: usize) -> usize
+        ensures { λ r. ⌜ r ≡ min count channelLimit ⌝ }
+    {
+        if count < Settings::CHANNELS {
+            count
+        } else {
+            Settings::CHANNELS
+        }
     }
 }
 

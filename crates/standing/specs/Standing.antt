@@ -1,10 +1,18 @@
--- What stands outside the channels' own records, and one thing of it set (document 01, "Attributes").
+-- What stands outside the channels' own records, its limits, and one thing of it set (document 01, "Attributes").
 use mathlib.Core.Bool.{Bool, false}
 use Prim.Native.Nat.{ℕ}
 use lib.IntN.{ℤ, pos}
 use Rattle.settings.specs.declared.Settings.{Settings}
 use Rattle.settings.specs.Settings.{defaultSettings}
 use Rattle.standing.specs.declared.Standing.{Standing}
+
+-- The octets of a file at most.
+abbrev pub octetsLimit : ℕ
+octetsLimit = 2_147_483_647
+
+-- The frames of a file at most.
+abbrev pub framesLimit : ℕ
+framesLimit = 4096
 
 -- Before the first item: big-endian, no channel count, sequences by waveform length, pointer 0, the defaults.
 abbrev pub firstStanding : Standing

@@ -9,12 +9,11 @@ use mathlib.Core.List.{List, [], _∷_}
 use mathlib.Core.Bool.{Bool, true, false}
 use mathlib.Core.Logic.{_⊎_, inl, inr}
 use Prim.Native.Nat.{ℕ, zero, suc, _+_, _-_, _/_, _%_, _≤_, _<_}
-use native.Mathlib.Nat.{add-assoc}
 use native.Mathlib.Omega.{arith}
 use borrow.Author.Tests.{lt-ltb, le-ltb, ltb-false, eqb-true, eqb-false, ne-eqb}
 use lib.Dec.{eqb, ltb}
 use lib.ListN.{length, getD, take, drop, length-take, length-drop}
-use lib.Seq.{getD-drop, drop-drop, take-take, take-nil, drop-nil}
+use lib.Seq.{getD-drop, drop-drop, take-take, take-nil}
 use Rattle.octets.specs.Pick.{pick, both}
 use Rattle.octets.proofs.Pick.{pick-cases, both-false}
 use Rattle.items.specs.declared.Item.{Item}
@@ -23,8 +22,8 @@ use Rattle.items.specs.declared.Within.{Within}
 use Rattle.heads.specs.declared.Head.the-variants.{Primitive}
 use Rattle.heads.specs.declared.Length.the-variants.{Known}
 use Rattle.items.specs.declared.Next.the-variants.{Found}
-use Rattle.heads.specs.Head.{unknownContext, rootOnly, lengthOf, primitiveHead, headOf}
-use Rattle.items.specs.Walk.{cursor, standsIn, isInside, extent, endsOpen, itemOf, nextIn, nextOf}
+use Rattle.heads.specs.Head.{unknownContext, rootOnly, primitiveHead, headOf}
+use Rattle.items.specs.Walk.{cursor, standsIn, isInside, extent, itemOf, nextIn, nextOf}
 use Rattle.heads.proofs.Heads.{length-short, head-primitive}
 use Rattle.settings.specs.declared.Settings.{Settings}
 use Rattle.definitions.specs.declared.Attribute.{Attribute}

@@ -13,7 +13,6 @@ use native.Mathlib.Nat.{add-zero, add-assoc}
 use native.Mathlib.Omega.{arith}
 use native.Mathlib.Decide.{ℕ-discrete}
 use borrow.Author.Tests.{lt-ltb, le-ltb}
-use lib.Dec.{ltb}
 use lib.ListN.{length, getD, take, drop, length-drop}
 use lib.Seq.{getD-drop, drop-drop}
 use Rattle.items.specs.declared.Within.{Within}
@@ -26,7 +25,7 @@ use Rattle.definitions.specs.declared.Tagged.{Tagged}
 use Rattle.definitions.specs.declared.Settled.{Settled}
 use Rattle.definitions.specs.Define.{tagged, defined, settledAs}
 use Rattle.stretch.specs.declared.Stretch.{Stretch}
-use Rattle.stretch.specs.Stretch.{Step, leaves, ends, steppedOver, leftBy, stepBy, stepOf, stretch, onward, runFrom, runOf, stretchOf}
+use Rattle.stretch.specs.Stretch.{leaves, ends, steppedOver, leftBy, stepBy, stepOf, stretch, onward, runFrom, runOf, stretchOf}
 
 module _ (little : Bool) (base held : Settings) (u : List ℕ) (at : ℕ) where
   long : length (drop at u) ≡ length u - at

@@ -21,10 +21,10 @@ use lib.ListN.{length, getD, take, drop, length-map}
 use lib.Seq.{take-append-seam, drop-append-seam}
 use Rattle.octets.proofs.Pick.{both-false}
 use Rattle.heads.specs.declared.Refusal.{Refusal}
-use Rattle.heads.specs.Refusals.{bufferShort}
+use Rattle.heads.specs.Refusals.{noRoom}
 use Rattle.items.specs.Walk.{refusal}
 use Rattle.layout.specs.Frame.{Frame}
-use Rattle.framing.specs.Framing.{octetsLimit}
+use Rattle.standing.specs.Standing.{octetsLimit}
 use Rattle.pass.specs.Verdict.{Verdict, accepted, refused, verdict, checkOf}
 use Rattle.reader.proofs.Ordered.{accepted-few}
 use Rattle.canonical.specs.declared.Written.{Written}
@@ -120,8 +120,8 @@ pub record WrittenOut (s d : List ℕ) (m : ℕ) : Type 0 where
 
 -- What the writer does with an accepted file whose frames are fs.
 pub record Writes (s d : List ℕ) (fs : List Frame) : Type 0 where
-  pub short : (writtenOf s d ≡ Written.Refused (refusal bufferShort 0)) ↔ TooLong (canonical (recording fs)) d
-  pub late : (r : Refusal) → writtenOf s d ≡ Written.Refused r → r ≡ refusal bufferShort 0
+  pub short : (writtenOf s d ≡ Written.Refused (refusal noRoom 0)) ↔ TooLong (canonical (recording fs)) d
+  pub late : (r : Refusal) → writtenOf s d ≡ Written.Refused r → r ≡ refusal noRoom 0
   pub octets : (m : ℕ) → (writtenOf s d ≡ Written.Octets m) ↔ ((length (canonical (recording fs)) ≡ m) × (m ≤ length d) × (m ≤ octetsLimit))
 
 module _ (s d : List ℕ) (fs : List Frame) (e : verdict s ≡ accepted fs) where
@@ -133,7 +133,7 @@ module _ (s d : List ℕ) (fs : List Frame) (e : verdict s ≡ accepted fs) wher
   unfolding writtenOf writtenIn leftOf leftIn
   written-fits h = (ap (writtenIn d) e ∙ rw (fits-yes file d h), ap (leftIn d) e ∙ rw (fits-yes file d h))
 
-  written-short : TooLong file d → (writtenOf s d ≡ Written.Refused (refusal bufferShort 0)) × (leftOf s d ≡ d)
+  written-short : TooLong file d → (writtenOf s d ≡ Written.Refused (refusal noRoom 0)) × (leftOf s d ≡ d)
   unfolding writtenOf writtenIn leftOf leftIn
   written-short h = (ap (writtenIn d) e ∙ rw (fits-no file d h), ap (leftIn d) e ∙ rw (fits-no file d h))
 

@@ -9,12 +9,12 @@ use mathlib.Core.Logic.{_↔_, _⊎_}
 use mathlib.Core.List.{List}
 use lib.ListN.{length, take, drop}
 use Rattle.heads.specs.declared.Refusal.{Refusal}
-use Rattle.heads.specs.Refusals.{fileLimit}
+use Rattle.heads.specs.Refusals.{longFile}
 use Rattle.items.specs.Walk.{refusal, itemsOf}
 use Rattle.layout.specs.Frame.{Frame}
 use Rattle.pass.specs.declared.Checked.{Checked}
 use Rattle.reader.specs.declared.Described.{Described}
-use Rattle.framing.specs.Framing.{octetsLimit}
+use Rattle.standing.specs.Standing.{octetsLimit}
 use Rattle.pass.specs.Verdict.{firstState, accepted, refused, interpret, verdict, checkOf}
 use Rattle.reader.specs.Answer.{attributesIn, attributesOf}
 use Rattle.canonical.specs.declared.Written.{Written}
@@ -31,8 +31,8 @@ use Rattle.theorems.proofs.Canonical.{recordingOf, AllOctets, Writes, R
 -- octet of the output buffer."
 pub record DemandOne (s : List ℕ) : Type 0 where
   -- 15 comes first: exactly when the file is too long, and always at place 0.
-  pub limit : (checkOf s ≡ Checked.Refused (refusal fileLimit 0)) ↔ (octetsLimit < length s)
-  pub limitPlace : (r : Refusal) → checkOf s ≡ Checked.Refused r → r .number ≡ fileLimit → r ≡ refusal fileLimit 0
+  pub limit : (checkOf s ≡ Checked.Refused (refusal longFile 0)) ↔ (octetsLimit < length s)
+  pub limitPlace : (r : Refusal) → checkOf s ≡ Checked.Refused r → r .number ≡ longFile → r ≡ refusal longFile 0
   -- Else the items decide, in file order. When 1 to 14 are given, and where, is the definition `interpret` itself.
   pub items : length s ≤ octetsLimit → verdict s ≡ interpret s firstState (itemsOf s)
   -- The file is accepted or refused.

@@ -18,14 +18,14 @@ use lib.ListN.{length, getD}
 use Rattle.octets.specs.Pick.{pick}
 use Rattle.values.specs.declared.Value.{Value}
 use Rattle.heads.specs.declared.Refusal.{Refusal}
-use Rattle.heads.specs.Refusals.{fileLimit, noFrame, noChannel, noSample}
+use Rattle.heads.specs.Refusals.{longFile, noFrame, noChannel, noSample}
 use Rattle.items.specs.Walk.{refusal, itemsOf}
 use Rattle.layout.specs.Frame.{Frame, samplesOf}
 use Rattle.pass.specs.declared.Checked.{Checked}
 use Rattle.reader.specs.declared.Attributes.{Attributes}
 use Rattle.reader.specs.declared.Described.{Described}
 use Rattle.reader.specs.declared.Sampled.{Sampled}
-use Rattle.framing.specs.Framing.{octetsLimit}
+use Rattle.standing.specs.Standing.{octetsLimit}
 use Rattle.pass.specs.Verdict.{firstState, Verdict, accepted, refused, interpret, verdict, checkedAs, checkOf}
 use Rattle.reader.proofs.Never.{only-limit}
 use Rattle.canonical.specs.declared.Written.{Written}
@@ -124,7 +124,7 @@ accepted-or-refused s = by (verdict s) refl
     by (refused r) e = inr (r, e)
 
 -- 15 comes first, and the items are looked at only behind it.
-limit-first : (s : List ℕ) → octetsLimit < length s → verdict s ≡ refused (refusal fileLimit 0)
+limit-first : (s : List ℕ) → octetsLimit < length s → verdict s ≡ refused (refusal longFile 0)
 unfolding verdict
 limit-first s h = rw (lt-ltb octetsLimit (length s) h)
 
@@ -132,11 +132,11 @@ pub limit-passed : (s : List ℕ) → length s ≤ octetsLimit → verdict s ≡
 unfolding verdict
 limit-passed s h = rw (le-ltb octetsLimit (length s) h)
 
-pub limit-exactly : (s : List ℕ) → (checkOf s ≡ Checked.Refused (refusal fileLimit 0)) ↔ (octetsLimit < length s)
+pub limit-exactly : (s : List ℕ) → (checkOf s ≡ Checked.Refused (refusal longFile 0)) ↔ (octetsLimit < length s)
 limit-exactly s =
-    (λ q. only-limit s (refusal fileLimit 0) (check-refused s (refusal fileLimit 0) .0 q) refl, λ h. check-refused s (refusal fileLimit 0) .1 (limit-first s h))
+    (λ q. only-limit s (refusal longFile 0) (check-refused s (refusal longFile 0) .0 q) refl, λ h. check-refused s (refusal longFile 0) .1 (limit-first s h))
 
-pub limit-place : (s : List ℕ) (r : Refusal) → checkOf s ≡ Checked.Refused r → r .number ≡ fileLimit → r ≡ refusal fileLimit 0
+pub limit-place : (s : List ℕ) (r : Refusal) → checkOf s ≡ Checked.Refused r → r .number ≡ longFile → r ≡ refusal longFile 0
 limit-place s r q h = let a = limit-exactly s .1 (only-limit s r (check-refused s r .0 q) h) in cc
 
 -- ---- a refused file

@@ -13,22 +13,6 @@ use Rattle.pass.proofs.Scans.{Filling, filling-none, filling-more, reach-few, r
 use Rattle.canonical.proofs.Writing.{Going, going-first, going-filled, going-stands, going-goes, going-carried, going-start, going-frame, written-done, never-refuses}
 use Rattle.canonical.proofs.write_frames.Statement.{statement}
 use Rattle.canonical.proofs.write_frames.Tie as tie
-use Rattle.canonical.proofs.write_frames.Reads as reads
-use Rattle.canonical.proofs.write_frames.Lts as lts
-use Rattle.layout.proofs.layout_of.Reads as layout-of-reads
-use Rattle.frames.proofs.put_frame.Reads as put-frame-reads
-use Rattle.canonical.proofs.put_order.Reads as put-order-reads
-use Rattle.effects.proofs.item_effect.Reads as item-effect-reads
-use Rattle.effects.proofs.reach.Reads as reach-reads
-use Rattle.effects.proofs.standing_after.Reads as standing-after-reads
-use Rattle.framing.proofs.frame_of.Reads as frame-of-reads
-use Rattle.items.proofs.Cursor.first.Reads as Cursor-first-reads
-use Rattle.items.proofs.Cursor.renewed.Reads as renewed-reads
-use Rattle.items.proofs.next_item.Reads as next-item-reads
-use Rattle.octets.proofs.part.Reads as part-reads
-use Rattle.settings.proofs.Settings.table.Reads as table-reads
-use Rattle.settings.proofs.apply.Reads as apply-reads
-use Rattle.standing.proofs.Standing.first.Reads as Standing-first-reads
 
 abbrev Inv-loop2 : tie.InvT-loop2
 Inv-loop2 s out at table₀ own₀ c st frames effect root n table own = (n ≤ 256) × Filling root own₀ table₀ own table

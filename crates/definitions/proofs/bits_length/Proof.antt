@@ -2,18 +2,13 @@
 use borrow.Author.Tests.{eq-eqb, ne-eqb, le-leb, lt-leb}
 use Rattle.definitions.proofs.bits_length.Statement.{statement}
 use Rattle.definitions.proofs.bits_length.Tie as tie
-use Rattle.definitions.proofs.bits_length.Reads as reads
-use Rattle.definitions.proofs.bits_length.Lts as lts
 
--- src/lib.rt:172:1
 returns : tie.Need-returns
 returns c = simp (le-leb _ 2 (c .if1 .taken))
 
--- src/lib.rt:172:1
 returns-2 : tie.Need-returns-2
 returns-2 c = simp (lt-leb _ 2 (c .before .if1 .left), eq-eqb _ 4 (c .if2 .taken))
 
--- src/lib.rt:172:1
 returns-3 : tie.Need-returns-3
 returns-3 c = simp (lt-leb _ 2 (c .before .if1 .left), ne-eqb _ 4 (c .if2 .left))
 

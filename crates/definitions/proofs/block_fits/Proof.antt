@@ -1,15 +1,11 @@
 -- Each way out is what its tests say.
-use borrow.Author.Tests.{eq-eqb, ne-eqb, le-leb, lt-leb}
+use borrow.Author.Tests.{le-leb, lt-leb}
 use Rattle.definitions.proofs.block_fits.Statement.{statement}
 use Rattle.definitions.proofs.block_fits.Tie as tie
-use Rattle.definitions.proofs.block_fits.Reads as reads
-use Rattle.definitions.proofs.block_fits.Lts as lts
 
--- src/lib.rt:273:1
 returns : tie.Need-returns
 returns c = simp (le-leb 1 _ (c .if1 .taken))
 
--- src/lib.rt:273:1
 returns-2 : tie.Need-returns-2
 returns-2 c = simp (lt-leb 1 _ (c .if1 .left))
 

@@ -6,107 +6,76 @@ use Rattle.definitions.specs.Define.{changeOf}
 use borrow.Author.Needs.{needs}
 use Rattle.definitions.proofs.change_of.Statement.{statement}
 use Rattle.definitions.proofs.change_of.Tie as tie
-use Rattle.definitions.proofs.change_of.Reads as reads
-use Rattle.definitions.proofs.change_of.Lts as lts
-use Rattle.definitions.proofs.bits_of.Reads as bits-of-reads
-use Rattle.octets.proofs.four.Reads as four-reads
-use Rattle.octets.proofs.two.Reads as two-reads
-use Rattle.definitions.proofs.octet.Reads as octet-reads
-use Rattle.definitions.proofs.scale_of.Reads as scale-of-reads
 
--- src/lib.rt:262:43
 enum-told : tie.Need-enum-told
 enum-told c = search needs
 
--- src/lib.rt:262:43
 four-requires : tie.Need-four-requires
 four-requires c κs = search needs
 
--- src/lib.rt:263:43
 enum-told-2 : tie.Need-enum-told-2
 enum-told-2 c = search needs
 
--- src/lib.rt:263:43
 two-requires : tie.Need-two-requires
 two-requires c κs = search needs
 
--- src/lib.rt:264:41
 enum-told-3 : tie.Need-enum-told-3
 enum-told-3 c = search needs
 
--- src/lib.rt:264:41
 two-requires-2 : tie.Need-two-requires-2
 two-requires-2 c κs = search needs
 
--- src/lib.rt:265:41
 enum-told-4 : tie.Need-enum-told-4
 enum-told-4 c = search needs
 
--- src/lib.rt:265:41
 octet-requires : tie.Need-octet-requires
 octet-requires c κs = search needs
 
--- src/lib.rt:266:49
 enum-told-5 : tie.Need-enum-told-5
 enum-told-5 c = search needs
 
--- src/lib.rt:266:49
 scale-of-requires : tie.Need-scale-of-requires
 scale-of-requires c κs = search needs
 
--- src/lib.rt:267:53
 enum-told-6 : tie.Need-enum-told-6
 enum-told-6 c = search needs
 
--- src/lib.rt:267:53
 scale-of-requires-2 : tie.Need-scale-of-requires-2
 scale-of-requires-2 c κs = search needs
 
--- src/lib.rt:268:45
 enum-told-7 : tie.Need-enum-told-7
 enum-told-7 c = search needs
 
--- src/lib.rt:268:45
 bits-of-requires : tie.Need-bits-of-requires
 bits-of-requires c κs = search needs
 
--- src/lib.rt:269:41
 enum-told-8 : tie.Need-enum-told-8
 enum-told-8 c = search needs
 
--- src/lib.rt:269:41
 bits-of-requires-2 : tie.Need-bits-of-requires-2
 bits-of-requires-2 c κs = search needs
 
--- src/lib.rt:258:1
 returns : tie.Need-returns
 returns c = ap Change.Block (c .four .ensures) ∙ ap (λ (a : Attribute). changeOf a (c .before .before .before .before .args .little) (c .before .before .before .before .args .v .now)) (sym (c .before .enum-told .given .1))
 
--- src/lib.rt:258:1
 returns-2 : tie.Need-returns-2
 returns-2 c = ap Change.Class (c .two .ensures) ∙ ap (λ (a : Attribute). changeOf a (c .before .before .before .before .args .little) (c .before .before .before .before .args .v .now)) (sym (c .before .enum-told2 .given .1))
 
--- src/lib.rt:258:1
 returns-3 : tie.Need-returns-3
 returns-3 c = ap Change.Lead (c .two2 .ensures) ∙ ap (λ (a : Attribute). changeOf a (c .before .before .before .before .args .little) (c .before .before .before .before .args .v .now)) (sym (c .before .enum-told3 .given .1))
 
--- src/lib.rt:258:1
 returns-4 : tie.Need-returns-4
 returns-4 c = ap Change.Kind (c .octet .ensures) ∙ ap (λ (a : Attribute). changeOf a (c .before .before .before .before .args .little) (c .before .before .before .before .args .v .now)) (sym (c .before .enum-told4 .given .1))
 
--- src/lib.rt:258:1
 returns-5 : tie.Need-returns-5
 returns-5 c = ap Change.Interval (c .scale-of .ensures) ∙ ap (λ (a : Attribute). changeOf a (c .before .before .before .before .args .little) (c .before .before .before .before .args .v .now)) (sym (c .before .enum-told5 .given .1))
 
--- src/lib.rt:258:1
 returns-6 : tie.Need-returns-6
 returns-6 c = ap Change.Resolution (c .scale-of2 .ensures) ∙ ap (λ (a : Attribute). changeOf a (c .before .before .before .before .args .little) (c .before .before .before .before .args .v .now)) (sym (c .before .enum-told6 .given .1))
 
--- src/lib.rt:258:1
 returns-7 : tie.Need-returns-7
 returns-7 c = ap Change.Offset (c .bits-of .ensures) ∙ ap (λ (a : Attribute). changeOf a (c .before .before .before .before .args .little) (c .before .before .before .before .args .v .now)) (sym (c .before .enum-told7 .given .1))
 
--- src/lib.rt:258:1
 returns-8 : tie.Need-returns-8
 returns-8 c = ap Change.Null (c .bits-of2 .ensures) ∙ ap (λ (a : Attribute). changeOf a (c .before .before .before .before .args .little) (c .before .before .before .before .args .v .now)) (sym (c .before .enum-told8 .given .1))
 

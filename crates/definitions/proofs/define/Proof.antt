@@ -1,48 +1,34 @@
 -- Each way out is a law of a definition.
 use borrow.Author.Tests.{not-true, not-false}
 use Rattle.definitions.specs.Define.{inRange}
-use mathlib.Core.Path.{_≡_, ap, sym, _∙_}
+use mathlib.Core.Path.{ap, sym, _∙_}
 use Rattle.definitions.proofs.Laws.{define-length, define-back, define-changed, define-value}
 use Rattle.definitions.specs.declared.Defined.the-variants.{Changed}
 use borrow.Author.Needs.{needs}
 use Rattle.definitions.proofs.define.Statement.{statement}
 use Rattle.definitions.proofs.define.Tie as tie
-use Rattle.definitions.proofs.define.Reads as reads
-use Rattle.definitions.proofs.define.Lts as lts
-use Rattle.definitions.proofs.change_of.Reads as change-of-reads
-use Rattle.definitions.proofs.in_range.Reads as in-range-reads
-use Rattle.definitions.proofs.length_fits.Reads as length-fits-reads
-use Rattle.definitions.proofs.standing_in.Reads as standing-in-reads
 
--- src/lib.rt:312:9
 length-fits-requires : tie.Need-length-fits-requires
 length-fits-requires c κs = search needs
 
--- src/lib.rt:313:9
 returns : tie.Need-returns
 returns c = define-length _ _ _ _ (sym (c .before .length-fits .ensures) ∙ not-true _ (c .if1 .taken))
 
--- src/lib.rt:316:33
 standing-in-requires : tie.Need-standing-in-requires
 standing-in-requires c κs = search needs
 
--- src/lib.rt:316:9
 returns-2 : tie.Need-returns-2
 returns-2 c = ap Changed (c .standing-in .ensures) ∙ define-back _ _ _ _ (sym (c .before .before .before .length-fits .ensures) ∙ not-false _ (c .before .before .if1 .left)) (c .before .if2 .taken)
 
--- src/lib.rt:318:9
 change-of-requires : tie.Need-change-of-requires
 change-of-requires c κs = search needs
 
--- src/lib.rt:319:8
 in-range-requires : tie.Need-in-range-requires
 in-range-requires c κs = search needs
 
--- src/lib.rt:309:1
 returns-3 : tie.Need-returns-3
 returns-3 c = ap Changed (c .before .before .change-of .ensures) ∙ define-changed _ _ _ _ (sym (c .before .before .before .before .before .length-fits .ensures) ∙ not-false _ (c .before .before .before .before .if1 .left)) (c .before .before .before .if2 .left) (ap inRange (sym (c .before .before .change-of .ensures)) ∙ sym (c .before .in-range .ensures) ∙ c .if3 .taken)
 
--- src/lib.rt:309:1
 returns-4 : tie.Need-returns-4
 returns-4 c = define-value _ _ _ _ (sym (c .before .before .before .before .before .length-fits .ensures) ∙ not-false _ (c .before .before .before .before .if1 .left)) (c .before .before .before .if2 .left) (ap inRange (sym (c .before .before .change-of .ensures)) ∙ sym (c .before .in-range .ensures) ∙ c .if3 .left)
 

@@ -2,18 +2,13 @@
 use borrow.Author.Tests.{eq-eqb, ne-eqb, le-leb, lt-leb}
 use Rattle.definitions.proofs.scale_length.Statement.{statement}
 use Rattle.definitions.proofs.scale_length.Tie as tie
-use Rattle.definitions.proofs.scale_length.Reads as reads
-use Rattle.definitions.proofs.scale_length.Lts as lts
 
--- src/lib.rt:165:1
 returns : tie.Need-returns
 returns c = simp (eq-eqb _ 0 (c .if1 .taken))
 
--- src/lib.rt:165:1
 returns-2 : tie.Need-returns-2
 returns-2 c = simp (ne-eqb _ 0 (c .before .if1 .left), le-leb 3 _ (c .if2 .taken))
 
--- src/lib.rt:165:1
 returns-3 : tie.Need-returns-3
 returns-3 c = simp (ne-eqb _ 0 (c .before .if1 .left), lt-leb 3 _ (c .if2 .left))
 

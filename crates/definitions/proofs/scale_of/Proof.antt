@@ -7,36 +7,25 @@ use Rattle.octets.specs.Number.{twos, signedOf}
 use Rattle.octets.proofs.Laws.{take-length-le}
 use mathlib.Core.List.{List}
 use Prim.Native.Nat.{ℕ}
-use lib.ListN.{length, take, drop}
+use lib.ListN.{take, drop}
 use lib.Seq.{take-all}
-use mathlib.Core.Path.{_≡_, ap, sym, _∙_}
+use mathlib.Core.Path.{_≡_, ap, _∙_}
 use Rattle.definitions.specs.Define.{scaleOf}
 use Rattle.definitions.proofs.scale_of.Statement.{statement}
 use Rattle.definitions.proofs.scale_of.Tie as tie
-use Rattle.definitions.proofs.scale_of.Reads as reads
-use Rattle.definitions.proofs.scale_of.Lts as lts
-use Rattle.octets.proofs.part.Reads as part-reads
-use Rattle.octets.proofs.signed.Reads as signed-reads
-use Rattle.octets.proofs.signed_octet.Reads as signed-octet-reads
-use Rattle.definitions.proofs.octet.Reads as octet-reads
 
--- src/lib.rt:240:15
 octet-requires : tie.Need-octet-requires
 octet-requires c κs = search needs
 
--- src/lib.rt:241:40
 octet-requires-2 : tie.Need-octet-requires-2
 octet-requires-2 c κs = search needs
 
--- src/lib.rt:241:19
 signed-octet-requires : tie.Need-signed-octet-requires
 signed-octet-requires c κs = search needs
 
--- src/lib.rt:242:34
 part-requires : tie.Need-part-requires
 part-requires c κs = search needs
 
--- src/lib.rt:242:19
 signed-requires : tie.Need-signed-requires
 signed-requires c κs = search needs
 
@@ -49,7 +38,6 @@ in8 c = search needs
 in32 : (c : tie.After-signed) → SFits w32 (c .signed .result)
 in32 c = search needs
 
--- src/lib.rt:236:1
 returns : tie.Need-returns
 unfolding scaleOf
 returns c = λ i. record { unit = c .before .before .before .before .octet .ensures i; exponent = (toZ-ofZ (in8 c) ∙ c .before .before .signed-octet .ensures ∙ ap (twos 1) (c .before .before .before .octet2 .ensures)) i; mantissa = (toZ-ofZ (in32 c) ∙ c .signed .ensures ∙ ap (signedOf (c .before .before .before .before .before .before .args .little)) (cut-again (c .before .before .before .before .before .before .args .v .now) _ (c .before .part .ensures))) i }

@@ -1,5 +1,5 @@
 -- The ways out of `define`, each carried out in the record.
-use mathlib.Core.Path.{_≡_, ap, sym, _∙_}
+use mathlib.Core.Path.{ap, sym, _∙_}
 use borrow.Author.Tests.{not-true, not-false}
 use Rattle.settings.specs.declared.Change.{Change}
 use Rattle.definitions.specs.declared.Settled.the-variants.{Record}
@@ -9,59 +9,40 @@ use Rattle.definitions.proofs.Laws.{define-length, define-back, define-
 use borrow.Author.Needs.{needs}
 use Rattle.definitions.proofs.settle.Statement.{statement}
 use Rattle.definitions.proofs.settle.Tie as tie
-use Rattle.definitions.proofs.settle.Reads as reads
-use Rattle.definitions.proofs.settle.Lts as lts
-use Rattle.settings.proofs.apply.Reads as apply-reads
-use Rattle.definitions.proofs.change_of.Reads as change-of-reads
-use Rattle.definitions.proofs.in_range.Reads as in-range-reads
-use Rattle.definitions.proofs.length_fits.Reads as length-fits-reads
-use Rattle.definitions.proofs.renewed.Reads as renewed-reads
-use Rattle.definitions.proofs.standing_in.Reads as standing-in-reads
 
--- src/lib.rt:347:9
 length-fits-requires : tie.Need-length-fits-requires
 length-fits-requires c κs = search needs
 
--- src/lib.rt:348:9
 returns : tie.Need-returns
 unfolding settledAs
 returns c = ap (settledAs _) (define-length _ _ _ _ (sym (c .before .length-fits .ensures) ∙ not-true _ (c .if1 .taken)))
 
--- src/lib.rt:351:41
 standing-in-requires : tie.Need-standing-in-requires
 standing-in-requires c κs = search needs
 
--- src/lib.rt:351:32
 apply-requires : tie.Need-apply-requires
 apply-requires c κs = search needs
 
--- src/lib.rt:351:9
 returns-2 : tie.Need-returns-2
 unfolding settledAs
 returns-2 c = ap Record (c .apply .ensures ∙ ap (λ (x : Change). applied x (c .before .before .before .before .before .before .args .s)) (c .before .standing-in .ensures)) ∙ ap (settledAs _) (define-back _ _ _ _ (sym (c .before .before .before .before .length-fits .ensures) ∙ not-false _ (c .before .before .before .if1 .left)) (c .before .before .if2 .taken))
 
--- src/lib.rt:353:21
 change-of-requires : tie.Need-change-of-requires
 change-of-requires c κs = search needs
 
--- src/lib.rt:353:9
 renewed-requires : tie.Need-renewed-requires
 renewed-requires c κs = search needs
 
--- src/lib.rt:354:8
 in-range-requires : tie.Need-in-range-requires
 in-range-requires c κs = search needs
 
--- src/lib.rt:355:25
 apply-requires-2 : tie.Need-apply-requires-2
 apply-requires-2 c κs = search needs
 
--- src/lib.rt:344:1
 returns-3 : tie.Need-returns-3
 unfolding settledAs
 returns-3 c = ap Record (c .apply2 .ensures ∙ ap (λ (x : Change). applied x (c .before .before .before .before .before .before .before .before .before .args .s)) (c .before .before .before .renewed .ensures ∙ c .before .before .before .before .change-of .ensures)) ∙ ap (settledAs _) (define-changed _ _ _ _ (sym (c .before .before .before .before .before .before .before .length-fits .ensures) ∙ not-false _ (c .before .before .before .before .before .before .if1 .left)) (c .before .before .before .before .before .if2 .left) (ap inRange (sym (c .before .before .before .renewed .ensures ∙ c .before .before .before .before .change-of .ensures)) ∙ sym (c .before .before .in-range .ensures) ∙ c .before .if3 .taken))
 
--- src/lib.rt:344:1
 returns-4 : tie.Need-returns-4
 unfolding settledAs
 returns-4 c = ap (settledAs _) (define-value _ _ _ _ (sym (c .before .before .before .before .before .before .length-fits .ensures) ∙ not-false _ (c .before .before .before .before .before .if1 .left)) (c .before .before .before .before .if2 .left) (ap inRange (sym (c .before .before .renewed .ensures ∙ c .before .before .before .change-of .ensures)) ∙ sym (c .before .in-range .ensures) ∙ c .if3 .left))

@@ -1,27 +1,20 @@
 -- By the arm of the match.
-use mathlib.Core.Path.{_≡_, ap, sym, _∙_}
-use borrow.Author.Tests.{lt-ltb, le-ltb, eq-eqb, ne-eqb}
+use mathlib.Core.Path.{ap, sym}
 use Rattle.effects.specs.Effects.{oneEffect}
 use borrow.Author.Needs.{needs}
 use Rattle.effects.proofs.one_effect.Statement.{statement}
 use Rattle.effects.proofs.one_effect.Tie as tie
-use Rattle.effects.proofs.one_effect.Reads as reads
-use Rattle.effects.proofs.one_effect.Lts as lts
 
--- src/lib.rt:189:26
 enum-known-d : tie.Need-enum-known-d
 enum-known-d c = search needs
 
--- src/lib.rt:190:26
 enum-known-d-2 : tie.Need-enum-known-d-2
 enum-known-d-2 c = search needs
 
--- src/lib.rt:185:1
 returns : tie.Need-returns
 unfolding oneEffect
 returns c = ap (oneEffect _) (sym (c .before .d .given .1))
 
--- src/lib.rt:185:1
 returns-2 : tie.Need-returns-2
 unfolding oneEffect
 returns-2 c = ap (oneEffect _) (sym (c .before .d2 .given .1))

@@ -4,29 +4,22 @@ use Rattle.effects.specs.Effects.{orderEffect}
 use borrow.Author.Needs.{needs}
 use Rattle.effects.proofs.order_effect.Statement.{statement}
 use Rattle.effects.proofs.order_effect.Tie as tie
-use Rattle.effects.proofs.order_effect.Reads as reads
-use Rattle.effects.proofs.order_effect.Lts as lts
 
--- src/lib.rt:139:9
 returns : tie.Need-returns
 unfolding orderEffect
 returns c = simp (lt-ltb 1 _ (c .if1 .taken))
 
--- src/lib.rt:142:9
 returns-2 : tie.Need-returns-2
 unfolding orderEffect
 returns-2 c = simp (le-ltb 1 _ (c .before .if1 .left), eq-eqb _ 0 (c .if2 .taken))
 
--- src/lib.rt:144:13
 shared-slice-read-b : tie.Need-shared-slice-read-b
 shared-slice-read-b c = search needs
 
--- src/lib.rt:146:9
 returns-3 : tie.Need-returns-3
 unfolding orderEffect
 returns-3 c = simp (le-ltb 1 _ (c .before .before .before .if1 .left), ne-eqb _ 0 (c .before .before .if2 .left), lt-ltb 1 _ (c .if3 .taken))
 
--- src/lib.rt:135:1
 returns-4 : tie.Need-returns-4
 unfolding orderEffect
 returns-4 c = simp (le-ltb 1 _ (c .before .before .before .if1 .left), ne-eqb _ 0 (c .before .before .if2 .left), le-ltb 1 _ (c .if3 .left))

@@ -1,53 +1,37 @@
 -- By the attribute that the tag defines, if it defines one.
-use mathlib.Core.Path.{_≡_, ap, sym, _∙_}
+use mathlib.Core.Path.{ap, sym, _∙_}
 use Rattle.settings.specs.declared.Settings.{Settings}
 use Rattle.definitions.specs.Define.{defined}
 use Rattle.effects.specs.Effects.{plainEffect, allEffect}
 use borrow.Author.Needs.{needs}
 use Rattle.effects.proofs.plain_effect.Statement.{statement}
 use Rattle.effects.proofs.plain_effect.Tie as tie
-use Rattle.effects.proofs.plain_effect.Reads as reads
-use Rattle.effects.proofs.plain_effect.Lts as lts
-use Rattle.effects.proofs.all_effect.Reads as all-effect-reads
-use Rattle.effects.proofs.root_effect.Reads as root-effect-reads
-use Rattle.settings.proofs.Settings.default.Reads as default-reads
-use Rattle.definitions.proofs.attribute_of.Reads as attribute-of-reads
-use Rattle.definitions.proofs.define.Reads as define-reads
 
--- src/lib.rt:216:11
 attribute-of-requires : tie.Need-attribute-of-requires
 attribute-of-requires c κs = search needs
 
--- src/lib.rt:217:25
 enum-known-a : tie.Need-enum-known-a
 enum-known-a c = search needs
 
--- src/lib.rt:218:17
 default-requires : tie.Need-default-requires
 default-requires c κs = search needs
 
--- src/lib.rt:219:24
 define-requires : tie.Need-define-requires
 define-requires c κs = search needs
 
--- src/lib.rt:219:13
 all-effect-requires : tie.Need-all-effect-requires
 all-effect-requires c κs = search needs
 
--- src/lib.rt:221:26
 enum-told : tie.Need-enum-told
 enum-told c = search needs
 
--- src/lib.rt:221:26
 root-effect-requires : tie.Need-root-effect-requires
 root-effect-requires c κs = search needs
 
--- src/lib.rt:213:1
 returns : tie.Need-returns
 unfolding plainEffect
 returns c = c .all-effect .ensures ∙ ap allEffect (c .before .define .ensures ∙ ap (λ (b : Settings). defined (c .before .before .before .before .a .given .0 .0) (c .before .before .before .before .before .before .before .before .args .st .little) b (c .before .before .before .before .before .before .before .before .args .v .now)) (c .before .before .default .ensures)) ∙ simp (sym (c .before .before .before .before .before .before .attribute-of .ensures) ∙ c .before .before .before .before .a .given .1)
 
--- src/lib.rt:213:1
 returns-2 : tie.Need-returns-2
 unfolding plainEffect
 returns-2 c = c .root-effect .ensures ∙ simp (sym (c .before .before .before .attribute-of .ensures) ∙ c .before .enum-told .given .1)

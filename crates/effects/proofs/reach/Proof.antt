@@ -1,116 +1,89 @@
 -- By the case of the effect.
-use mathlib.Core.Path.{_≡_, ap, sym, _∙_}
+use mathlib.Core.Path.{ap, sym, _∙_}
 use Prim.Native.Nat.{ℕ, min}
 use Rattle.effects.specs.Reach.{reachOf}
 use borrow.Author.Needs.{needs}
+use Rattle.settings.specs.Settings.{channelLimit}
 use Rattle.effects.proofs.reach.Statement.{statement}
 use Rattle.effects.proofs.reach.Tie as tie
-use Rattle.effects.proofs.reach.Reads as reads
-use Rattle.effects.proofs.reach.Lts as lts
-use Rattle.effects.proofs.at_most.Reads as at-most-reads
-use Rattle.framing.proofs.channels_of.Reads as channels-of-reads
 
--- src/lib.rt:392:25
 enum-told : tie.Need-enum-told
 enum-told c = search needs
 
--- src/lib.rt:393:29
 enum-told-2 : tie.Need-enum-told-2
 enum-told-2 c = search needs
 
--- src/lib.rt:394:29
 enum-told-3 : tie.Need-enum-told-3
 enum-told-3 c = search needs
 
--- src/lib.rt:395:33
 enum-told-4 : tie.Need-enum-told-4
 enum-told-4 c = search needs
 
--- src/lib.rt:396:29
 enum-told-5 : tie.Need-enum-told-5
 enum-told-5 c = search needs
 
--- src/lib.rt:397:27
 enum-told-6 : tie.Need-enum-told-6
 enum-told-6 c = search needs
 
--- src/lib.rt:398:21
 enum-known-e : tie.Need-enum-known-e
 enum-known-e c = search needs
 
--- src/lib.rt:398:44
 cast-at-most : tie.Need-cast-at-most
 cast-at-most c = search needs
 
--- src/lib.rt:398:44
 add-at-most : tie.Need-add-at-most
 add-at-most c = search needs
 
--- src/lib.rt:398:36
 at-most-requires : tie.Need-at-most-requires
 at-most-requires c κs = search needs
 
--- src/lib.rt:399:55
 enum-told-7 : tie.Need-enum-told-7
 enum-told-7 c = search needs
 
--- src/lib.rt:399:55
 channels-of-requires : tie.Need-channels-of-requires
 channels-of-requires c κs = search needs
 
--- src/lib.rt:399:55
 cast-at-most-2 : tie.Need-cast-at-most-2
 cast-at-most-2 c = search needs
 
--- src/lib.rt:399:47
 at-most-requires-2 : tie.Need-at-most-requires-2
 at-most-requires-2 c κs = search needs
 
--- src/lib.rt:400:31
 enum-told-8 : tie.Need-enum-told-8
 enum-told-8 c = search needs
 
--- src/lib.rt:388:1
 returns : tie.Need-returns
 unfolding reachOf
 returns c = sym (ap (reachOf _) (c .enum-told .given .1))
 
--- src/lib.rt:388:1
 returns-2 : tie.Need-returns-2
 unfolding reachOf
 returns-2 c = sym (ap (reachOf _) (c .enum-told2 .given .1))
 
--- src/lib.rt:388:1
 returns-3 : tie.Need-returns-3
 unfolding reachOf
 returns-3 c = sym (ap (reachOf _) (c .enum-told3 .given .1))
 
--- src/lib.rt:388:1
 returns-4 : tie.Need-returns-4
 unfolding reachOf
 returns-4 c = sym (ap (reachOf _) (c .enum-told4 .given .1))
 
--- src/lib.rt:388:1
 returns-5 : tie.Need-returns-5
 unfolding reachOf
 returns-5 c = sym (ap (reachOf _) (c .enum-told5 .given .1))
 
--- src/lib.rt:388:1
 returns-6 : tie.Need-returns-6
 unfolding reachOf
 returns-6 c = sym (ap (reachOf _) (c .enum-told6 .given .1))
 
--- src/lib.rt:388:1
 returns-7 : tie.Need-returns-7
 unfolding reachOf
 returns-7 c = c .at-most .ensures ∙ sym (ap (reachOf _) (c .before .before .e .given .1))
 
--- src/lib.rt:388:1
 returns-8 : tie.Need-returns-8
 unfolding reachOf
-returns-8 c = c .at-most2 .ensures ∙ ap (λ (n : ℕ). min n 256) (c .before .channels-of .ensures) ∙ sym (ap (reachOf _) (c .before .before .enum-told7 .given .1))
+returns-8 c = c .at-most2 .ensures ∙ ap (λ (n : ℕ). min n channelLimit) (c .before .channels-of .ensures) ∙ sym (ap (reachOf _) (c .before .before .enum-told7 .given .1))
 
--- src/lib.rt:388:1
 returns-9 : tie.Need-returns-9
 unfolding reachOf
 returns-9 c = sym (ap (reachOf _) (c .enum-told8 .given .1))

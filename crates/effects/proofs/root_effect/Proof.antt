@@ -1,58 +1,41 @@
 -- By the number that the arm names, or by none of them.
-use mathlib.Core.Path.{_≡_, ap, sym, _∙_}
-use borrow.Author.Tests.{lt-ltb, le-ltb, eq-eqb, ne-eqb}
-use Rattle.effects.specs.Effects.{rootEffect, startEffect}
-use lib.IntN.{ℤ}
+use mathlib.Core.Path.{_∙_}
+use borrow.Author.Tests.{ne-eqb}
+use Rattle.effects.specs.Effects.{rootEffect}
 use mir.Syntax.{w64}
 use mir.Val.{SFits}
 use mir.Facts.{toZ-ofZ}
 use borrow.Author.Needs.{needs}
 use Rattle.effects.proofs.root_effect.Statement.{statement}
 use Rattle.effects.proofs.root_effect.Tie as tie
-use Rattle.effects.proofs.root_effect.Reads as reads
-use Rattle.effects.proofs.root_effect.Lts as lts
-use Rattle.effects.proofs.compressed_effect.Reads as compressed-effect-reads
-use Rattle.effects.proofs.count_effect.Reads as count-effect-reads
-use Rattle.effects.proofs.order_effect.Reads as order-effect-reads
-use Rattle.effects.proofs.sequences_effect.Reads as sequences-effect-reads
-use Rattle.effects.proofs.start_effect.Reads as start-effect-reads
 
--- src/lib.rt:199:17
 order-effect-requires : tie.Need-order-effect-requires
 order-effect-requires c κs = search needs
 
--- src/lib.rt:200:17
 count-effect-requires : tie.Need-count-effect-requires
 count-effect-requires c κs = search needs
 
--- src/lib.rt:201:17
 sequences-effect-requires : tie.Need-sequences-effect-requires
 sequences-effect-requires c κs = search needs
 
--- src/lib.rt:202:17
 start-effect-requires : tie.Need-start-effect-requires
 start-effect-requires c κs = search needs
 
--- src/lib.rt:203:17
 compressed-effect-requires : tie.Need-compressed-effect-requires
 compressed-effect-requires c κs = search needs
 
--- src/lib.rt:195:1
 returns : tie.Need-returns
 unfolding rootEffect
 returns c = c .order-effect .ensures ∙ simp (c .before .match .keys1)
 
--- src/lib.rt:195:1
 returns-2 : tie.Need-returns-2
 unfolding rootEffect
 returns-2 c = c .count-effect .ensures ∙ simp (c .before .match .keys2)
 
--- src/lib.rt:195:1
 returns-3 : tie.Need-returns-3
 unfolding rootEffect
 returns-3 c = c .sequences-effect .ensures ∙ simp (c .before .match .keys3)
 
--- src/lib.rt:195:1
 in64 : (c : tie.After-start-effect) → SFits w64 (c .before .before .before .before .args .st .continued)
 in64 c = search needs
 
@@ -60,17 +43,14 @@ returns-4 : tie.Need-returns-4
 unfolding rootEffect
 returns-4 c = rw (toZ-ofZ (in64 c)) at (c .start-effect .ensures) ∙ simp (c .before .before .match .keys4)
 
--- src/lib.rt:195:1
 returns-5 : tie.Need-returns-5
 unfolding rootEffect
 returns-5 c = c .compressed-effect .ensures ∙ simp (c .before .match .keys5)
 
--- src/lib.rt:195:1
 returns-6 : tie.Need-returns-6
 unfolding rootEffect
 returns-6 c = simp (c .match .keys6)
 
--- src/lib.rt:195:1
 returns-7 : tie.Need-returns-7
 unfolding rootEffect
 returns-7 c = simp (ne-eqb _ 1 (c .match .rest .0 .0 .0 .0 .0 .1), ne-eqb _ 5 (c .match .rest .0 .0 .0 .0 .1), ne-eqb _ 6 (c .match .rest .0 .0 .0 .1), ne-eqb _ 7 (c .match .rest .0 .0 .1), ne-eqb _ 14 (c .match .rest .0 .1), ne-eqb _ 30 (c .match .rest .1))

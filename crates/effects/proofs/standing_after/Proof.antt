@@ -16,9 +16,6 @@ use Rattle.effects.proofs.Effect.{the-type}
 use borrow.Author.Needs.{needs}
 use Rattle.effects.proofs.standing_after.Statement.{statement}
 use Rattle.effects.proofs.standing_after.Tie as tie
-use Rattle.effects.proofs.standing_after.Reads as reads
-use Rattle.effects.proofs.standing_after.Lts as lts
-use Rattle.settings.proofs.apply.Reads as apply-reads
 
 same-stands : (st : Standing) (e : Effect) → OneOf (0 ∷ 6 ∷ 7 ∷ 8 ∷ []) (tagOf the-type e) → st ≡ standingAfter st e
 same-stands st Effect.Pass h = refl
@@ -31,54 +28,42 @@ same-stands st (Effect.One channel c) h = refl
 same-stands st (Effect.Frame start len) h = refl
 same-stands st (Effect.Refused number) h = refl
 
--- src/lib.rt:229:23
 enum-known-e : tie.Need-enum-known-e
 enum-known-e c = search needs
 
--- src/lib.rt:232:23
 enum-known-e-2 : tie.Need-enum-known-e-2
 enum-known-e-2 c = search needs
 
--- src/lib.rt:235:27
 enum-known-e-3 : tie.Need-enum-known-e-3
 enum-known-e-3 c = search needs
 
--- src/lib.rt:238:23
 enum-known-e-4 : tie.Need-enum-known-e-4
 enum-known-e-4 c = search needs
 
--- src/lib.rt:241:21
 enum-known-e-5 : tie.Need-enum-known-e-5
 enum-known-e-5 c = search needs
 
--- src/lib.rt:242:17
 apply-requires : tie.Need-apply-requires
 apply-requires c κs = search needs
 
--- src/lib.rt:224:1
 returns : tie.Need-returns
 returns c = sym (ap (standingAfter (c .before .before .before .args .st)) (c .before .e .given .1))
 
--- src/lib.rt:224:1
 returns-2 : tie.Need-returns-2
 returns-2 c = sym (ap (standingAfter (c .before .before .before .args .st)) (c .before .e2 .given .1))
 
--- src/lib.rt:224:1
 returns-3 : tie.Need-returns-3
 returns-3 c = sym (ap (standingAfter (c .before .before .before .args .st)) (c .before .e3 .given .1))
 
 start-fits : (c : tie.After-known-told4) → SFits w64 (c .before .e4 .given .0 .0)
 start-fits c = search needs
 
--- src/lib.rt:224:1
 returns-4 : tie.Need-returns-4
 returns-4 c = ap (λ (z : ℤ). withStart z (c .before .before .before .args .st)) (toZ-ofZ (start-fits c)) ∙ sym (ap (standingAfter (c .before .before .before .args .st)) (c .before .e4 .given .1))
 
--- src/lib.rt:224:1
 returns-5 : tie.Need-returns-5
 returns-5 c = ap (λ (r : Settings). withRoot r (c .before .before .before .before .args .st)) (c .apply .ensures) ∙ sym (ap (standingAfter (c .before .before .before .before .args .st)) (c .before .before .e5 .given .1))
 
--- src/lib.rt:224:1
 returns-6 : tie.Need-returns-6
 returns-6 c = same-stands (c .before .args .st) (c .before .args .e) (c .match .keys6)
 

@@ -1,6 +1,6 @@
 -- Each way out is what its tests say.
 use borrow.Author.Tests.{lt-ltb, le-ltb, eq-eqb, ne-eqb}
-use mathlib.Core.Path.{_≡_, ap, sym, _∙_}
+use mathlib.Core.Path.{ap, _∙_}
 use Rattle.effects.specs.declared.Effect.the-variants.{Start}
 use Rattle.effects.specs.Effects.{startEffect}
 use mir.Syntax.{w32, w64}
@@ -9,16 +9,11 @@ use mir.Facts.{toZ-ofZ, sfits-widen}
 use borrow.Author.Needs.{needs}
 use Rattle.effects.proofs.start_effect.Statement.{statement}
 use Rattle.effects.proofs.start_effect.Tie as tie
-use Rattle.effects.proofs.start_effect.Reads as reads
-use Rattle.effects.proofs.start_effect.Lts as lts
-use Rattle.octets.proofs.signed.Reads as signed-reads
 
--- src/lib.rt:193:9
 returns : tie.Need-returns
 unfolding startEffect
 returns c = simp (lt-ltb 4 _ (c .if1 .taken))
 
--- src/lib.rt:196:9
 in64 : (c : tie.Then2) → SFits w64 (c .before .before .before .args .continued)
 in64 c = search needs
 
@@ -26,11 +21,9 @@ returns-2 : tie.Need-returns-2
 unfolding startEffect
 returns-2 c = ap Start (toZ-ofZ (in64 c)) ∙ simp (le-ltb 4 _ (c .before .if1 .left), eq-eqb _ 0 (c .if2 .taken))
 
--- src/lib.rt:198:9
 signed-requires : tie.Need-signed-requires
 signed-requires c κs = search needs
 
--- src/lib.rt:199:19
 in32 : (c : tie.After-signed) → SFits w32 (c .signed .result)
 in32 c = search needs
 
@@ -38,7 +31,6 @@ cast-t7 : tie.Need-cast-t7
 unfolding startEffect
 cast-t7 c = rw (toZ-ofZ (in32 c)) (sfits-widen tt (in32 c))
 
--- src/lib.rt:189:1
 returns-3 : tie.Need-returns-3
 unfolding startEffect
 returns-3 c = ap Start (rw (toZ-ofZ (in32 c)) (toZ-ofZ (sfits-widen tt (in32 c))) ∙ c .signed .ensures) ∙ simp (le-ltb 4 _ (c .before .before .if1 .left), ne-eqb _ 0 (c .before .if2 .left))

@@ -13,9 +13,6 @@ use borrow.Author.Count.{below-none, below-more}
 use Rattle.frames.proofs.Coming.{taken-at, taken-long}
 use Rattle.frames.proofs.even_width.Statement.{statement}
 use Rattle.frames.proofs.even_width.Tie as tie
-use Rattle.frames.proofs.even_width.Reads as reads
-use Rattle.frames.proofs.even_width.Lts as lts
-use Rattle.values.proofs.width.Reads as width-reads
 
 abbrev Inv-loop : tie.InvT-loop
 Inv-loop count table v i₀ i = (i ≤ count) × (count ≤ 256) × (length table ≡ 256) × ((k : ℕ) → k < i → widthOf (getD table k zeroSettings .kind) ≡ v)

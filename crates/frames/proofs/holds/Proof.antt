@@ -6,9 +6,6 @@ use Rattle.frames.proofs.Given.{held-none, held-by}
 use borrow.Author.Needs.{needs}
 use Rattle.frames.proofs.holds.Statement.{statement}
 use Rattle.frames.proofs.holds.Tie as tie
-use Rattle.frames.proofs.holds.Reads as reads
-use Rattle.frames.proofs.holds.Lts as lts
-use Rattle.frames.proofs.most.Reads as most-reads
 
 returns : tie.Need-returns
 returns c = held-none _ _ _ (c .if1 .taken)

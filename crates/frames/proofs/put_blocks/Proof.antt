@@ -8,10 +8,6 @@ use lib.ListN.{length, take, getD}
 use Rattle.settings.specs.Settings.{zeroSettings}
 use Rattle.frames.proofs.put_blocks.Statement.{statement}
 use Rattle.frames.proofs.put_blocks.Tie as tie
-use Rattle.frames.proofs.put_blocks.Reads as reads
-use Rattle.frames.proofs.put_blocks.Lts as lts
-use Rattle.runs.proofs.turn.Reads as turn-reads
-use Rattle.values.proofs.width.Reads as width-reads
 
 abbrev Inv-loop2 : tie.InvT-loop2
 Inv-loop2 w sequences count out₀ at table q place₀ next₀ i₀ out place next i = (count ≤ 256) × (length (take count table) ≡ count) × Blocks (take count table) w place₀ next₀ out₀ i place next out

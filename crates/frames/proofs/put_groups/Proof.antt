@@ -11,9 +11,6 @@ use Rattle.groups.proofs.Sizes.{groups-long}
 use Rattle.frames.proofs.Coming.{Coming, coming-first, coming-step, coming-done, groups-next, groups-done, taken-at, taken-long}
 use Rattle.frames.proofs.put_groups.Statement.{statement}
 use Rattle.frames.proofs.put_groups.Tie as tie
-use Rattle.frames.proofs.put_groups.Reads as reads
-use Rattle.frames.proofs.put_groups.Lts as lts
-use Rattle.groups.proofs.put_group.Reads as put-group-reads
 
 abbrev Inv-loop : tie.InvT-loop
 Inv-loop out₀ at count table i₀ next₀ out i next = (i ≤ count) × (length (take count table) ≡ count) × (count ≤ 256) × (at + length (groupsOctets 0 (map settled (take count table))) ≤ length out₀) × Coming out₀ at (groupsOctets 0 (map settled (take count table))) next (groupsOctets i (map settled (drop i (take count table)))) out

@@ -13,12 +13,6 @@ use Rattle.frames.proofs.Samples.{samples-big, samples-little, samples-
 use borrow.Author.Needs.{needs}
 use Rattle.frames.proofs.put_samples.Statement.{statement}
 use Rattle.frames.proofs.put_samples.Tie as tie
-use Rattle.frames.proofs.put_samples.Reads as reads
-use Rattle.frames.proofs.put_samples.Lts as lts
-use Rattle.frames.proofs.even_width.Reads as even-width-reads
-use Rattle.frames.proofs.put_blocks.Reads as put-blocks-reads
-use Rattle.runs.proofs.copy.Reads as copy-reads
-use Rattle.runs.proofs.turn.Reads as turn-reads
 
 even-width-requires : tie.Need-even-width-requires
 even-width-requires c κs = search needs

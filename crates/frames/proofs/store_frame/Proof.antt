@@ -6,13 +6,6 @@ use Rattle.frames.proofs.Stored.{groups-room, samples-room, frame-store
 use borrow.Author.Needs.{needs}
 use Rattle.frames.proofs.store_frame.Statement.{statement}
 use Rattle.frames.proofs.store_frame.Tie as tie
-use Rattle.frames.proofs.store_frame.Reads as reads
-use Rattle.frames.proofs.store_frame.Lts as lts
-use Rattle.frames.proofs.put_groups.Reads as put-groups-reads
-use Rattle.frames.proofs.put_samples.Reads as put-samples-reads
-use Rattle.groups.proofs.put_head.Reads as put-head-reads
-use Rattle.stores.proofs.put_length.Reads as put-length-reads
-use Rattle.stores.proofs.put_octet.Reads as put-octet-reads
 
 cast-put-head : tie.Need-cast-put-head
 cast-put-head c = search needs

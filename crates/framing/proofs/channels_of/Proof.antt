@@ -1,18 +1,13 @@
 -- Each way out is what its tests say.
-use mathlib.Core.Path.{_≡_, ap, sym, _∙_}
-use borrow.Author.Tests.{lt-ltb, le-ltb, eq-eqb, ne-eqb}
+use borrow.Author.Tests.{eq-eqb, ne-eqb}
 use Rattle.framing.specs.Framing.{channelsOf}
 use Rattle.framing.proofs.channels_of.Statement.{statement}
 use Rattle.framing.proofs.channels_of.Tie as tie
-use Rattle.framing.proofs.channels_of.Reads as reads
-use Rattle.framing.proofs.channels_of.Lts as lts
 
--- src/lib.rt:311:1
 returns : tie.Need-returns
 unfolding channelsOf
 returns c = simp (eq-eqb _ 0 (c .if1 .taken))
 
--- src/lib.rt:311:1
 returns-2 : tie.Need-returns-2
 unfolding channelsOf
 returns-2 c = simp (ne-eqb _ 0 (c .if1 .left))

@@ -1,8 +1,8 @@
 -- Each way out is a law of what a waveform gives; a frame has no more sequences than octets.
 use lib.IntN.{ℤ, pos, _+ℤ_}
-use Prim.Native.Nat.{ℕ, _*_}
+use Prim.Native.Nat.{_*_}
 use mir.Syntax.{w64}
-use mir.Val.{SFits, toZ, ofZ}
+use mir.Val.{SFits}
 use mir.Facts.{toZ-ofZ}
 use Rattle.framing.specs.Framing.{pointerFits, pointerAfter}
 use mathlib.Core.Path.{_≡_, ap, sym, _∙_}
@@ -10,36 +10,23 @@ use native.Mathlib.Omega.{arith}
 use borrow.Author.Needs.{needs}
 use borrow.Author.Tests.{not-true, not-false}
 use Rattle.standing.specs.Standing.{withContinued}
-use Rattle.standing.specs.declared.Standing.{Standing}
 use Rattle.framing.specs.declared.Framed.the-variants.{Taken}
 use Rattle.framing.proofs.Framings.{pointer-small, sequences-few, framed-empty, framed-large, framed-limit, framed-width, framed-pointer, framed-short, framed-taken}
 use Rattle.framing.proofs.frame_of.Statement.{statement}
 use Rattle.framing.proofs.frame_of.Tie as tie
-use Rattle.framing.proofs.frame_of.Reads as reads
-use Rattle.framing.proofs.frame_of.Lts as lts
-use Rattle.standing.proofs.Standing.with_continued.Reads as with-continued-reads
-use Rattle.framing.proofs.pointer_after.Reads as pointer-after-reads
-use Rattle.framing.proofs.pointer_fits.Reads as pointer-fits-reads
-use Rattle.framing.proofs.sequences_of.Reads as sequences-of-reads
-use Rattle.framing.proofs.too_short.Reads as too-short-reads
 
--- src/lib.rt:360:9
 returns : tie.Need-returns
 returns c = framed-empty _ _ _ _ _ (c .if1 .taken)
 
--- src/lib.rt:363:9
 returns-2 : tie.Need-returns-2
 returns-2 c = framed-large _ _ _ _ _ (c .before .if1 .left) (c .if2 .taken)
 
--- src/lib.rt:366:9
 returns-3 : tie.Need-returns-3
 returns-3 c = framed-limit _ _ _ _ _ (c .before .before .if1 .left) (c .before .if2 .left) (c .if3 .taken)
 
--- src/lib.rt:369:9
 returns-4 : tie.Need-returns-4
 returns-4 c = framed-width _ _ _ _ _ (c .before .before .before .if1 .left) (c .before .before .if2 .left) (c .before .if3 .left) (c .if4 .taken)
 
--- src/lib.rt:372:9
 pointer-fits-requires : tie.Need-pointer-fits-requires
 pointer-fits-requires c κs = search needs
 
@@ -50,31 +37,24 @@ in64 c = search needs
 looked : (c : tie.After-pointer-fits) → pointerFits (c .before .before .before .before .before .before .args .st .start) ≡ c .pointer-fits .result
 looked c = ap pointerFits (sym (toZ-ofZ (in64 c))) ∙ sym (c .pointer-fits .ensures)
 
--- src/lib.rt:373:9
 returns-5 : tie.Need-returns-5
 returns-5 c = framed-pointer _ _ _ _ _ (c .before .before .before .before .before .before .if1 .left) (c .before .before .before .before .before .if2 .left) (c .before .before .before .before .if3 .left) (c .before .before .before .if4 .left) (looked (c .before) ∙ not-true _ (c .if5 .taken))
 
--- src/lib.rt:375:9
 sequences-of-requires : tie.Need-sequences-of-requires
 sequences-of-requires c κs = search needs
 
--- src/lib.rt:376:8
 too-short-requires : tie.Need-too-short-requires
 too-short-requires c κs = search needs
 
--- src/lib.rt:377:9
 returns-6 : tie.Need-returns-6
 returns-6 c = framed-short _ _ _ _ _ (c .before .before .before .before .before .before .before .before .before .if1 .left) (c .before .before .before .before .before .before .before .before .if2 .left) (c .before .before .before .before .before .before .before .if3 .left) (c .before .before .before .before .before .before .if4 .left) (looked (c .before .before .before .before) ∙ not-false _ (c .before .before .before .if5 .left)) _ (c .before .before .sequences-of .ensures) (sym (c .before .too-short .ensures) ∙ c .if6 .taken)
 
--- src/lib.rt:380:9
 pointer-after-requires : tie.Need-pointer-after-requires
 pointer-after-requires c κs = (pointer-small _ (sym (c .before .before .before .before .before .pointer-fits .ensures) ∙ not-false _ (c .before .before .before .before .if5 .left)), omega (arith, sequences-few (c .before .before .before .sequences-of .result) (c .before .before .before .before .before .before .before .before .before .before .before .args .octets) (c .before .before .before .before .before .before .before .before .before .before .before .args .long) (omega arith) (sym (c .before .before .too-short .ensures) ∙ c .before .if6 .left)))
 
--- src/lib.rt:381:19
 cast-t13 : tie.Need-cast-t13
 cast-t13 c = omega (arith, sequences-few (c .before .before .before .before .sequences-of .result) (c .before .before .before .before .before .before .before .before .before .before .before .before .args .octets) (c .before .before .before .before .before .before .before .before .before .before .before .before .args .long) (omega arith) (sym (c .before .before .before .too-short .ensures) ∙ c .before .before .if6 .left))
 
--- src/lib.rt:381:37
 with-continued-requires : tie.Need-with-continued-requires
 with-continued-requires c κs = search needs
 
@@ -85,7 +65,6 @@ after c = c .before .pointer-after .ensures ∙ ap (λ (z : ℤ). z +ℤ pos (c 
 in64-after : (c : tie.After-with-continued) → SFits w64 (c .before .pointer-after .result)
 in64-after c = search needs
 
--- src/lib.rt:356:1
 returns-7 : tie.Need-returns-7
 returns-7 c = ap (Taken (c .before .before .before .before .before .sequences-of .result)) (c .with-continued .ensures ∙ ap (λ (z : ℤ). withContinued z (c .before .before .before .before .before .before .before .before .before .before .before .before .before .args .st)) (toZ-ofZ (in64-after c))) ∙ framed-taken (c .before .before .before .before .before .before .before .before .before .before .before .before .before .args .frames) (c .before .before .before .before .before .before .before .before .before .before .before .before .before .args .st) (c .before .before .before .before .before .before .before .before .before .before .before .before .before .args .agree) (c .before .before .before .before .before .before .before .before .before .before .before .before .before .args .octets) (c .before .before .before .before .before .before .before .before .before .before .before .before .before .args .long) (c .before .before .before .before .before .before .before .before .before .before .before .before .if1 .left) (c .before .before .before .before .before .before .before .before .before .before .before .if2 .left) (c .before .before .before .before .before .before .before .before .before .before .if3 .left) (c .before .before .before .before .before .before .before .before .before .if4 .left) (looked (c .before .before .before .before .before .before .before) ∙ not-false _ (c .before .before .before .before .before .before .if5 .left)) (c .before .before .before .before .before .sequences-of .result) _ (c .before .before .before .before .before .sequences-of .ensures) (sym (c .before .before .before .before .too-short .ensures) ∙ c .before .before .before .if6 .left) (after c)
 

@@ -1,19 +1,15 @@
 -- The product leaves room for the pointer below 2 ^ 63, so that the sum does not leave 64 bits.
 use Prim.Native.Nat.{ℕ, _+_, _*_, _≤_, _<_, _^_, _-_}
-use mathlib.Core.Path.{_≡_, ap, ap₂, sym, _∙_}
+use mathlib.Core.Path.{_≡_, ap, ap₂, _∙_}
 use native.Mathlib.Omega.{arith}
-use native.Mathlib.Nat.{mul-le-mul, le-trans}
-use lib.Dec.{lit≤}
+use native.Mathlib.Nat.{mul-le-mul}
 use lib.IntN.{ℤ, pos, _+ℤ_}
-use lib.Signed.{mag}
 use mir.Syntax.{w64}
 use mir.Val.{SFits, toZ, ofZ}
 use mir.Facts.{toZ-ofZ, toZ-pos}
 use Rattle.framing.proofs.Framings.{sum-small}
 use Rattle.framing.proofs.pointer_after.Statement.{statement}
 use Rattle.framing.proofs.pointer_after.Tie as tie
-use Rattle.framing.proofs.pointer_after.Reads as reads
-use Rattle.framing.proofs.pointer_after.Lts as lts
 
 product : (b n : ℕ) → b < 2 ^ 32 → n < 2 ^ 31 → b * n + 2 ^ 31 ≤ 2 ^ 63
 product b n h l =
@@ -31,19 +27,15 @@ sum c = ap₂ _+ℤ_ (toZ-ofZ (c .fits .start)) (toZ-pos w64 (omega (arith, room
 sum-fits : (c : tie.Start) → SFits w64 (c .args .start +ℤ pos (c .args .block * c .args .sequences))
 sum-fits c = record { sfits = sum-small (c .args .start) (c .args .block * c .args .sequences) (2 ^ 31) (2 ^ 63) (c .pre .0) (room c) }
 
--- src/lib.rt:344:14
 mul-result : tie.Need-mul-result
 mul-result c = omega (arith, room c)
 
--- src/lib.rt:344:13
 cast-result : tie.Need-cast-result
 cast-result c = record { sfits = omega (arith, room c) }
 
--- src/lib.rt:344:5
 add-result : tie.Need-add-result
 add-result c = rw (sum c) (sum-fits c)
 
--- src/lib.rt:340:1
 returns : tie.Need-returns
 returns c = ap (λ (z : ℤ). toZ w64 (ofZ w64 z)) (sum c) ∙ toZ-ofZ (sum-fits c)
 

@@ -1,20 +1,16 @@
 -- Each way out is what its tests say; a signed number is read back from its bits.
-use mathlib.Core.Path.{_≡_, ap, sym, _∙_}
+use mathlib.Core.Path.{ap, sym, _∙_}
 use lib.IntN.{ℤ, pos, negsuc}
 use lib.Signed.{leZ}
 use mir.Facts.{toZ-ofZ}
 use Rattle.framing.specs.Framing.{pointerFits}
 use Rattle.framing.proofs.pointer_fits.Statement.{statement}
 use Rattle.framing.proofs.pointer_fits.Tie as tie
-use Rattle.framing.proofs.pointer_fits.Reads as reads
-use Rattle.framing.proofs.pointer_fits.Lts as lts
 
--- src/lib.rt:331:1
 returns : tie.Need-returns
 unfolding pointerFits
 returns c = ap (λ (z : ℤ). leZ z (pos 2147483647)) (toZ-ofZ (c .before .fits .z)) ∙ simp (ap (leZ (negsuc 2147483647)) (sym (toZ-ofZ (c .before .fits .z))) ∙ c .if1 .taken)
 
--- src/lib.rt:331:1
 returns-2 : tie.Need-returns-2
 unfolding pointerFits
 returns-2 c = c .if1 .left ∙ simp (ap (leZ (negsuc 2147483647)) (sym (toZ-ofZ (c .before .fits .z))) ∙ c .if1 .left)

@@ -3,18 +3,13 @@ use Rattle.framing.proofs.Framings.{sequences-set, sequences-by}
 use borrow.Author.Needs.{needs}
 use Rattle.framing.proofs.sequences_of.Statement.{statement}
 use Rattle.framing.proofs.sequences_of.Tie as tie
-use Rattle.framing.proofs.sequences_of.Reads as reads
-use Rattle.framing.proofs.sequences_of.Lts as lts
 
--- src/lib.rt:327:9
 returns : tie.Need-returns
 returns c = sequences-set _ _ _ (c .if1 .taken)
 
--- src/lib.rt:329:5
 div-result : tie.Need-div-result
 div-result c = search needs
 
--- src/lib.rt:322:1
 returns-2 : tie.Need-returns-2
 returns-2 c = sequences-by _ _ _ (c .if1 .left)
 

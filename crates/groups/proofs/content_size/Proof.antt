@@ -7,10 +7,6 @@ use Rattle.values.specs.Sample.{widthOf}
 use Prim.Native.Nat.{ℕ, _≤_}
 use Rattle.groups.proofs.content_size.Statement.{statement}
 use Rattle.groups.proofs.content_size.Tie as tie
-use Rattle.groups.proofs.content_size.Reads as reads
-use Rattle.groups.proofs.content_size.Lts as lts
-use Rattle.groups.proofs.null_octets.Reads as null-octets-reads
-use Rattle.values.proofs.width.Reads as width-reads
 
 narrow : (k w : ℕ) → w ≡ widthOf k → w ≤ 8
 narrow k w e = rw e (width-le k)

@@ -4,8 +4,6 @@ use native.Mathlib.Omega.{arith}
 use borrow.Author.Needs.{needs}
 use Rattle.groups.proofs.group_octets.Statement.{statement}
 use Rattle.groups.proofs.group_octets.Tie as tie
-use Rattle.groups.proofs.group_octets.Reads as reads
-use Rattle.groups.proofs.group_octets.Lts as lts
 
 add-result : tie.Need-add-result
 add-result c = search needs

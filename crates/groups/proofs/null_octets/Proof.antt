@@ -8,9 +8,6 @@ use Prim.Native.Nat.{ℕ, _≤_}
 use borrow.Author.Needs.{needs}
 use Rattle.groups.proofs.null_octets.Statement.{statement}
 use Rattle.groups.proofs.null_octets.Tie as tie
-use Rattle.groups.proofs.null_octets.Reads as reads
-use Rattle.groups.proofs.null_octets.Lts as lts
-use Rattle.values.proofs.width.Reads as width-reads
 
 narrow : (k w : ℕ) → w ≡ widthOf k → w ≤ 8
 narrow k w e = rw e (width-le k)

@@ -4,10 +4,6 @@ use Rattle.groups.specs.Group.{channelOctets}
 use borrow.Author.Needs.{needs}
 use Rattle.groups.proofs.put_channel.Statement.{statement}
 use Rattle.groups.proofs.put_channel.Tie as tie
-use Rattle.groups.proofs.put_channel.Reads as reads
-use Rattle.groups.proofs.put_channel.Lts as lts
-use Rattle.stores.proofs.put_octet.Reads as put-octet-reads
-use Rattle.stores.proofs.put_two.Reads as put-two-reads
 
 put-octet-requires : tie.Need-put-octet-requires
 put-octet-requires c κs = search needs

@@ -6,9 +6,6 @@ use Rattle.groups.proofs.Puts.{put-two, put-more}
 use borrow.Author.Needs.{needs}
 use Rattle.groups.proofs.put_first.Statement.{statement}
 use Rattle.groups.proofs.put_first.Tie as tie
-use Rattle.groups.proofs.put_first.Reads as reads
-use Rattle.groups.proofs.put_first.Lts as lts
-use Rattle.stores.proofs.put_field.Reads as put-field-reads
 
 cast-put-field : tie.Need-cast-put-field
 cast-put-field c = search needs

@@ -8,12 +8,6 @@ use Rattle.groups.proofs.Sizes.{group-long}
 use borrow.Author.Needs.{needs}
 use Rattle.groups.proofs.put_group.Statement.{statement}
 use Rattle.groups.proofs.put_group.Tie as tie
-use Rattle.groups.proofs.put_group.Reads as reads
-use Rattle.groups.proofs.put_group.Lts as lts
-use Rattle.groups.proofs.content_size.Reads as content-size-reads
-use Rattle.groups.proofs.group_octets.Reads as group-octets-reads
-use Rattle.groups.proofs.store_group.Reads as store-group-reads
-use Rattle.stores.proofs.overruns.Reads as overruns-reads
 
 content-size-requires : tie.Need-content-size-requires
 content-size-requires c κs = search needs

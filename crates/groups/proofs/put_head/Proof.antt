@@ -10,11 +10,6 @@ use Rattle.groups.proofs.Puts.{put-as}
 use borrow.Author.Needs.{needs}
 use Rattle.groups.proofs.put_head.Statement.{statement}
 use Rattle.groups.proofs.put_head.Tie as tie
-use Rattle.groups.proofs.put_head.Reads as reads
-use Rattle.groups.proofs.put_head.Lts as lts
-use Rattle.groups.proofs.sequences_octets.Reads as sequences-octets-reads
-use Rattle.groups.proofs.store_head.Reads as store-head-reads
-use Rattle.stores.proofs.overruns.Reads as overruns-reads
 
 sequences-octets-requires : tie.Need-sequences-octets-requires
 sequences-octets-requires c κs = search needs

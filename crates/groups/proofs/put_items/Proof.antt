@@ -6,11 +6,6 @@ use Rattle.groups.proofs.Puts.{put-as, items-is, length-first, length-s
 use borrow.Author.Needs.{needs}
 use Rattle.groups.proofs.put_items.Statement.{statement}
 use Rattle.groups.proofs.put_items.Tie as tie
-use Rattle.groups.proofs.put_items.Reads as reads
-use Rattle.groups.proofs.put_items.Lts as lts
-use Rattle.groups.proofs.put_first.Reads as put-first-reads
-use Rattle.groups.proofs.put_last.Reads as put-last-reads
-use Rattle.groups.proofs.put_scales.Reads as put-scales-reads
 
 put-first-requires : tie.Need-put-first-requires
 put-first-requires c κs = search needs

@@ -10,12 +10,6 @@ use Rattle.stores.specs.Number.{field, length-field}
 use Rattle.groups.proofs.Puts.{put-two, put-as}
 use Rattle.groups.proofs.put_last.Statement.{statement}
 use Rattle.groups.proofs.put_last.Tie as tie
-use Rattle.groups.proofs.put_last.Reads as reads
-use Rattle.groups.proofs.put_last.Lts as lts
-use Rattle.groups.proofs.null_octets.Reads as null-octets-reads
-use Rattle.layout.proofs.offset_bits.Reads as offset-bits-reads
-use Rattle.stores.proofs.put_field.Reads as put-field-reads
-use Rattle.values.proofs.width.Reads as width-reads
 
 offset-bits-requires : tie.Need-offset-bits-requires
 offset-bits-requires c κs = search needs

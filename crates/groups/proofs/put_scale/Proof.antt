@@ -13,12 +13,6 @@ use mir.Facts.{toZ-ofZ, sfits-widen}
 use Rattle.stores.specs.Number.{be, length-be}
 use Rattle.groups.proofs.put_scale.Statement.{statement}
 use Rattle.groups.proofs.put_scale.Tie as tie
-use Rattle.groups.proofs.put_scale.Reads as reads
-use Rattle.groups.proofs.put_scale.Lts as lts
-use Rattle.groups.proofs.unsigned.Reads as unsigned-reads
-use Rattle.stores.proofs.put_number.Reads as put-number-reads
-use Rattle.stores.proofs.put_octet.Reads as put-octet-reads
-use Rattle.stores.proofs.put_two.Reads as put-two-reads
 
 in8 : (c : tie.After-struct-told) → SFits w8 (c .before .before .before .args .x .exponent)
 in8 c = search needs

@@ -5,9 +5,6 @@ use Rattle.groups.proofs.Sizes.{scale-long}
 use borrow.Author.Needs.{needs}
 use Rattle.groups.proofs.put_scales.Statement.{statement}
 use Rattle.groups.proofs.put_scales.Tie as tie
-use Rattle.groups.proofs.put_scales.Reads as reads
-use Rattle.groups.proofs.put_scales.Lts as lts
-use Rattle.groups.proofs.put_scale.Reads as put-scale-reads
 
 put-scale-requires : tie.Need-put-scale-requires
 put-scale-requires c κs = search needs

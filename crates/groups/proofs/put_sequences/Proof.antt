@@ -3,10 +3,6 @@ use Rattle.groups.proofs.Puts.{sequences-none, sequences-some}
 use borrow.Author.Needs.{needs}
 use Rattle.groups.proofs.put_sequences.Statement.{statement}
 use Rattle.groups.proofs.put_sequences.Tie as tie
-use Rattle.groups.proofs.put_sequences.Reads as reads
-use Rattle.groups.proofs.put_sequences.Lts as lts
-use Rattle.stores.proofs.put_field.Reads as put-field-reads
-use Rattle.stores.proofs.put_two.Reads as put-two-reads
 
 put-two-requires : tie.Need-put-two-requires
 put-two-requires c κs = search needs

@@ -3,8 +3,6 @@ use native.Mathlib.Omega.{arith}
 use borrow.Author.Tests.{eq-eqb, ne-eqb}
 use Rattle.groups.proofs.sequences_octets.Statement.{statement}
 use Rattle.groups.proofs.sequences_octets.Tie as tie
-use Rattle.groups.proofs.sequences_octets.Reads as reads
-use Rattle.groups.proofs.sequences_octets.Lts as lts
 
 returns : tie.Need-returns
 returns c = (simp (ne-eqb (c .before .args .sequences) 0 (λ e. omega (arith, c .if1 .taken))), omega arith)

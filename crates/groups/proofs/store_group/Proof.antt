@@ -6,11 +6,6 @@ use Rattle.groups.proofs.Puts.{put-as, group-is, length-ahead, ahead-st
 use borrow.Author.Needs.{needs}
 use Rattle.groups.proofs.store_group.Statement.{statement}
 use Rattle.groups.proofs.store_group.Tie as tie
-use Rattle.groups.proofs.store_group.Reads as reads
-use Rattle.groups.proofs.store_group.Lts as lts
-use Rattle.groups.proofs.put_channel.Reads as put-channel-reads
-use Rattle.groups.proofs.put_items.Reads as put-items-reads
-use Rattle.stores.proofs.put_octet.Reads as put-octet-reads
 
 put-octet-requires : tie.Need-put-octet-requires
 put-octet-requires c κs = search needs

@@ -8,11 +8,6 @@ use Rattle.groups.proofs.Puts.{head-stored}
 use borrow.Author.Needs.{needs}
 use Rattle.groups.proofs.store_head.Statement.{statement}
 use Rattle.groups.proofs.store_head.Tie as tie
-use Rattle.groups.proofs.store_head.Reads as reads
-use Rattle.groups.proofs.store_head.Lts as lts
-use Rattle.groups.proofs.put_sequences.Reads as put-sequences-reads
-use Rattle.groups.proofs.unsigned.Reads as unsigned-reads
-use Rattle.stores.proofs.put_field.Reads as put-field-reads
 
 cast-unsigned : tie.Need-cast-unsigned
 cast-unsigned c = rw (toZ-ofZ (c .before .fits .start)) (sfits-widen tt (c .before .fits .start))

@@ -13,8 +13,6 @@ use mir.Facts.{toZ-ofZ}
 use borrow.Author.Needs.{needs}
 use Rattle.groups.proofs.unsigned.Statement.{statement}
 use Rattle.groups.proofs.unsigned.Tie as tie
-use Rattle.groups.proofs.unsigned.Reads as reads
-use Rattle.groups.proofs.unsigned.Lts as lts
 
 sub-result : tie.Need-sub-result
 sub-result c = search needs

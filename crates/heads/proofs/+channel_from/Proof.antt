@@ -30,42 +30,36 @@ channel-from-below t =
     (falls 1 channel-from-kinds.ps _<_ μ-channel-from t)
     channel-from.Pre
 
--- src/lib.rt:73:9
 channel-from-returns : (t : ℕ) → channel-from-lts.Need-returns (
   channel-from-below t,
   channel-from.Post,
 ) (channel-from-at t) channel-from.Post
 channel-from-returns t c = channel-none _ _ _ _ (c .if1 .taken)
 
--- src/lib.rt:76:9
 channel-from-returns-2 : (t : ℕ) → channel-from-lts.Need-returns-2 (
   channel-from-below t,
   channel-from.Post,
 ) (channel-from-at t) channel-from.Post
 channel-from-returns-2 t c = channel-past _ _ _ _ (c .before .if1 .left) (c .if2 .taken)
 
--- src/lib.rt:78:13
 channel-from-shared-slice-read-b : (t : ℕ) → channel-from-lts.Need-shared-slice-read-b (
   channel-from-below t,
   channel-from.Post,
 ) (channel-from-at t) channel-from.Post
 channel-from-shared-slice-read-b t c = search needs
 
--- src/lib.rt:79:16
 channel-from-mul-more : (t : ℕ) → channel-from-lts.Need-mul-more (
   channel-from-below t,
   channel-from.Post,
 ) (channel-from-at t) channel-from.Post
 channel-from-mul-more t c = omega (arith, room-fits 128 (2 ^ 28) _ _ 0 (c .before .before .if1 .left) (lit< tt) (c .before .before .before .before .pre .1))
 
--- src/lib.rt:79:30
 channel-from-cast-more : (t : ℕ) → channel-from-lts.Need-cast-more (
   channel-from-below t,
   channel-from.Post,
 ) (channel-from-at t) channel-from.Post
 channel-from-cast-more t c = search needs
 
--- src/lib.rt:79:16
 channel-from-add-more : (t : ℕ) → channel-from-lts.Need-add-more (
   channel-from-below t,
   channel-from.Post,
@@ -74,28 +68,24 @@ channel-from-add-more t c =
     let a = c .before .before .before .before .args in
     omega (arith, room-fits 128 (2 ^ 28) _ _ (getD (a .u .now) (a .at) 0 % 128) (c .before .before .if1 .left) (mod-lt _ (lit< tt)) (c .before .before .before .before .pre .1))
 
--- src/lib.rt:83:21
 channel-from-add-t14 : (t : ℕ) → channel-from-lts.Need-add-t14 (
   channel-from-below t,
   channel-from.Post,
 ) (channel-from-at t) channel-from.Post
 channel-from-add-t14 t c = search needs
 
--- src/lib.rt:86:25
 channel-from-add-channel-from : (t : ℕ) → channel-from-lts.Need-add-channel-from (
   channel-from-below t,
   channel-from.Post,
 ) (channel-from-at t) channel-from.Post
 channel-from-add-channel-from t c = search needs
 
--- src/lib.rt:86:33
 channel-from-sub-channel-from : (t : ℕ) → channel-from-lts.Need-sub-channel-from (
   channel-from-below t,
   channel-from.Post,
 ) (channel-from-at t) channel-from.Post
 channel-from-sub-channel-from t c = search needs
 
--- src/lib.rt:86:9
 channel-from-channel-from-requires : (t : ℕ) → channel-from-lts.Need-channel-from-requires (
   channel-from-below t,
   channel-from.Post,
@@ -104,14 +94,12 @@ channel-from-channel-from-requires t c κs =
     let p = c .before .before .before .before .before in
     (omega arith, room 128 (2 ^ 28) _ _ _ (c .before .before .before .if1 .left) (mod-lt _ (lit< tt)) (p .pre .1))
 
--- src/lib.rt:68:1
 channel-from-returns-3 : (t : ℕ) → channel-from-lts.Need-returns-3 (
   channel-from-below t,
   channel-from.Post,
 ) (channel-from-at t) channel-from.Post
 channel-from-returns-3 t c = channel-last _ _ _ _ (c .before .before .before .if1 .left) (c .before .before .if2 .left) (c .if3 .taken)
 
--- src/lib.rt:68:1
 channel-from-returns-4 : (t : ℕ) → channel-from-lts.Need-returns-4 (
   channel-from-below t,
   channel-from.Post,

@@ -2,19 +2,13 @@
 use borrow.Author.Needs.{needs}
 use Rattle.heads.proofs.barred.Statement.{statement}
 use Rattle.heads.proofs.barred.Tie as tie
-use Rattle.heads.proofs.barred.Reads as reads
-use Rattle.heads.proofs.barred.Lts as lts
-use Rattle.heads.proofs.root_only.Reads as root-only-reads
 
--- src/lib.rt:156:15
 root-only-requires : tie.Need-root-only-requires
 root-only-requires c κs = search needs
 
--- src/lib.rt:153:1
 returns : tie.Need-returns
 returns c = simp (c .before .if1 .taken, c .root-only .ensures)
 
--- src/lib.rt:153:1
 returns-2 : tie.Need-returns-2
 returns-2 c = search needs
 

@@ -1,59 +1,44 @@
 -- By the answer of `channel_number`; the length stands behind its octets.
-use mathlib.Core.Path.{sym, ap, _∙_}
+use mathlib.Core.Path.{sym, _∙_}
 use native.Mathlib.Omega.{arith}
 use Rattle.heads.specs.Head.{groupHead}
 use Rattle.heads.proofs.Heads.{channel-found, rest-is}
 use borrow.Author.Needs.{needs}
 use Rattle.heads.proofs.group_head.Statement.{statement}
 use Rattle.heads.proofs.group_head.Tie as tie
-use Rattle.heads.proofs.group_head.Reads as reads
-use Rattle.heads.proofs.group_head.Lts as lts
-use Rattle.heads.proofs.channel_number.Reads as channel-number-reads
-use Rattle.heads.proofs.group_length.Reads as group-length-reads
 
--- src/lib.rt:246:11
 channel-number-requires : tie.Need-channel-number-requires
 channel-number-requires c κs = search needs
 
--- src/lib.rt:247:27
 enum-known-value : tie.Need-enum-known-value
 enum-known-value c = search needs
 
--- src/lib.rt:247:74
 sub-group-length : tie.Need-sub-group-length
 sub-group-length c = omega (arith, channel-found _ (c .before .before .before .channel-number .ensures) (c .before .value .given .1))
 
--- src/lib.rt:247:74
 part-group-length-start : tie.Need-part-group-length-start
 part-group-length-start c = omega (arith, channel-found _ (c .before .before .before .channel-number .ensures) (c .before .value .given .1))
 
--- src/lib.rt:247:74
 part-group-length-end : tie.Need-part-group-length-end
 part-group-length-end c = search needs
 
--- src/lib.rt:247:46
 group-length-requires : tie.Need-group-length-requires
 group-length-requires c κs = omega (arith, channel-found _ (c .before .before .before .before .channel-number .ensures) (c .before .before .value .given .1))
 
--- src/lib.rt:248:29
 enum-told : tie.Need-enum-told
 enum-told c = search needs
 
--- src/lib.rt:251:29
 enum-told-2 : tie.Need-enum-told-2
 enum-told-2 c = search needs
 
--- src/lib.rt:243:1
 returns : tie.Need-returns
 unfolding groupHead
 returns c = c .group-length .ensures ∙ simp (rest-is, sym (c .before .before .before .before .before .channel-number .ensures) ∙ c .before .before .before .value .given .1)
 
--- src/lib.rt:243:1
 returns-2 : tie.Need-returns-2
 unfolding groupHead
 returns-2 c = simp (sym (c .before .before .channel-number .ensures) ∙ c .enum-told .given .1)
 
--- src/lib.rt:243:1
 returns-3 : tie.Need-returns-3
 unfolding groupHead
 returns-3 c = simp (sym (c .before .before .channel-number .ensures) ∙ c .enum-told2 .given .1)

@@ -1,5 +1,5 @@
 -- By the answer of `length_field`, and by the test that the contents fit.
-use mathlib.Core.Path.{sym, ap, _∙_}
+use mathlib.Core.Path.{sym, _∙_}
 use native.Mathlib.Omega.{arith}
 use borrow.Author.Tests.{lt-ltb, le-ltb}
 use Rattle.heads.specs.Head.{groupLength}
@@ -7,71 +7,53 @@ use Rattle.heads.proofs.Heads.{length-found}
 use borrow.Author.Needs.{needs}
 use Rattle.heads.proofs.group_length.Statement.{statement}
 use Rattle.heads.proofs.group_length.Tie as tie
-use Rattle.heads.proofs.group_length.Reads as reads
-use Rattle.heads.proofs.group_length.Lts as lts
-use Rattle.heads.proofs.length_field.Reads as length-field-reads
 
--- src/lib.rt:215:11
 length-field-requires : tie.Need-length-field-requires
 length-field-requires c κs = search needs
 
--- src/lib.rt:216:25
 enum-known-value : tie.Need-enum-known-value
 enum-known-value c = search needs
 
--- src/lib.rt:217:16
 sub-if1 : tie.Need-sub-if1
 sub-if1 c = omega (arith, length-found _ (c .before .before .before .length-field .ensures) (c .before .value .given .1))
 
--- src/lib.rt:224:28
 add-t13 : tie.Need-add-t13
 add-t13 c = omega (arith, length-found _ (c .before .before .before .before .length-field .ensures) (c .before .before .value .given .1))
 
--- src/lib.rt:224:28
 add-t14 : tie.Need-add-t14
 add-t14 c = omega (arith, length-found _ (c .before .before .before .before .length-field .ensures) (c .before .before .value .given .1))
 
--- src/lib.rt:229:24
 enum-known-octets : tie.Need-enum-known-octets
 enum-known-octets c = search needs
 
--- src/lib.rt:231:20
 add-t15 : tie.Need-add-t15
 add-t15 c = omega (arith, length-found _ (c .before .before .before .length-field .ensures) (c .before .octets .given .1))
 
--- src/lib.rt:231:20
 add-t16 : tie.Need-add-t16
 add-t16 c = omega (arith, length-found _ (c .before .before .before .length-field .ensures) (c .before .octets .given .1))
 
--- src/lib.rt:233:28
 enum-told : tie.Need-enum-told
 enum-told c = search needs
 
--- src/lib.rt:236:24
 enum-told-2 : tie.Need-enum-told-2
 enum-told-2 c = search needs
 
--- src/lib.rt:211:1
 returns : tie.Need-returns
 unfolding groupLength
 returns c = simp (sym (c .before .before .before .before .length-field .ensures) ∙ c .before .before .value .given .1, lt-ltb _ _ (c .if1 .taken))
 
--- src/lib.rt:211:1
 returns-2 : tie.Need-returns-2
 unfolding groupLength
 returns-2 c = simp (sym (c .before .before .before .before .length-field .ensures) ∙ c .before .before .value .given .1, le-ltb _ _ (c .if1 .left))
 
--- src/lib.rt:211:1
 returns-3 : tie.Need-returns-3
 unfolding groupLength
 returns-3 c = simp (sym (c .before .before .before .length-field .ensures) ∙ c .before .octets .given .1)
 
--- src/lib.rt:211:1
 returns-4 : tie.Need-returns-4
 unfolding groupLength
 returns-4 c = simp (sym (c .before .before .length-field .ensures) ∙ c .enum-told .given .1)
 
--- src/lib.rt:211:1
 returns-5 : tie.Need-returns-5
 unfolding groupLength
 returns-5 c = simp (sym (c .before .before .length-field .ensures) ∙ c .enum-told2 .given .1)

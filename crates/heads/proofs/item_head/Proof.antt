@@ -1,77 +1,55 @@
 -- Each way out is a law of the head, by its first octet.
-use mathlib.Core.Path.{sym, ap, _∙_}
+use mathlib.Core.Path.{sym, _∙_}
 use Rattle.heads.proofs.Heads.{head-none, head-context, head-barred, head-group, head-primitive, rest-is}
 use borrow.Author.Needs.{needs}
 use Rattle.heads.proofs.item_head.Statement.{statement}
 use Rattle.heads.proofs.item_head.Tie as tie
-use Rattle.heads.proofs.item_head.Reads as reads
-use Rattle.heads.proofs.item_head.Lts as lts
-use Rattle.heads.proofs.barred.Reads as barred-reads
-use Rattle.heads.proofs.group_head.Reads as group-head-reads
-use Rattle.heads.proofs.primitive_head.Reads as primitive-head-reads
-use Rattle.heads.proofs.unknown_context.Reads as unknown-context-reads
 
--- src/lib.rt:262:9
 returns : tie.Need-returns
 returns c = head-none _ _ (c .if1 .taken)
 
--- src/lib.rt:266:15
 shared-slice-read-tag : tie.Need-shared-slice-read-tag
 shared-slice-read-tag c = search needs
 
--- src/lib.rt:267:8
 unknown-context-requires : tie.Need-unknown-context-requires
 unknown-context-requires c κs = search needs
 
--- src/lib.rt:268:9
 returns-2 : tie.Need-returns-2
 returns-2 c = head-context _ _ (c .before .before .before .if1 .left) (sym (c .before .unknown-context .ensures) ∙ c .if2 .taken)
 
--- src/lib.rt:272:8
 barred-requires : tie.Need-barred-requires
 barred-requires c κs = search needs
 
--- src/lib.rt:273:9
 returns-3 : tie.Need-returns-3
 returns-3 c = head-barred _ _ (c .before .before .before .before .before .if1 .left) (sym (c .before .before .before .unknown-context .ensures) ∙ c .before .before .if2 .left) (sym (c .before .barred .ensures) ∙ c .if3 .taken)
 
--- src/lib.rt:278:20
 sub-group-head : tie.Need-sub-group-head
 sub-group-head c = search needs
 
--- src/lib.rt:278:20
 part-group-head-start : tie.Need-part-group-head-start
 part-group-head-start c = search needs
 
--- src/lib.rt:278:20
 part-group-head-end : tie.Need-part-group-head-end
 part-group-head-end c = search needs
 
--- src/lib.rt:278:9
 group-head-requires : tie.Need-group-head-requires
 group-head-requires c κs = search needs
 
--- src/lib.rt:280:29
 sub-primitive-head : tie.Need-sub-primitive-head
 sub-primitive-head c = search needs
 
--- src/lib.rt:280:29
 part-primitive-head-start : tie.Need-part-primitive-head-start
 part-primitive-head-start c = search needs
 
--- src/lib.rt:280:29
 part-primitive-head-end : tie.Need-part-primitive-head-end
 part-primitive-head-end c = search needs
 
--- src/lib.rt:280:9
 primitive-head-requires : tie.Need-primitive-head-requires
 primitive-head-requires c κs = search needs
 
--- src/lib.rt:258:1
 returns-4 : tie.Need-returns-4
 returns-4 c = c .group-head .ensures ∙ simp rest-is (head-group _ _ (c .before .before .before .before .before .before .before .before .if1 .left) (sym (c .before .before .before .before .before .before .unknown-context .ensures) ∙ c .before .before .before .before .before .if2 .left) (sym (c .before .before .before .before .barred .ensures) ∙ c .before .before .before .if3 .left) (c .before .before .if4 .taken))
 
--- src/lib.rt:258:1
 returns-5 : tie.Need-returns-5
 returns-5 c = c .primitive-head .ensures ∙ simp rest-is (head-primitive _ _ (c .before .before .before .before .before .before .before .before .if1 .left) (sym (c .before .before .before .before .before .before .unknown-context .ensures) ∙ c .before .before .before .before .before .if2 .left) (sym (c .before .before .before .before .barred .ensures) ∙ c .before .before .before .if3 .left) (c .before .before .if4 .left))
 

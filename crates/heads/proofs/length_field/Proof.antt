@@ -5,61 +5,44 @@ use Rattle.heads.specs.declared.Length.the-variants.{Known}
 use Prim.Native.Nat.{ℕ, _+_, _-_, _≤_}
 use mathlib.Core.List.{List}
 use mathlib.Core.Bool.{false}
-use lib.ListN.{length, take, drop, getD}
-use native.Mathlib.Nat.{le-trans}
-use lib.Dec.{lit≤}
-use mathlib.Core.Path.{_≡_, sym, ap, _∙_}
+use lib.ListN.{take, drop}
+use mathlib.Core.Path.{_≡_, ap, _∙_}
 use native.Mathlib.Omega.{arith}
 use Rattle.heads.proofs.Heads.{length-none, length-short, length-open, length-bad, length-past, length-long}
 use borrow.Author.Needs.{needs}
 use Rattle.heads.proofs.length_field.Statement.{statement}
 use Rattle.heads.proofs.length_field.Tie as tie
-use Rattle.heads.proofs.length_field.Reads as reads
-use Rattle.heads.proofs.length_field.Lts as lts
-use Rattle.octets.proofs.number.Reads as number-reads
-use Rattle.octets.proofs.part.Reads as part-reads
 
--- src/lib.rt:110:9
 returns : tie.Need-returns
 returns c = length-none _ (c .if1 .taken)
 
--- src/lib.rt:112:13
 shared-slice-read-b : tie.Need-shared-slice-read-b
 shared-slice-read-b c = search needs
 
--- src/lib.rt:112:13
 cast-b : tie.Need-cast-b
 cast-b c = omega (arith, c .before .before .shared-slice-known .given 0)
 
--- src/lib.rt:114:9
 returns-2 : tie.Need-returns-2
 returns-2 c = length-short _ (c .before .before .if1 .left) (c .if2 .taken)
 
--- src/lib.rt:121:9
 returns-3 : tie.Need-returns-3
 returns-3 c = length-open _ (c .before .before .before .if1 .left) (c .before .if2 .left) (c .if3 .taken)
 
--- src/lib.rt:124:9
 returns-4 : tie.Need-returns-4
 returns-4 c = length-bad _ (c .before .before .before .before .if1 .left) (c .before .before .if2 .left) (c .before .if3 .left) (c .if4 .taken)
 
--- src/lib.rt:126:8
 sub-if5 : tie.Need-sub-if5
 sub-if5 c = search needs
 
--- src/lib.rt:127:9
 returns-5 : tie.Need-returns-5
 returns-5 c = length-past _ (c .before .before .before .before .before .if1 .left) (c .before .before .before .if2 .left) (c .before .before .if3 .left) (c .before .if4 .left) (c .if5 .taken)
 
--- src/lib.rt:129:32
 part-requires : tie.Need-part-requires
 part-requires c κs = search needs
 
--- src/lib.rt:129:17
 number-requires : tie.Need-number-requires
 number-requires c κs = search needs
 
--- src/lib.rt:132:17
 add-t5 : tie.Need-add-t5
 add-t5 c = search needs
 
@@ -67,7 +50,6 @@ read-is : (u v : List ℕ) (n r : ℕ) → n ≤ 4 → v ≡ take n (drop 1 u) �
 unfolding numberOf
 read-is u v n r h e q = ap (λ (k : ℕ). Known k (n + 1)) (read-all false v r (omega (arith, part-short n (drop 1 u) v e)) q .value ∙ ap (numberOf false) e)
 
--- src/lib.rt:106:1
 returns-6 : tie.Need-returns-6
 returns-6 c = read-is (c .before .before .before .before .before .before .before .before .before .args .u .now) _ _ _ (c .before .before .before .if4 .left) (c .before .part .ensures) (c .number .ensures) ∙ length-long _ (c .before .before .before .before .before .before .before .if1 .left) (c .before .before .before .before .before .if2 .left) (c .before .before .before .before .if3 .left) (c .before .before .before .if4 .left) (c .before .before .if5 .left)
 

@@ -3,15 +3,11 @@ use borrow.Author.Tests.{eq-eqb, ne-eqb}
 use Rattle.heads.specs.Head.{unknownContext}
 use Rattle.heads.proofs.unknown_context.Statement.{statement}
 use Rattle.heads.proofs.unknown_context.Tie as tie
-use Rattle.heads.proofs.unknown_context.Reads as reads
-use Rattle.heads.proofs.unknown_context.Lts as lts
 
--- src/lib.rt:137:1
 returns : tie.Need-returns
 unfolding unknownContext
 returns c = simp (eq-eqb _ 1 (c .if1 .taken))
 
--- src/lib.rt:137:1
 returns-2 : tie.Need-returns-2
 unfolding unknownContext
 returns-2 c = simp (ne-eqb _ 1 (c .if1 .left))

@@ -2,14 +2,10 @@
 use borrow.Author.Tests.{eq-eqb, ne-eqb}
 use Rattle.items.proofs.ends_open.Statement.{statement}
 use Rattle.items.proofs.ends_open.Tie as tie
-use Rattle.items.proofs.ends_open.Reads as reads
-use Rattle.items.proofs.ends_open.Lts as lts
 
--- src/lib.rt:406:1
 returns : tie.Need-returns
 returns c = simp (eq-eqb _ 0 (c .if1 .taken))
 
--- src/lib.rt:406:1
 returns-2 : tie.Need-returns-2
 returns-2 c = simp (ne-eqb _ 0 (c .if1 .left))
 

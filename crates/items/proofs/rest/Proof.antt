@@ -5,48 +5,34 @@ use Rattle.heads.proofs.Heads.{rest-whole}
 use borrow.Author.Needs.{needs}
 use Rattle.items.proofs.rest.Statement.{statement}
 use Rattle.items.proofs.rest.Tie as tie
-use Rattle.items.proofs.rest.Reads as reads
-use Rattle.items.proofs.rest.Lts as lts
-use Rattle.items.proofs.left.Reads as left-reads
-use Rattle.octets.proofs.part.Reads as part-reads
 
--- src/lib.rt:383:45
 enum-told : tie.Need-enum-told
 enum-told c = search needs
 
--- src/lib.rt:383:25
 part-requires : tie.Need-part-requires
 part-requires c κs = search needs
 
--- src/lib.rt:384:40
 enum-known-within : tie.Need-enum-known-within
 enum-known-within c = search needs
 
--- src/lib.rt:384:69
 left-requires : tie.Need-left-requires
 left-requires c κs = search needs
 
--- src/lib.rt:384:49
 part-requires-2 : tie.Need-part-requires-2
 part-requires-2 c κs = search needs
 
--- src/lib.rt:388:34
 enum-told-2 : tie.Need-enum-told-2
 enum-told-2 c = search needs
 
--- src/lib.rt:388:14
 part-requires-3 : tie.Need-part-requires-3
 part-requires-3 c κs = search needs
 
--- src/lib.rt:379:1
 returns : tie.Need-returns
 returns c = c .part .ensures ∙ rest-whole (c .before .before .before .before .args .at) (c .before .before .before .before .args .s .now) ∙ ap (extent _ _) (sym (c .before .enum-told .given .1))
 
--- src/lib.rt:379:1
 returns-2 : tie.Need-returns-2
 returns-2 c = c .part2 .ensures ∙ simp (c .before .left .ensures, c .before .before .before .within .given .1)
 
--- src/lib.rt:379:1
 returns-3 : tie.Need-returns-3
 returns-3 c = c .part3 .ensures ∙ rest-whole (c .before .before .before .before .args .at) (c .before .before .before .before .args .s .now) ∙ ap (extent _ _) (sym (c .before .enum-told2 .given .1))
 

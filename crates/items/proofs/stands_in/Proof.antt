@@ -1,38 +1,29 @@
 -- By the arm of the match, and by the test on the group's end.
-use mathlib.Core.Path.{sym, ap, _∙_}
+use mathlib.Core.Path.{sym, ap}
 use borrow.Author.Tests.{lt-ltb, le-ltb}
 use Rattle.items.specs.Walk.{standsIn}
 use borrow.Author.Needs.{needs}
 use Rattle.items.proofs.stands_in.Statement.{statement}
 use Rattle.items.proofs.stands_in.Tie as tie
-use Rattle.items.proofs.stands_in.Reads as reads
-use Rattle.items.proofs.stands_in.Lts as lts
 
--- src/lib.rt:346:25
 enum-told : tie.Need-enum-told
 enum-told c = search needs
 
--- src/lib.rt:347:28
 enum-known-within : tie.Need-enum-known-within
 enum-known-within c = search needs
 
--- src/lib.rt:354:24
 enum-known-within-2 : tie.Need-enum-known-within-2
 enum-known-within-2 c = search needs
 
--- src/lib.rt:342:1
 returns : tie.Need-returns
 returns c = search needs
 
--- src/lib.rt:342:1
 returns-2 : tie.Need-returns-2
 returns-2 c = simp (c .before .before .within .given .1, lt-ltb _ _ (c .if1 .taken))
 
--- src/lib.rt:342:1
 returns-3 : tie.Need-returns-3
 returns-3 c = simp (c .before .before .within .given .1, le-ltb _ _ (c .if1 .left))
 
--- src/lib.rt:342:1
 returns-4 : tie.Need-returns-4
 returns-4 c = ap (standsIn _) (sym (c .before .within2 .given .1))
 

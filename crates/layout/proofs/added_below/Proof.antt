@@ -1,22 +1,16 @@
 -- Each way out is what its tests say.
-use mathlib.Core.Path.{_≡_, ap, sym, _∙_}
+use mathlib.Core.Path.{_∙_}
 use borrow.Author.Tests.{lt-ltb, le-ltb}
 use borrow.Author.Needs.{needs}
 use Rattle.layout.proofs.added_below.Statement.{statement}
 use Rattle.layout.proofs.added_below.Tie as tie
-use Rattle.layout.proofs.added_below.Reads as reads
-use Rattle.layout.proofs.added_below.Lts as lts
-use Rattle.std.proofs.num.wrapping_add_u64.Reads as wrapping-add-u64-reads
 
--- src/lib.rt:84:9
 wrapping-add-u64-requires : tie.Need-wrapping-add-u64-requires
 wrapping-add-u64-requires c κs = search needs
 
--- src/lib.rt:80:1
 returns : tie.Need-returns
 returns c = c .wrapping-add-u64 .ensures ∙ simp (lt-ltb _ _ (c .before .if1 .taken))
 
--- src/lib.rt:80:1
 returns-2 : tie.Need-returns-2
 returns-2 c = simp (le-ltb _ _ (c .if1 .left))
 

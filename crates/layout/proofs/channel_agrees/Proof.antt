@@ -1,5 +1,5 @@
 -- Each way out is what its tests say.
-use mathlib.Core.Path.{_≡_, sym, _∙_}
+use mathlib.Core.Path.{sym, _∙_}
 use Rattle.layout.specs.Frame.{channelAgrees}
 use borrow.Author.Needs.{needs}
 use Rattle.layout.proofs.channel_agrees.Statement.{statement}

@@ -4,10 +4,6 @@ use Rattle.layout.specs.Size.{frameSize}
 use borrow.Author.Needs.{needs}
 use Rattle.layout.proofs.frame_size.Statement.{statement}
 use Rattle.layout.proofs.frame_size.Tie as tie
-use Rattle.layout.proofs.frame_size.Reads as reads
-use Rattle.layout.proofs.frame_size.Lts as lts
-use Rattle.layout.proofs.length_size.Reads as length-size-reads
-use Rattle.layout.proofs.sequences_size.Reads as sequences-size-reads
 
 sequences-size-requires : tie.Need-sequences-size-requires
 sequences-size-requires c κs = search needs

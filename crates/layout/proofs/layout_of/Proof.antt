@@ -8,11 +8,6 @@ use Rattle.layout.specs.Measure.{layoutOf}
 use Rattle.layout.proofs.Laws.{Summing, summing-none, summing-more, summed-up, take-few}
 use Rattle.layout.proofs.layout_of.Statement.{statement}
 use Rattle.layout.proofs.layout_of.Tie as tie
-use Rattle.layout.proofs.layout_of.Reads as reads
-use Rattle.layout.proofs.layout_of.Lts as lts
-use Rattle.layout.proofs.Layout.more.Reads as more-reads
-use Rattle.layout.proofs.Layout.none.Reads as none-reads
-use Rattle.layout.proofs.few.Reads as few-reads
 
 abbrev Inv-loop : tie.InvT-loop
 Inv-loop count table n l₀ i₀ l i = (length table ≡ 256) × Summing 0 table n i l
@@ -20,14 +15,14 @@ Inv-loop count table n l₀ i₀ l i = (length table ≡ 256) × Summing 0 table
 abbrev μ-loop : tie.MeasureT-loop
 μ-loop count table n l₀ i₀ l i = n - i
 
-few-requires : tie.Need-few-requires Inv-loop μ-loop
-few-requires c κs = search needs
+at-most-requires : tie.Need-at-most-requires Inv-loop μ-loop
+at-most-requires c κs = search needs
 
 none-requires : tie.Need-none-requires Inv-loop μ-loop
 none-requires c κs = search needs
 
 loop-holds : tie.Need-loop-holds Inv-loop μ-loop
-loop-holds c = (search needs, summing-none 0 (search needs) (omega (arith, c .before .few .ensures)) (c .none .ensures))
+loop-holds c = (search needs, summing-none 0 (search needs) (omega (arith, c .before .at-most .ensures)) (c .none .ensures))
 
 mul-more : tie.Need-mul-more Inv-loop μ-loop
 mul-more c = omega (arith, c .before .loop .inv .1 .few)
@@ -48,7 +43,7 @@ loop-again : tie.Need-loop-again Inv-loop μ-loop
 loop-again c = (c .before .before .before .loop .inv .0, summing-more (c .before .before .before .loop .inv .1) _ (c .before .before .loop-test .taken) (c .more .ensures))
 
 returns : tie.Need-returns Inv-loop μ-loop
-returns c = summed-up (c .before .loop .inv .1) _ (c .before .before .before .few .ensures) (c .loop-test .left) ∙ ap (layoutOf 0) (take-few (c .before .before .before .before .args .count) (c .before .before .before .before .args .t1) (c .before .loop .inv .0))
+returns c = summed-up (c .before .loop .inv .1) _ (c .before .before .before .at-most .ensures) (c .loop-test .left) ∙ ap (layoutOf 0) (take-few (c .before .before .before .before .args .count) (c .before .before .before .before .args .t1) (c .before .loop .inv .0))
 
 pub layout-of-spec : {M : Type 1} → statement M
 layout-of-spec =
@@ -56,7 +51,7 @@ layout-of-spec =
     (tie.spec
     Inv-loop
     μ-loop
-    few-requires
+    at-most-requires
     none-requires
     loop-holds
     mul-more

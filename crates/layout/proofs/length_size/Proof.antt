@@ -3,8 +3,6 @@ use borrow.Author.Tests.{lt-ltb, le-ltb}
 use native.Mathlib.Omega.{arith}
 use Rattle.layout.proofs.length_size.Statement.{statement}
 use Rattle.layout.proofs.length_size.Tie as tie
-use Rattle.layout.proofs.length_size.Reads as reads
-use Rattle.layout.proofs.length_size.Lts as lts
 
 returns : tie.Need-returns
 returns c = (simp (lt-ltb _ 128 (c .if1 .taken)), omega arith)

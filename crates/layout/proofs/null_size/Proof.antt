@@ -1,5 +1,5 @@
 -- Each way out is what its tests say.
-use mathlib.Core.Path.{_≡_, _∙_}
+use mathlib.Core.Path.{_∙_}
 use borrow.Author.Tests.{eq-eqb, ne-eqb}
 use Rattle.layout.proofs.null_size.Statement.{statement}
 use Rattle.layout.proofs.null_size.Tie as tie

@@ -9,9 +9,6 @@ use Rattle.layout.specs.Frame.{offsetBits}
 use borrow.Author.Needs.{needs}
 use Rattle.layout.proofs.offset_bits.Statement.{statement}
 use Rattle.layout.proofs.offset_bits.Tie as tie
-use Rattle.layout.proofs.offset_bits.Reads as reads
-use Rattle.layout.proofs.offset_bits.Lts as lts
-use Rattle.values.proofs.width.Reads as width-reads
 
 width-requires : tie.Need-width-requires
 width-requires c κs = search needs

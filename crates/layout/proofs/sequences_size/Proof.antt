@@ -3,8 +3,6 @@ use borrow.Author.Tests.{eq-eqb, ne-eqb}
 use native.Mathlib.Omega.{arith}
 use Rattle.layout.proofs.sequences_size.Statement.{statement}
 use Rattle.layout.proofs.sequences_size.Tie as tie
-use Rattle.layout.proofs.sequences_size.Reads as reads
-use Rattle.layout.proofs.sequences_size.Lts as lts
 
 returns : tie.Need-returns
 returns c = (simp (eq-eqb _ 0 (c .if1 .taken)), omega arith)

@@ -9,104 +9,74 @@ use Rattle.octets.proofs.Octets.{here-one, here-big, here-little, first
 use borrow.Author.Needs.{needs}
 use Rattle.octets.proofs.number.Statement.{statement}
 use Rattle.octets.proofs.number.Tie as tie
-use Rattle.octets.proofs.number.Reads as reads
-use Rattle.octets.proofs.number.Lts as lts
-use Rattle.octets.proofs.big_endian.Reads as big-endian-reads
-use Rattle.octets.proofs.four_octets.Reads as four-octets-reads
-use Rattle.octets.proofs.little_endian.Reads as little-endian-reads
-use Rattle.octets.proofs.part.Reads as part-reads
-use Rattle.octets.proofs.two_octets.Reads as two-octets-reads
-use Rattle.octets.proofs.wide.Reads as wide-reads
 
--- src/lib.rt:81:21
 shared-slice-read-wide : tie.Need-shared-slice-read-wide
 shared-slice-read-wide c = search needs
 
--- src/lib.rt:81:9
 wide-requires : tie.Need-wide-requires
 wide-requires c κs = search needs
 
--- src/lib.rt:81:9
 returns : tie.Need-returns
 returns c = first-read (c .before .before .before .before .args .little) 1 (c .before .before .before .before .args .s .now) (c .before .before .if1 .taken) (lit≤ tt) (λ i. c .before .before .before .shared-slice-known .given i .fits) (here-one (c .before .before .before .before .args .little) (c .before .before .before .before .args .s .now) 0 (omega (arith, c .before .before .if1 .taken)) (c .wide .ensures .0))
 
--- src/lib.rt:84:17
 shared-slice-read-a : tie.Need-shared-slice-read-a
 shared-slice-read-a c = search needs
 
--- src/lib.rt:85:17
 shared-slice-read-b : tie.Need-shared-slice-read-b
 shared-slice-read-b c = search needs
 
--- src/lib.rt:87:13
 two-octets-requires : tie.Need-two-octets-requires
 two-octets-requires c κs = search needs
 
--- src/lib.rt:87:13
 returns-2 : tie.Need-returns-2
 unfolding bigFrom
 returns-2 c = first-read (c .before .before .before .before .before .before .before .args .little) 2 (c .before .before .before .before .before .before .before .args .s .now) (c .before .before .before .before .if2 .taken) (lit≤ tt) (λ i. c .before .before .before .before .before .before .shared-slice-known .given i .fits) (here-little 1 (c .before .before .before .before .before .before .before .args .s .now) 0 (omega (arith, c .before .before .before .before .if2 .taken)) (c .before .if3 .taken) refl (c .two-octets .ensures))
 
--- src/lib.rt:89:9
 two-octets-requires-2 : tie.Need-two-octets-requires-2
 two-octets-requires-2 c κs = search needs
 
--- src/lib.rt:89:9
 returns-3 : tie.Need-returns-3
 unfolding bigFrom
 returns-3 c = first-read (c .before .before .before .before .before .before .before .args .little) 2 (c .before .before .before .before .before .before .before .args .s .now) (c .before .before .before .before .if2 .taken) (lit≤ tt) (λ i. c .before .before .before .before .before .before .shared-slice-known .given i .fits) (here-big 1 (c .before .before .before .before .before .before .before .args .s .now) 0 (omega (arith, c .before .before .before .before .if2 .taken)) (c .before .if3 .left) (c .two-octets2 .ensures))
 
--- src/lib.rt:92:17
 shared-slice-read-a-2 : tie.Need-shared-slice-read-a-2
 shared-slice-read-a-2 c = search needs
 
--- src/lib.rt:93:17
 shared-slice-read-b-2 : tie.Need-shared-slice-read-b-2
 shared-slice-read-b-2 c = search needs
 
--- src/lib.rt:94:17
 shared-slice-read-c : tie.Need-shared-slice-read-c
 shared-slice-read-c c = search needs
 
--- src/lib.rt:95:17
 shared-slice-read-d : tie.Need-shared-slice-read-d
 shared-slice-read-d c = search needs
 
--- src/lib.rt:97:13
 four-octets-requires : tie.Need-four-octets-requires
 four-octets-requires c κs = search needs
 
--- src/lib.rt:97:13
 returns-4 : tie.Need-returns-4
 unfolding bigFrom
 returns-4 c = first-read (c .before .before .before .before .before .before .before .before .before .before .args .little) 4 (c .before .before .before .before .before .before .before .before .before .before .args .s .now) (c .before .before .before .before .before .before .if4 .taken) (lit≤ tt) (λ i. c .before .before .before .before .before .before .before .before .before .shared-slice-known .given i .fits) (here-little 3 (c .before .before .before .before .before .before .before .before .before .before .args .s .now) 0 (omega (arith, c .before .before .before .before .before .before .if4 .taken)) (c .before .if5 .taken) refl (c .four-octets .ensures))
 
--- src/lib.rt:99:9
 four-octets-requires-2 : tie.Need-four-octets-requires-2
 four-octets-requires-2 c κs = search needs
 
--- src/lib.rt:99:9
 returns-5 : tie.Need-returns-5
 unfolding bigFrom
 returns-5 c = first-read (c .before .before .before .before .before .before .before .before .before .before .args .little) 4 (c .before .before .before .before .before .before .before .before .before .before .args .s .now) (c .before .before .before .before .before .before .if4 .taken) (lit≤ tt) (λ i. c .before .before .before .before .before .before .before .before .before .shared-slice-known .given i .fits) (here-big 3 (c .before .before .before .before .before .before .before .before .before .before .args .s .now) 0 (omega (arith, c .before .before .before .before .before .before .if4 .taken)) (c .before .if5 .left) (c .four-octets2 .ensures))
 
--- src/lib.rt:101:9
 part-requires : tie.Need-part-requires
 part-requires c κs = search needs
 
--- src/lib.rt:103:9
 little-endian-requires : tie.Need-little-endian-requires
 little-endian-requires c κs = part-short 8 (c .before .before .before .before .before .before .args .s .now) _ (c .before .part .ensures)
 
--- src/lib.rt:105:9
 big-endian-requires : tie.Need-big-endian-requires
 big-endian-requires c κs = part-short 8 (c .before .before .before .before .before .before .args .s .now) _ (c .before .part .ensures)
 
--- src/lib.rt:77:1
 returns-6 : tie.Need-returns-6
 returns-6 c = rw (c .before .if6 .taken, ← c .before .before .part .ensures) (c .little-endian .ensures)
 
--- src/lib.rt:77:1
 returns-7 : tie.Need-returns-7
 returns-7 c = rw (c .before .if6 .left, ← c .before .before .part .ensures) (c .big-endian .ensures)
 

@@ -1,50 +1,38 @@
 -- By where the cursor stands.
-use mathlib.Core.Path.{_≡_, sym, _∙_}
+use mathlib.Core.Path.{sym, _∙_}
 use borrow.Author.Tests.{lt-ltb, le-ltb}
 use Rattle.pass.specs.Passing.{beginsAt}
 use borrow.Author.Needs.{needs}
 use Rattle.pass.proofs.begins.Statement.{statement}
 use Rattle.pass.proofs.begins.Tie as tie
-use Rattle.pass.proofs.begins.Reads as reads
-use Rattle.pass.proofs.begins.Lts as lts
-use Rattle.stretch.proofs.stepped_over.Reads as stepped-over-reads
 
--- src/lib.rt:189:21
 enum-told : tie.Need-enum-told
 enum-told c = search needs
 
--- src/lib.rt:190:39
 shared-slice-read-stepped-over : tie.Need-shared-slice-read-stepped-over
 shared-slice-read-stepped-over c = search needs
 
--- src/lib.rt:190:17
 stepped-over-requires : tie.Need-stepped-over-requires
 stepped-over-requires c κs = search needs
 
--- src/lib.rt:195:52
 enum-told-2 : tie.Need-enum-told-2
 enum-told-2 c = search needs
 
--- src/lib.rt:199:14
 enum-told-3 : tie.Need-enum-told-3
 enum-told-3 c = search needs
 
--- src/lib.rt:182:1
 returns : tie.Need-returns
 unfolding beginsAt
 returns c = c .stepped-over .ensures ∙ sym (simp (c .before .before .before .enum-told .given .1, lt-ltb _ _ (c .before .before .if1 .taken)))
 
--- src/lib.rt:182:1
 returns-2 : tie.Need-returns-2
 unfolding beginsAt
 returns-2 c = sym (simp (c .before .enum-told .given .1, le-ltb _ _ (c .if1 .left)))
 
--- src/lib.rt:182:1
 returns-3 : tie.Need-returns-3
 unfolding beginsAt
 returns-3 c = sym (simp (c .enum-told2 .given .1))
 
--- src/lib.rt:182:1
 returns-4 : tie.Need-returns-4
 unfolding beginsAt
 returns-4 c = sym (simp (c .enum-told3 .given .1))

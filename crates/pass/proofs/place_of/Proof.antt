@@ -1,44 +1,34 @@
 -- By the arm of the match.
-use mathlib.Core.Path.{_≡_, ap, sym, _∙_}
+use mathlib.Core.Path.{ap, sym}
 use Rattle.pass.specs.Verdict.{placeAt}
 use borrow.Author.Needs.{needs}
 use Rattle.pass.proofs.place_of.Statement.{statement}
 use Rattle.pass.proofs.place_of.Tie as tie
-use Rattle.pass.proofs.place_of.Reads as reads
-use Rattle.pass.proofs.place_of.Lts as lts
 
--- src/lib.rt:469:13
 enum-known-item : tie.Need-enum-known-item
 enum-known-item c = search needs
 
--- src/lib.rt:474:23
 enum-known-item-2 : tie.Need-enum-known-item-2
 enum-known-item-2 c = search needs
 
--- src/lib.rt:476:13
 enum-known-item-3 : tie.Need-enum-known-item-3
 enum-known-item-3 c = search needs
 
--- src/lib.rt:482:22
 enum-known-item-4 : tie.Need-enum-known-item-4
 enum-known-item-4 c = search needs
 
--- src/lib.rt:464:1
 returns : tie.Need-returns
 unfolding placeAt
 returns c = ap placeAt (sym (c .before .item .given .1))
 
--- src/lib.rt:464:1
 returns-2 : tie.Need-returns-2
 unfolding placeAt
 returns-2 c = ap placeAt (sym (c .before .item2 .given .1))
 
--- src/lib.rt:464:1
 returns-3 : tie.Need-returns-3
 unfolding placeAt
 returns-3 c = ap placeAt (sym (c .before .item3 .given .1))
 
--- src/lib.rt:464:1
 returns-4 : tie.Need-returns-4
 unfolding placeAt
 returns-4 c = ap placeAt (sym (c .before .item4 .given .1))

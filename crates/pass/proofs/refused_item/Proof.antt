@@ -6,20 +6,13 @@ use Rattle.pass.specs.Scan.{refusedScan}
 use borrow.Author.Needs.{needs}
 use Rattle.pass.proofs.refused_item.Statement.{statement}
 use Rattle.pass.proofs.refused_item.Tie as tie
-use Rattle.pass.proofs.refused_item.Reads as reads
-use Rattle.pass.proofs.refused_item.Lts as lts
-use Rattle.pass.proofs.place_of.Reads as place-of-reads
-use Rattle.pass.proofs.refused_scan.Reads as refused-scan-reads
 
--- src/lib.rt:110:16
 place-of-requires : tie.Need-place-of-requires
 place-of-requires c κs = search needs
 
--- src/lib.rt:108:5
 refused-scan-requires : tie.Need-refused-scan-requires
 refused-scan-requires c κs = search needs
 
--- src/lib.rt:105:1
 returns : tie.Need-returns
 returns c = c .refused-scan .ensures ∙ ap (λ (p : ℕ). refusedScan (refusal (c .before .before .args .number) p)) (c .before .place-of .ensures)
 

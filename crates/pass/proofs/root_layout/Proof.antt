@@ -9,11 +9,6 @@ use Rattle.pass.proofs.Scans.{channels-few}
 use Rattle.pass.proofs.Ahead.{bare-more}
 use Rattle.pass.proofs.root_layout.Statement.{statement}
 use Rattle.pass.proofs.root_layout.Tie as tie
-use Rattle.pass.proofs.root_layout.Reads as reads
-use Rattle.pass.proofs.root_layout.Lts as lts
-use Rattle.framing.proofs.channels_of.Reads as channels-of-reads
-use Rattle.layout.proofs.Layout.more.Reads as more-reads
-use Rattle.layout.proofs.Layout.none.Reads as none-reads
 
 abbrev Inv-loop : tie.InvT-loop
 Inv-loop channel n root l₀ i₀ l i = Summing channel (replicate channelLimit root) n i l
@@ -21,39 +16,30 @@ Inv-loop channel n root l₀ i₀ l i = Summing channel (replicate channelLimit 
 abbrev μ-loop : tie.MeasureT-loop
 μ-loop channel n root l₀ i₀ l i = n - i
 
--- src/lib.rt:311:13
 channels-of-requires : tie.Need-channels-of-requires Inv-loop μ-loop
 channels-of-requires c κs = search needs
 
--- src/lib.rt:311:13
 cast-n : tie.Need-cast-n Inv-loop μ-loop
 cast-n c = search needs
 
--- src/lib.rt:313:9
 none-requires : tie.Need-none-requires Inv-loop μ-loop
 none-requires c κs = search needs
 
--- src/lib.rt:315:5
 loop-holds : tie.Need-loop-holds Inv-loop μ-loop
 loop-holds c = summing-none _ (length-replicate channelLimit (c .before .before .before .args .st .root)) (rw (c .before .before .channels-of .ensures) (channels-few _ (c .before .before .before .pre))) (c .none .ensures)
 
--- src/lib.rt:316:9
 more-requires : tie.Need-more-requires Inv-loop μ-loop
 more-requires c κs = search needs
 
--- src/lib.rt:317:9
 add-i : tie.Need-add-i Inv-loop μ-loop
 add-i c = omega (arith, c .before .before .loop .inv .few)
 
--- src/lib.rt:315:5
 loop-less : tie.Need-loop-less Inv-loop μ-loop
 loop-less c = omega arith
 
--- src/lib.rt:315:5
 loop-again : tie.Need-loop-again Inv-loop μ-loop
 loop-again c = bare-more (c .before .before .loop .inv) _ (c .before .loop-test .taken) (c .more .ensures)
 
--- src/lib.rt:307:1
 returns : tie.Need-returns Inv-loop μ-loop
 returns c = summed-up (c .before .loop .inv) _ (c .before .before .before .before .channels-of .ensures) (c .loop-test .left)
 

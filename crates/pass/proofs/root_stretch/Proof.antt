@@ -6,20 +6,13 @@ use Rattle.stretch.specs.Stretch.{stretchOf}
 use borrow.Author.Needs.{needs}
 use Rattle.pass.proofs.root_stretch.Statement.{statement}
 use Rattle.pass.proofs.root_stretch.Tie as tie
-use Rattle.pass.proofs.root_stretch.Reads as reads
-use Rattle.pass.proofs.root_stretch.Lts as lts
-use Rattle.settings.proofs.Settings.default.Reads as default-reads
-use Rattle.stretch.proofs.along.Reads as along-reads
 
--- src/lib.rt:303:37
 default-requires : tie.Need-default-requires
 default-requires c κs = search needs
 
--- src/lib.rt:303:5
 along-requires : tie.Need-along-requires
 along-requires c κs = search needs
 
--- src/lib.rt:300:1
 returns : tie.Need-returns
 returns c =
     let a = c .before .before .before .args in

@@ -1,5 +1,5 @@
 -- Each turn is a law of the pass: what is left of the file, from the cursor behind the item and with what stands then, gives the verdict.
-use mathlib.Core.Path.{subst, _≡_, refl, sym, ap, _∙_}
+use mathlib.Core.Path.{_≡_, refl, sym, ap, _∙_}
 use native.Mathlib.Omega.{arith}
 use borrow.Author.Needs.{needs}
 use Prim.Native.Nat.{ℕ, _≤_, _<_, _+_, _-_}
@@ -15,26 +15,6 @@ use Rattle.pass.proofs.Stretches.{opened-group, opened-nothing, opened-
 use Rattle.pass.proofs.Ahead.{passing-from, passing-group}
 use Rattle.pass.proofs.scan_channels.Statement.{statement}
 use Rattle.pass.proofs.scan_channels.Tie as tie
-use Rattle.pass.proofs.scan_channels.Reads as reads
-use Rattle.pass.proofs.scan_channels.Lts as lts
-use Rattle.effects.proofs.item_effect.Reads as item-effect-reads
-use Rattle.effects.proofs.reach.Reads as reach-reads
-use Rattle.effects.proofs.standing_after.Reads as standing-after-reads
-use Rattle.framing.proofs.frame_of.Reads as frame-of-reads
-use Rattle.items.proofs.Cursor.renewed.Reads as renewed-reads
-use Rattle.items.proofs.next_item.Reads as next-item-reads
-use Rattle.layout.proofs.Layout.more.Reads as more-reads
-use Rattle.layout.proofs.Layout.none.Reads as none-reads
-use Rattle.pass.proofs.Met.scan.Reads as scan-reads
-use Rattle.pass.proofs.Met.with_frame.Reads as with-frame-reads
-use Rattle.pass.proofs.index.Reads as index-reads
-use Rattle.pass.proofs.moved.Reads as moved-reads
-use Rattle.pass.proofs.opened.Reads as opened-reads
-use Rattle.pass.proofs.refused_item.Reads as refused-item-reads
-use Rattle.pass.proofs.refused_scan.Reads as refused-scan-reads
-use Rattle.settings.proofs.Settings.table.Reads as table-reads
-use Rattle.settings.proofs.apply.Reads as apply-reads
-use Rattle.stretch.proofs.along.Reads as along-reads
 
 abbrev Inv-loop2 : tie.InvT-loop2
 Inv-loop2 s asked table₀ own₀ c st met root k table own = (k < 256) × Filling root own₀ table₀ own table
@@ -66,357 +46,269 @@ Inv-loop s asked table₀ own₀ c₀ st₀ met₀ table own c st met = Passing 
 abbrev μ-loop : tie.MeasureT-loop
 μ-loop s asked table₀ own₀ c₀ st₀ met₀ table own c st met = length s - c .at
 
--- src/lib.rt:327:21
 table-requires : tie.Need-table-requires Inv-loop2 μ-loop2 Inv-loop3 μ-loop3 Inv-loop4 μ-loop4 Inv-loop5 μ-loop5 Inv-loop μ-loop
 table-requires c κs = search needs
 
--- src/lib.rt:333:5
 loop-holds : tie.Need-loop-holds Inv-loop2 μ-loop2 Inv-loop3 μ-loop3 Inv-loop4 μ-loop4 Inv-loop5 μ-loop5 Inv-loop μ-loop
 loop-holds c = passing-from (c .table .ensures) (c .before .before .pre)
 
--- src/lib.rt:334:15
 next-item-requires : tie.Need-next-item-requires Inv-loop2 μ-loop2 Inv-loop3 μ-loop3 Inv-loop4 μ-loop4 Inv-loop5 μ-loop5 Inv-loop μ-loop
 next-item-requires c κs = search needs
 
--- src/lib.rt:336:17
 enum-told : tie.Need-enum-told Inv-loop2 μ-loop2 Inv-loop3 μ-loop3 Inv-loop4 μ-loop4 Inv-loop5 μ-loop5 Inv-loop μ-loop
 enum-told c = search needs
 
--- src/lib.rt:336:17
 scan-requires : tie.Need-scan-requires Inv-loop2 μ-loop2 Inv-loop3 μ-loop3 Inv-loop4 μ-loop4 Inv-loop5 μ-loop5 Inv-loop μ-loop
 scan-requires c κs = search needs
 
--- src/lib.rt:336:17
 returns : tie.Need-returns Inv-loop2 μ-loop2 Inv-loop3 μ-loop3 Inv-loop4 μ-loop4 Inv-loop5 μ-loop5 Inv-loop μ-loop
 returns c = c .scan .ensures ∙ scanned-end (c .before .before .before .before .loop .inv .pass) (c .before .before .before .next-item .ensures) (c .before .enum-told .given .1)
 
--- src/lib.rt:338:27
 enum-known-x : tie.Need-enum-known-x Inv-loop2 μ-loop2 Inv-loop3 μ-loop3 Inv-loop4 μ-loop4 Inv-loop5 μ-loop5 Inv-loop μ-loop
 enum-known-x c = search needs
 
--- src/lib.rt:339:17
 refused-scan-requires : tie.Need-refused-scan-requires Inv-loop2 μ-loop2 Inv-loop3 μ-loop3 Inv-loop4 μ-loop4 Inv-loop5 μ-loop5 Inv-loop μ-loop
 refused-scan-requires c κs = search needs
 
--- src/lib.rt:339:17
 returns-2 : tie.Need-returns-2 Inv-loop2 μ-loop2 Inv-loop3 μ-loop3 Inv-loop4 μ-loop4 Inv-loop5 μ-loop5 Inv-loop μ-loop
 returns-2 c = c .refused-scan .ensures ∙ scanned-fault (c .before .before .before .before .before .loop .inv .pass) _ (c .before .before .before .before .next-item .ensures) (c .before .before .x .given .1)
 
--- src/lib.rt:341:25
 enum-known-item : tie.Need-enum-known-item Inv-loop2 μ-loop2 Inv-loop3 μ-loop3 Inv-loop4 μ-loop4 Inv-loop5 μ-loop5 Inv-loop μ-loop
 enum-known-item c = search needs
 
--- src/lib.rt:342:17
 renewed-requires : tie.Need-renewed-requires Inv-loop2 μ-loop2 Inv-loop3 μ-loop3 Inv-loop4 μ-loop4 Inv-loop5 μ-loop5 Inv-loop μ-loop
 renewed-requires c κs = search needs
 
--- src/lib.rt:345:21
 opened-requires : tie.Need-opened-requires Inv-loop2 μ-loop2 Inv-loop3 μ-loop3 Inv-loop4 μ-loop4 Inv-loop5 μ-loop5 Inv-loop μ-loop
 opened-requires c κs = search needs
 
--- src/lib.rt:347:21
 loop2-holds : tie.Need-loop2-holds Inv-loop2 μ-loop2 Inv-loop3 μ-loop3 Inv-loop4 μ-loop4 Inv-loop5 μ-loop5 Inv-loop μ-loop
 loop2-holds c = (c .if1 .taken, filling-none (c .before .before .before .before .before .before .before .before .loop .inv .records))
 
--- src/lib.rt:348:25
 mul-table : tie.Need-mul-table Inv-loop2 μ-loop2 Inv-loop3 μ-loop3 Inv-loop4 μ-loop4 Inv-loop5 μ-loop5 Inv-loop μ-loop
 mul-table c = omega (arith, c .before .loop2 .inv .0, c .loop2-test .taken)
 
--- src/lib.rt:348:25
 array-set-from-table : tie.Need-array-set-from-table Inv-loop2 μ-loop2 Inv-loop3 μ-loop3 Inv-loop4 μ-loop4 Inv-loop5 μ-loop5 Inv-loop μ-loop
 array-set-from-table c = omega (arith, c .before .loop2 .inv .0, c .loop2-test .taken)
 
--- src/lib.rt:349:25
 add-own : tie.Need-add-own Inv-loop2 μ-loop2 Inv-loop3 μ-loop3 Inv-loop4 μ-loop4 Inv-loop5 μ-loop5 Inv-loop μ-loop
 add-own c = omega (arith, c .before .loop2 .inv .0, c .loop2-test .taken)
 
--- src/lib.rt:347:21
 loop2-less : tie.Need-loop2-less Inv-loop2 μ-loop2 Inv-loop3 μ-loop3 Inv-loop4 μ-loop4 Inv-loop5 μ-loop5 Inv-loop μ-loop
 loop2-less c = omega arith
 
--- src/lib.rt:347:21
 loop2-again : tie.Need-loop2-again Inv-loop2 μ-loop2 Inv-loop3 μ-loop3 Inv-loop4 μ-loop4 Inv-loop5 μ-loop5 Inv-loop μ-loop
 loop2-again c = (c .before .loop2 .inv .0, filling-more (c .before .loop2 .inv .1) (omega (arith, c .before .loop2 .inv .0, c .loop2-test .taken)))
 
--- src/lib.rt:351:71
 mul-along : tie.Need-mul-along Inv-loop2 μ-loop2 Inv-loop3 μ-loop3 Inv-loop4 μ-loop4 Inv-loop5 μ-loop5 Inv-loop μ-loop
 mul-along c = omega (arith, c .before .before .if1 .taken)
 
--- src/lib.rt:351:71
 array-copy-out-along : tie.Need-array-copy-out-along Inv-loop2 μ-loop2 Inv-loop3 μ-loop3 Inv-loop4 μ-loop4 Inv-loop5 μ-loop5 Inv-loop μ-loop
 array-copy-out-along c = search needs
 
--- src/lib.rt:351:25
 along-requires : tie.Need-along-requires Inv-loop2 μ-loop2 Inv-loop3 μ-loop3 Inv-loop4 μ-loop4 Inv-loop5 μ-loop5 Inv-loop μ-loop
 along-requires c κs = search needs
 
--- src/lib.rt:353:21
 mul-table-2 : tie.Need-mul-table-2 Inv-loop2 μ-loop2 Inv-loop3 μ-loop3 Inv-loop4 μ-loop4 Inv-loop5 μ-loop5 Inv-loop μ-loop
 mul-table-2 c = omega (arith, c .before .before .before .before .before .if1 .taken)
 
--- src/lib.rt:353:21
 array-set-from-table-2 : tie.Need-array-set-from-table-2 Inv-loop2 μ-loop2 Inv-loop3 μ-loop3 Inv-loop4 μ-loop4 Inv-loop5 μ-loop5 Inv-loop μ-loop
 array-set-from-table-2 c = omega (arith, c .before .before .before .before .before .if1 .taken)
 
--- src/lib.rt:354:21
 moved-requires : tie.Need-moved-requires Inv-loop2 μ-loop2 Inv-loop3 μ-loop3 Inv-loop4 μ-loop4 Inv-loop5 μ-loop5 Inv-loop μ-loop
 moved-requires c κs = search needs
 
--- src/lib.rt:333:5
 loop-less : tie.Need-loop-less Inv-loop2 μ-loop2 Inv-loop3 μ-loop3 Inv-loop4 μ-loop4 Inv-loop5 μ-loop5 Inv-loop μ-loop
 loop-less c = omega (arith, next-later _ _ (c .before .before .before .before .before .before .before .before .before .before .before .before .before .next-item .ensures) (found-as (c .before .before .before .before .before .before .before .before .before .before .before .item .given .1) (c .before .before .before .before .before .before .before .before .before .renewed .ensures)), stretch-on _ _ _ _ _ (c .before .before .along .ensures), ap (λ (d : Cursor). d .at) (c .moved .ensures))
 
--- src/lib.rt:333:5
 loop-again : tie.Need-loop-again Inv-loop2 μ-loop2 Inv-loop3 μ-loop3 Inv-loop4 μ-loop4 Inv-loop5 μ-loop5 Inv-loop μ-loop
 loop-again c = passing-at (passing-group (passing-filled (passing-goes (c .before .before .before .before .before .before .before .before .before .before .before .before .before .before .loop .inv) (c .before .before .before .before .before .before .before .before .before .before .before .before .before .next-item .ensures) (found-as (c .before .before .before .before .before .before .before .before .before .before .before .item .given .1) (c .before .before .before .before .before .before .before .before .before .renewed .ensures)) (c .before .before .before .before .before .before .before .before .before .before .before .before .before .before .loop .inv .records) (c .before .before .before .before .before .before .before .before .before .before .before .before .before .before .loop .inv .pass .counted) (does-nothing (c .before .before .before .before .before .before .before .before .before .before .before .before .before .before .loop .inv .records) _ _ _ _ (sym (opened-nothing _ _ (opened-group _ _ (c .before .before .before .before .before .before .before .opened .ensures) (c .before .before .before .before .before .before .if1 .taken)))) refl)) (c .before .before .before .before .before .loop2 .inv .1)) (c .before .before .before .before .before .before .before .opened .result) (group-entered _ _ (c .before .before .before .before .before .before .before .before .before .before .before .before .before .next-item .ensures) (found-as (c .before .before .before .before .before .before .before .before .before .before .before .item .given .1) (c .before .before .before .before .before .before .before .before .before .renewed .ensures)) (opened-group _ _ (c .before .before .before .before .before .before .before .opened .ensures) (c .before .before .before .before .before .before .if1 .taken))) (c .before .before .before .before .loop2-test .left) (opened-counted (opened-group _ _ (c .before .before .before .before .before .before .before .opened .ensures) (c .before .before .before .before .before .before .if1 .taken))) (c .before .before .along .ensures)) (c .moved .ensures)
 
--- src/lib.rt:357:21
 item-effect-requires : tie.Need-item-effect-requires Inv-loop2 μ-loop2 Inv-loop3 μ-loop3 Inv-loop4 μ-loop4 Inv-loop5 μ-loop5 Inv-loop μ-loop
 item-effect-requires c κs = search needs
 
--- src/lib.rt:358:21
 reach-requires : tie.Need-reach-requires Inv-loop2 μ-loop2 Inv-loop3 μ-loop3 Inv-loop4 μ-loop4 Inv-loop5 μ-loop5 Inv-loop μ-loop
 reach-requires c κs = search needs
 
--- src/lib.rt:359:17
 loop3-holds : tie.Need-loop3-holds Inv-loop2 μ-loop2 Inv-loop3 μ-loop3 Inv-loop4 μ-loop4 Inv-loop5 μ-loop5 Inv-loop μ-loop
 loop3-holds c = (rw (c .reach .ensures) (reach-few _ _), filling-none (c .before .before .before .before .before .before .before .before .before .before .loop .inv .records))
 
--- src/lib.rt:360:21
 mul-table-3 : tie.Need-mul-table-3 Inv-loop2 μ-loop2 Inv-loop3 μ-loop3 Inv-loop4 μ-loop4 Inv-loop5 μ-loop5 Inv-loop μ-loop
 mul-table-3 c = omega (arith, c .before .loop3 .inv .0)
 
--- src/lib.rt:360:21
 array-set-from-table-3 : tie.Need-array-set-from-table-3 Inv-loop2 μ-loop2 Inv-loop3 μ-loop3 Inv-loop4 μ-loop4 Inv-loop5 μ-loop5 Inv-loop μ-loop
 array-set-from-table-3 c = omega (arith, c .before .loop3 .inv .0)
 
--- src/lib.rt:361:21
 add-own-2 : tie.Need-add-own-2 Inv-loop2 μ-loop2 Inv-loop3 μ-loop3 Inv-loop4 μ-loop4 Inv-loop5 μ-loop5 Inv-loop μ-loop
 add-own-2 c = omega (arith, c .before .loop3 .inv .0)
 
--- src/lib.rt:359:17
 loop3-less : tie.Need-loop3-less Inv-loop2 μ-loop2 Inv-loop3 μ-loop3 Inv-loop4 μ-loop4 Inv-loop5 μ-loop5 Inv-loop μ-loop
 loop3-less c = omega arith
 
--- src/lib.rt:359:17
 loop3-again : tie.Need-loop3-again Inv-loop2 μ-loop2 Inv-loop3 μ-loop3 Inv-loop4 μ-loop4 Inv-loop5 μ-loop5 Inv-loop μ-loop
 loop3-again c = (c .before .loop3 .inv .0, filling-more (c .before .loop3 .inv .1) (omega (arith, c .before .loop3 .inv .0, c .loop3-test .taken)))
 
--- src/lib.rt:365:25
 enum-told-2 : tie.Need-enum-told-2 Inv-loop2 μ-loop2 Inv-loop3 μ-loop3 Inv-loop4 μ-loop4 Inv-loop5 μ-loop5 Inv-loop μ-loop
 enum-told-2 c = search needs
 
--- src/lib.rt:366:25
 standing-after-requires : tie.Need-standing-after-requires Inv-loop2 μ-loop2 Inv-loop3 μ-loop3 Inv-loop4 μ-loop4 Inv-loop5 μ-loop5 Inv-loop μ-loop
 standing-after-requires c κs = search needs
 
--- src/lib.rt:333:5
 loop-less-2 : tie.Need-loop-less-2 Inv-loop2 μ-loop2 Inv-loop3 μ-loop3 Inv-loop4 μ-loop4 Inv-loop5 μ-loop5 Inv-loop μ-loop
 loop-less-2 c = omega (arith, next-later _ _ (c .before .before .before .before .before .before .before .before .before .before .before .before .before .before .next-item .ensures) (found-as (c .before .before .before .before .before .before .before .before .before .before .before .before .item .given .1) (c .before .before .before .before .before .before .before .before .before .before .renewed .ensures)))
 
--- src/lib.rt:333:5
 loop-again-2 : tie.Need-loop-again-2 Inv-loop2 μ-loop2 Inv-loop3 μ-loop3 Inv-loop4 μ-loop4 Inv-loop5 μ-loop5 Inv-loop μ-loop
 loop-again-2 c = passing-stands (passing-filled (c .before .before .before .before .before .before .before .before .before .before .before .before .before .before .before .loop .inv) (c .before .before .before .before .loop3 .inv .1)) (c .before .before .before .before .before .before .before .before .before .before .before .before .before .before .next-item .ensures) (found-as (c .before .before .before .before .before .before .before .before .before .before .before .before .item .given .1) (c .before .before .before .before .before .before .before .before .before .before .renewed .ensures)) (record { low = omega arith; full = (c .before .before .before .before .loop3 .inv .1 .records) .full }) (c .before .before .before .before .before .before .item-effect .ensures) (c .standing-after .ensures) (does-count (c .before .before .before .before .loop3 .inv .1 .records) _ _ _ _ (c .before .before .before .before .before .before .item-effect .ensures) (c .before .enum-told2 .given .1) (c .standing-after .ensures))
 
--- src/lib.rt:368:33
 enum-known-effect : tie.Need-enum-known-effect Inv-loop2 μ-loop2 Inv-loop3 μ-loop3 Inv-loop4 μ-loop4 Inv-loop5 μ-loop5 Inv-loop μ-loop
 enum-known-effect c = search needs
 
--- src/lib.rt:370:25
 loop4-holds : tie.Need-loop4-holds Inv-loop2 μ-loop2 Inv-loop3 μ-loop3 Inv-loop4 μ-loop4 Inv-loop5 μ-loop5 Inv-loop μ-loop
 loop4-holds c = (c .before .before .before .before .loop3 .inv .1 .records .low, c .before .before .before .before .loop3 .inv .1 .records .full, omega arith, refl)
 
--- src/lib.rt:371:56
 mul-apply : tie.Need-mul-apply Inv-loop2 μ-loop2 Inv-loop3 μ-loop3 Inv-loop4 μ-loop4 Inv-loop5 μ-loop5 Inv-loop μ-loop
 mul-apply c = omega (arith, c .before .loop4 .inv .0)
 
--- src/lib.rt:371:56
 array-copy-out-apply : tie.Need-array-copy-out-apply Inv-loop2 μ-loop2 Inv-loop3 μ-loop3 Inv-loop4 μ-loop4 Inv-loop5 μ-loop5 Inv-loop μ-loop
 array-copy-out-apply c = search needs
 
--- src/lib.rt:371:40
 apply-requires : tie.Need-apply-requires Inv-loop2 μ-loop2 Inv-loop3 μ-loop3 Inv-loop4 μ-loop4 Inv-loop5 μ-loop5 Inv-loop μ-loop
 apply-requires c κs = search needs
 
--- src/lib.rt:371:29
 mul-table-4 : tie.Need-mul-table-4 Inv-loop2 μ-loop2 Inv-loop3 μ-loop3 Inv-loop4 μ-loop4 Inv-loop5 μ-loop5 Inv-loop μ-loop
 mul-table-4 c = omega (arith, c .before .before .before .loop4 .inv .0)
 
--- src/lib.rt:371:29
 array-set-from-table-4 : tie.Need-array-set-from-table-4 Inv-loop2 μ-loop2 Inv-loop3 μ-loop3 Inv-loop4 μ-loop4 Inv-loop5 μ-loop5 Inv-loop μ-loop
 array-set-from-table-4 c = omega (arith, c .before .before .before .loop4 .inv .0)
 
--- src/lib.rt:372:29
 add-i : tie.Need-add-i Inv-loop2 μ-loop2 Inv-loop3 μ-loop3 Inv-loop4 μ-loop4 Inv-loop5 μ-loop5 Inv-loop μ-loop
 add-i c = omega (arith, c .before .before .before .loop4 .inv .0)
 
--- src/lib.rt:370:25
 loop4-less : tie.Need-loop4-less Inv-loop2 μ-loop2 Inv-loop3 μ-loop3 Inv-loop4 μ-loop4 Inv-loop5 μ-loop5 Inv-loop μ-loop
 loop4-less c = omega arith
 
--- src/lib.rt:370:25
 loop4-again : tie.Need-loop4-again Inv-loop2 μ-loop2 Inv-loop3 μ-loop3 Inv-loop4 μ-loop4 Inv-loop5 μ-loop5 Inv-loop μ-loop
 loop4-again c = (c .before .before .before .loop4 .inv .0, c .before .before .before .loop4 .inv .1, omega arith, mapped-put _ zeroSettings _ _ _ _ _ (c .before .before .before .loop4 .inv .1) (omega (arith, c .before .before .before .loop4 .inv .0, c .before .before .loop4-test .taken)) (c .before .before .before .loop4 .inv .3) (c .apply .ensures))
 
--- src/lib.rt:374:25
 standing-after-requires-2 : tie.Need-standing-after-requires-2 Inv-loop2 μ-loop2 Inv-loop3 μ-loop3 Inv-loop4 μ-loop4 Inv-loop5 μ-loop5 Inv-loop μ-loop
 standing-after-requires-2 c κs = search needs
 
--- src/lib.rt:333:5
 loop-less-3 : tie.Need-loop-less-3 Inv-loop2 μ-loop2 Inv-loop3 μ-loop3 Inv-loop4 μ-loop4 Inv-loop5 μ-loop5 Inv-loop μ-loop
 loop-less-3 c = omega (arith, next-later _ _ (c .before .before .before .before .before .before .before .before .before .before .before .before .before .before .before .before .before .next-item .ensures) (found-as (c .before .before .before .before .before .before .before .before .before .before .before .before .before .before .before .item .given .1) (c .before .before .before .before .before .before .before .before .before .before .before .before .before .renewed .ensures)))
 
--- src/lib.rt:333:5
 loop-again-3 : tie.Need-loop-again-3 Inv-loop2 μ-loop2 Inv-loop3 μ-loop3 Inv-loop4 μ-loop4 Inv-loop5 μ-loop5 Inv-loop μ-loop
 loop-again-3 c = passing-stands (passing-filled (c .before .before .before .before .before .before .before .before .before .before .before .before .before .before .before .before .before .before .loop .inv) (c .before .before .before .before .before .before .before .loop3 .inv .1)) (c .before .before .before .before .before .before .before .before .before .before .before .before .before .before .before .before .before .next-item .ensures) (found-as (c .before .before .before .before .before .before .before .before .before .before .before .before .before .before .before .item .given .1) (c .before .before .before .before .before .before .before .before .before .before .before .before .before .renewed .ensures)) (records-mapped (c .before .before .before .before .before .before .before .loop3 .inv .1 .records) (c .before .before .before .before .effect .given .0 .0) (c .before .before .loop4 .i) (c .before .before .loop4 .inv .3)) (sym (c .before .before .before .before .effect .given .1) ∙ c .before .before .before .before .before .before .before .before .before .item-effect .ensures) (c .standing-after2 .ensures) (does-all (c .before .before .before .before .before .before .before .loop3 .inv .1 .records) _ _ _ _ (c .before .before .before .before .before .before .before .before .before .item-effect .ensures) (c .before .before .before .before .effect .given .1) (c .standing-after2 .ensures) (mapped-own (c .before .before .before .before .before .before .before .loop3 .inv .1 .records) (c .before .before .before .before .effect .given .0 .0) (c .before .before .loop4 .i) (c .before .before .loop4 .inv .3) (c .before .before .loop4 .inv .2) (c .before .loop4-test .left)))
 
--- src/lib.rt:376:33
 enum-known-effect-2 : tie.Need-enum-known-effect-2 Inv-loop2 μ-loop2 Inv-loop3 μ-loop3 Inv-loop4 μ-loop4 Inv-loop5 μ-loop5 Inv-loop μ-loop
 enum-known-effect-2 c = search needs
 
--- src/lib.rt:377:33
 cast-k : tie.Need-cast-k Inv-loop2 μ-loop2 Inv-loop3 μ-loop3 Inv-loop4 μ-loop4 Inv-loop5 μ-loop5 Inv-loop μ-loop
 cast-k c = search needs
 
--- src/lib.rt:379:56
 mul-apply-2 : tie.Need-mul-apply-2 Inv-loop2 μ-loop2 Inv-loop3 μ-loop3 Inv-loop4 μ-loop4 Inv-loop5 μ-loop5 Inv-loop μ-loop
 mul-apply-2 c = search needs
 
--- src/lib.rt:379:56
 array-copy-out-apply-2 : tie.Need-array-copy-out-apply-2 Inv-loop2 μ-loop2 Inv-loop3 μ-loop3 Inv-loop4 μ-loop4 Inv-loop5 μ-loop5 Inv-loop μ-loop
 array-copy-out-apply-2 c = search needs
 
--- src/lib.rt:379:40
 apply-requires-2 : tie.Need-apply-requires-2 Inv-loop2 μ-loop2 Inv-loop3 μ-loop3 Inv-loop4 μ-loop4 Inv-loop5 μ-loop5 Inv-loop μ-loop
 apply-requires-2 c κs = search needs
 
--- src/lib.rt:379:29
 mul-table-5 : tie.Need-mul-table-5 Inv-loop2 μ-loop2 Inv-loop3 μ-loop3 Inv-loop4 μ-loop4 Inv-loop5 μ-loop5 Inv-loop μ-loop
 mul-table-5 c = search needs
 
--- src/lib.rt:379:29
 array-set-from-table-5 : tie.Need-array-set-from-table-5 Inv-loop2 μ-loop2 Inv-loop3 μ-loop3 Inv-loop4 μ-loop4 Inv-loop5 μ-loop5 Inv-loop μ-loop
 array-set-from-table-5 c = search needs
 
--- src/lib.rt:333:5
 loop-less-4 : tie.Need-loop-less-4 Inv-loop2 μ-loop2 Inv-loop3 μ-loop3 Inv-loop4 μ-loop4 Inv-loop5 μ-loop5 Inv-loop μ-loop
 loop-less-4 c = omega (arith, next-later _ _ (c .before .before .before .before .before .before .before .before .before .before .before .before .before .before .before .before .before .next-item .ensures) (found-as (c .before .before .before .before .before .before .before .before .before .before .before .before .before .before .before .item .given .1) (c .before .before .before .before .before .before .before .before .before .before .before .before .before .renewed .ensures)))
 
--- src/lib.rt:333:5
 loop-again-4 : tie.Need-loop-again-4 Inv-loop2 μ-loop2 Inv-loop3 μ-loop3 Inv-loop4 μ-loop4 Inv-loop5 μ-loop5 Inv-loop μ-loop
 loop-again-4 c = passing-goes (passing-filled (c .before .before .before .before .before .before .before .before .before .before .before .before .before .before .before .before .before .before .loop .inv) (c .before .before .before .before .before .before .before .loop3 .inv .1)) (c .before .before .before .before .before .before .before .before .before .before .before .before .before .before .before .before .before .next-item .ensures) (found-as (c .before .before .before .before .before .before .before .before .before .before .before .before .before .before .before .item .given .1) (c .before .before .before .before .before .before .before .before .before .before .before .before .before .renewed .ensures)) (records-set (c .before .before .before .before .before .before .before .loop3 .inv .1 .records) _ _) (c .before .before .before .before .before .before .before .before .before .before .before .before .before .before .before .before .before .before .loop .inv .pass .counted) (does-one (c .before .before .before .before .before .before .before .loop3 .inv .1 .records) _ _ _ _ (c .before .before .before .before .before .before .before .before .before .item-effect .ensures) (c .before .before .before .before .effect2 .given .1) (reached-one _ (c .before .before .before .before .before .before .before .before .reach .ensures) (c .before .before .before .before .effect2 .given .1) (c .before .before .before .before .before .before .loop3-test .left) (c .before .before .if2 .taken)) (c .apply2 .ensures))
 
--- src/lib.rt:333:5
 loop-less-5 : tie.Need-loop-less-5 Inv-loop2 μ-loop2 Inv-loop3 μ-loop3 Inv-loop4 μ-loop4 Inv-loop5 μ-loop5 Inv-loop μ-loop
 loop-less-5 c = omega (arith, next-later _ _ (c .before .before .before .before .before .before .before .before .before .before .before .before .before .before .before .next-item .ensures) (found-as (c .before .before .before .before .before .before .before .before .before .before .before .before .before .item .given .1) (c .before .before .before .before .before .before .before .before .before .before .before .renewed .ensures)))
 
--- src/lib.rt:333:5
 loop-again-5 : tie.Need-loop-again-5 Inv-loop2 μ-loop2 Inv-loop3 μ-loop3 Inv-loop4 μ-loop4 Inv-loop5 μ-loop5 Inv-loop μ-loop
 loop-again-5 c = passing-goes (passing-filled (c .before .before .before .before .before .before .before .before .before .before .before .before .before .before .before .before .loop .inv) (c .before .before .before .before .before .loop3 .inv .1)) (c .before .before .before .before .before .before .before .before .before .before .before .before .before .before .before .next-item .ensures) (found-as (c .before .before .before .before .before .before .before .before .before .before .before .before .before .item .given .1) (c .before .before .before .before .before .before .before .before .before .before .before .renewed .ensures)) (c .before .before .before .before .before .loop3 .inv .1 .records) (c .before .before .before .before .before .before .before .before .before .before .before .before .before .before .before .before .loop .inv .pass .counted) (does-outside (c .before .before .before .before .before .loop3 .inv .1 .records) _ _ _ _ (c .before .before .before .before .before .before .before .item-effect .ensures) (c .before .before .effect2 .given .1) (c .if2 .left))
 
--- src/lib.rt:382:37
 enum-known-effect-3 : tie.Need-enum-known-effect-3 Inv-loop2 μ-loop2 Inv-loop3 μ-loop3 Inv-loop4 μ-loop4 Inv-loop5 μ-loop5 Inv-loop μ-loop
 enum-known-effect-3 c = search needs
 
--- src/lib.rt:383:29
 none-requires : tie.Need-none-requires Inv-loop2 μ-loop2 Inv-loop3 μ-loop3 Inv-loop4 μ-loop4 Inv-loop5 μ-loop5 Inv-loop μ-loop
 none-requires c κs = search needs
 
--- src/lib.rt:385:25
 loop5-holds : tie.Need-loop5-holds Inv-loop2 μ-loop2 Inv-loop3 μ-loop3 Inv-loop4 μ-loop4 Inv-loop5 μ-loop5 Inv-loop μ-loop
 loop5-holds c = summing-none _ (c .before .before .before .before .before .loop3 .inv .1 .records .full) (c .before .before .before .before .before .loop3 .inv .0) (c .none .ensures)
 
--- src/lib.rt:386:58
 mul-more : tie.Need-mul-more Inv-loop2 μ-loop2 Inv-loop3 μ-loop3 Inv-loop4 μ-loop4 Inv-loop5 μ-loop5 Inv-loop μ-loop
 mul-more c = omega (arith, c .before .loop5 .inv .few)
 
--- src/lib.rt:386:58
 array-copy-out-more : tie.Need-array-copy-out-more Inv-loop2 μ-loop2 Inv-loop3 μ-loop3 Inv-loop4 μ-loop4 Inv-loop5 μ-loop5 Inv-loop μ-loop
 array-copy-out-more c = search needs
 
--- src/lib.rt:386:29
 more-requires : tie.Need-more-requires Inv-loop2 μ-loop2 Inv-loop3 μ-loop3 Inv-loop4 μ-loop4 Inv-loop5 μ-loop5 Inv-loop μ-loop
 more-requires c κs = search needs
 
--- src/lib.rt:387:29
 add-i-2 : tie.Need-add-i-2 Inv-loop2 μ-loop2 Inv-loop3 μ-loop3 Inv-loop4 μ-loop4 Inv-loop5 μ-loop5 Inv-loop μ-loop
 add-i-2 c = omega (arith, c .before .before .before .loop5 .inv .few)
 
--- src/lib.rt:385:25
 loop5-less : tie.Need-loop5-less Inv-loop2 μ-loop2 Inv-loop3 μ-loop3 Inv-loop4 μ-loop4 Inv-loop5 μ-loop5 Inv-loop μ-loop
 loop5-less c = omega arith
 
--- src/lib.rt:385:25
 loop5-again : tie.Need-loop5-again Inv-loop2 μ-loop2 Inv-loop3 μ-loop3 Inv-loop4 μ-loop4 Inv-loop5 μ-loop5 Inv-loop μ-loop
 loop5-again c = summing-more (c .before .before .before .loop5 .inv) _ (c .before .before .loop5-test .taken) (c .more .ensures)
 
--- src/lib.rt:389:31
 frame-of-requires : tie.Need-frame-of-requires Inv-loop2 μ-loop2 Inv-loop3 μ-loop3 Inv-loop4 μ-loop4 Inv-loop5 μ-loop5 Inv-loop μ-loop
 frame-of-requires c κs = search needs
 
--- src/lib.rt:390:45
 enum-known-number : tie.Need-enum-known-number Inv-loop2 μ-loop2 Inv-loop3 μ-loop3 Inv-loop4 μ-loop4 Inv-loop5 μ-loop5 Inv-loop μ-loop
 enum-known-number c = search needs
 
--- src/lib.rt:391:33
 refused-item-requires : tie.Need-refused-item-requires Inv-loop2 μ-loop2 Inv-loop3 μ-loop3 Inv-loop4 μ-loop4 Inv-loop5 μ-loop5 Inv-loop μ-loop
 refused-item-requires c κs = search needs
 
--- src/lib.rt:391:33
 returns-3 : tie.Need-returns-3 Inv-loop2 μ-loop2 Inv-loop3 μ-loop3 Inv-loop4 μ-loop4 Inv-loop5 μ-loop5 Inv-loop μ-loop
 unfolding withFrame
 returns-3 c = c .refused-item .ensures ∙ scanned-refuses ((passing-filled (c .before .before .before .before .before .before .before .before .before .before .before .before .before .before .before .before .before .before .before .before .before .before .before .loop .inv) (c .before .before .before .before .before .before .before .before .before .before .before .before .loop3 .inv .1)) .pass) _ _ (c .before .before .before .before .before .before .before .before .before .before .before .before .before .before .before .before .before .before .before .before .before .before .next-item .ensures) (found-as (c .before .before .before .before .before .before .before .before .before .before .before .before .before .before .before .before .before .before .before .before .item .given .1) (c .before .before .before .before .before .before .before .before .before .before .before .before .before .before .before .before .before .before .renewed .ensures)) refl (passing-carried (passing-filled (c .before .before .before .before .before .before .before .before .before .before .before .before .before .before .before .before .before .before .before .before .before .before .before .loop .inv) (c .before .before .before .before .before .before .before .before .before .before .before .before .loop3 .inv .1)) _ (c .before .before .before .before .before .before .loop5 .l) refl (summed-up (c .before .before .before .before .before .before .loop5 .inv) _ (reached-count _ (c .before .before .before .before .before .before .before .before .before .before .before .before .before .reach .ensures) (c .before .before .before .before .before .before .before .before .before .effect3 .given .1) (c .before .before .before .before .before .before .before .before .before .before .before .before .before .before .before .before .before .before .before .before .before .before .before .loop .inv .pass .counted) refl) (c .before .before .before .before .before .loop5-test .left)) (reached-frame _ (c .before .before .before .before .before .before .before .before .before .before .before .before .before .reach .ensures) (c .before .before .before .before .before .before .before .before .before .effect3 .given .1) (c .before .before .before .before .before .before .before .before .before .before .before .loop3-test .left) (c .before .before .before .before .before .before .before .before .before .before .before .before .before .before .before .before .before .before .before .before .before .before .before .loop .inv .pass .counted) refl) _ _ _ (c .before .before .before .before .before .before .before .before .before .before .before .before .before .before .item-effect .ensures) (c .before .before .before .before .before .before .before .before .before .effect3 .given .1) (c .before .before .before .before .frame-of .ensures) (c .before .before .number .given .1))
 
--- src/lib.rt:393:43
 enum-known-sequences : tie.Need-enum-known-sequences Inv-loop2 μ-loop2 Inv-loop3 μ-loop3 Inv-loop4 μ-loop4 Inv-loop5 μ-loop5 Inv-loop μ-loop
 enum-known-sequences c = search needs
 
--- src/lib.rt:394:37
 index-requires : tie.Need-index-requires Inv-loop2 μ-loop2 Inv-loop3 μ-loop3 Inv-loop4 μ-loop4 Inv-loop5 μ-loop5 Inv-loop μ-loop
 index-requires c κs = search needs
 
--- src/lib.rt:395:86
 mul-with-frame : tie.Need-mul-with-frame Inv-loop2 μ-loop2 Inv-loop3 μ-loop3 Inv-loop4 μ-loop4 Inv-loop5 μ-loop5 Inv-loop μ-loop
 mul-with-frame c = search needs
 
--- src/lib.rt:395:86
 array-copy-out-with-frame : tie.Need-array-copy-out-with-frame Inv-loop2 μ-loop2 Inv-loop3 μ-loop3 Inv-loop4 μ-loop4 Inv-loop5 μ-loop5 Inv-loop μ-loop
 array-copy-out-with-frame c = search needs
 
--- src/lib.rt:395:33
 with-frame-requires : tie.Need-with-frame-requires Inv-loop2 μ-loop2 Inv-loop3 μ-loop3 Inv-loop4 μ-loop4 Inv-loop5 μ-loop5 Inv-loop μ-loop
 with-frame-requires c κs = met-room (passing-filled (c .before .before .before .before .before .before .before .before .before .before .before .before .before .before .before .before .before .before .before .before .before .before .before .before .loop .inv) (c .before .before .before .before .before .before .before .before .before .before .before .before .before .loop3 .inv .1)) (c .before .before .before .before .before .before .before .loop5 .l) (summed-up (c .before .before .before .before .before .before .before .loop5 .inv) _ (reached-count _ (c .before .before .before .before .before .before .before .before .before .before .before .before .before .before .reach .ensures) (c .before .before .before .before .before .before .before .before .before .before .effect3 .given .1) (c .before .before .before .before .before .before .before .before .before .before .before .before .before .before .before .before .before .before .before .before .before .before .before .before .loop .inv .pass .counted) refl) (c .before .before .before .before .before .before .loop5-test .left)) (reached-frame _ (c .before .before .before .before .before .before .before .before .before .before .before .before .before .before .reach .ensures) (c .before .before .before .before .before .before .before .before .before .before .effect3 .given .1) (c .before .before .before .before .before .before .before .before .before .before .before .before .loop3-test .left) (c .before .before .before .before .before .before .before .before .before .before .before .before .before .before .before .before .before .before .before .before .before .before .before .before .loop .inv .pass .counted) refl) (c .before .before .before .before .before .before .before .before .before .before .effect3 .given .0 .1 .0) (c .before .before .before .before .before .frame-of .ensures) (c .before .before .before .sequences .given .1)
 
--- src/lib.rt:333:5
 loop-less-6 : tie.Need-loop-less-6 Inv-loop2 μ-loop2 Inv-loop3 μ-loop3 Inv-loop4 μ-loop4 Inv-loop5 μ-loop5 Inv-loop μ-loop
 loop-less-6 c = omega (arith, next-later _ _ (c .before .before .before .before .before .before .before .before .before .before .before .before .before .before .before .before .before .before .before .before .before .before .before .before .next-item .ensures) (found-as (c .before .before .before .before .before .before .before .before .before .before .before .before .before .before .before .before .before .before .before .before .before .before .item .given .1) (c .before .before .before .before .before .before .before .before .before .before .before .before .before .before .before .before .before .before .before .before .renewed .ensures)))
 
--- src/lib.rt:333:5
 loop-again-6 : tie.Need-loop-again-6 Inv-loop2 μ-loop2 Inv-loop3 μ-loop3 Inv-loop4 μ-loop4 Inv-loop5 μ-loop5 Inv-loop μ-loop
 loop-again-6 c = passing-met (passing-filled (c .before .before .before .before .before .before .before .before .before .before .before .before .before .before .before .before .before .before .before .before .before .before .before .before .before .loop .inv) (c .before .before .before .before .before .before .before .before .before .before .before .before .before .before .loop3 .inv .1)) (c .before .before .before .before .before .before .before .before .loop5 .l) (summed-up (c .before .before .before .before .before .before .before .before .loop5 .inv) _ (reached-count _ (c .before .before .before .before .before .before .before .before .before .before .before .before .before .before .before .reach .ensures) (c .before .before .before .before .before .before .before .before .before .before .before .effect3 .given .1) (c .before .before .before .before .before .before .before .before .before .before .before .before .before .before .before .before .before .before .before .before .before .before .before .before .before .loop .inv .pass .counted) refl) (c .before .before .before .before .before .before .before .loop5-test .left)) (reached-frame _ (c .before .before .before .before .before .before .before .before .before .before .before .before .before .before .before .reach .ensures) (c .before .before .before .before .before .before .before .before .before .before .before .effect3 .given .1) (c .before .before .before .before .before .before .before .before .before .before .before .before .before .loop3-test .left) (c .before .before .before .before .before .before .before .before .before .before .before .before .before .before .before .before .before .before .before .before .before .before .before .before .before .loop .inv .pass .counted) refl) (c .before .before .before .before .before .before .before .before .before .before .before .effect3 .given .0 .1 .0) (c .before .before .before .before .before .before .frame-of .ensures) (c .before .before .before .before .sequences .given .1) (c .before .before .before .before .before .before .before .before .before .before .before .before .before .before .before .before .before .before .before .before .before .before .before .before .next-item .ensures) (found-as (c .before .before .before .before .before .before .before .before .before .before .before .before .before .before .before .before .before .before .before .before .before .before .item .given .1) (c .before .before .before .before .before .before .before .before .before .before .before .before .before .before .before .before .before .before .before .before .renewed .ensures)) (c .before .before .before .before .before .before .before .before .before .before .before .before .before .before .before .before .item-effect .ensures) (c .before .before .before .before .before .before .before .before .before .before .before .effect3 .given .1) (ap (λ (k : ℕ). getD (c .before .before .before .before .before .before .before .before .before .before .before .before .before .before .loop3 .table) k zeroSettings) (c .before .before .index .ensures)) (c .with-frame .ensures)
 
--- src/lib.rt:400:37
 enum-known-effect-4 : tie.Need-enum-known-effect-4 Inv-loop2 μ-loop2 Inv-loop3 μ-loop3 Inv-loop4 μ-loop4 Inv-loop5 μ-loop5 Inv-loop μ-loop
 enum-known-effect-4 c = search needs
 
--- src/lib.rt:401:25
 refused-item-requires-2 : tie.Need-refused-item-requires-2 Inv-loop2 μ-loop2 Inv-loop3 μ-loop3 Inv-loop4 μ-loop4 Inv-loop5 μ-loop5 Inv-loop μ-loop
 refused-item-requires-2 c κs = search needs
 
--- src/lib.rt:401:25
 returns-4 : tie.Need-returns-4 Inv-loop2 μ-loop2 Inv-loop3 μ-loop3 Inv-loop4 μ-loop4 Inv-loop5 μ-loop5 Inv-loop μ-loop
 unfolding carried
 returns-4 c = c .refused-item2 .ensures ∙ scanned-refuses ((passing-filled (c .before .before .before .before .before .before .before .before .before .before .before .before .before .before .before .before .loop .inv) (c .before .before .before .before .before .loop3 .inv .1)) .pass) _ _ (c .before .before .before .before .before .before .before .before .before .before .before .before .before .before .before .next-item .ensures) (found-as (c .before .before .before .before .before .before .before .before .before .before .before .before .before .item .given .1) (c .before .before .before .before .before .before .before .before .before .before .before .renewed .ensures)) refl (carried-by _ _ _ (c .before .before .before .before .before .before .before .item-effect .ensures) (c .before .before .effect4 .given .1))
 
--- src/lib.rt:404:25
 standing-after-requires-3 : tie.Need-standing-after-requires-3 Inv-loop2 μ-loop2 Inv-loop3 μ-loop3 Inv-loop4 μ-loop4 Inv-loop5 μ-loop5 Inv-loop μ-loop
 standing-after-requires-3 c κs = search needs
 
--- src/lib.rt:333:5
 loop-less-7 : tie.Need-loop-less-7 Inv-loop2 μ-loop2 Inv-loop3 μ-loop3 Inv-loop4 μ-loop4 Inv-loop5 μ-loop5 Inv-loop μ-loop
 loop-less-7 c = omega (arith, next-later _ _ (c .before .before .before .before .before .before .before .before .before .before .before .before .before .next-item .ensures) (found-as (c .before .before .before .before .before .before .before .before .before .before .before .item .given .1) (c .before .before .before .before .before .before .before .before .before .renewed .ensures)))
 
--- src/lib.rt:333:5
 loop-again-7 : tie.Need-loop-again-7 Inv-loop2 μ-loop2 Inv-loop3 μ-loop3 Inv-loop4 μ-loop4 Inv-loop5 μ-loop5 Inv-loop μ-loop
 loop-again-7 c = passing-stands (passing-filled (c .before .before .before .before .before .before .before .before .before .before .before .before .before .before .loop .inv) (c .before .before .before .loop3 .inv .1)) (c .before .before .before .before .before .before .before .before .before .before .before .before .before .next-item .ensures) (found-as (c .before .before .before .before .before .before .before .before .before .before .before .item .given .1) (c .before .before .before .before .before .before .before .before .before .renewed .ensures)) (c .before .before .before .loop3 .inv .1 .records) (c .before .before .before .before .before .item-effect .ensures) (c .standing-after3 .ensures) (does-stands (c .before .before .before .loop3 .inv .1 .records) _ _ _ _ (c .before .before .before .before .before .item-effect .ensures) (c .before .match2 .keys6) (c .standing-after3 .ensures))
 

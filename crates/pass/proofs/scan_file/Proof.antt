@@ -4,24 +4,16 @@ use borrow.Author.Needs.{needs}
 use Rattle.pass.proofs.Scans.{scanned-large}
 use Rattle.pass.proofs.scan_file.Statement.{statement}
 use Rattle.pass.proofs.scan_file.Tie as tie
-use Rattle.pass.proofs.scan_file.Reads as reads
-use Rattle.pass.proofs.scan_file.Lts as lts
-use Rattle.pass.proofs.refused_scan.Reads as refused-scan-reads
-use Rattle.pass.proofs.scan_root.Reads as scan-root-reads
 
--- src/lib.rt:474:9
 refused-scan-requires : tie.Need-refused-scan-requires
 refused-scan-requires c κs = search needs
 
--- src/lib.rt:474:9
 returns : tie.Need-returns
 returns c = c .refused-scan .ensures ∙ scanned-large _ _ (c .before .if1 .taken)
 
--- src/lib.rt:479:5
 scan-root-requires : tie.Need-scan-root-requires
 scan-root-requires c κs = search needs
 
--- src/lib.rt:470:1
 returns-2 : tie.Need-returns-2
 returns-2 c = search needs
 

@@ -1,5 +1,5 @@
 -- Each part is the frame's; the channel count and the channel's settings are what the two calls answer.
-use mathlib.Core.Path.{_≡_, _∙_, ap}
+use mathlib.Core.Path.{_∙_, ap}
 use Prim.Native.Nat.{ℕ}
 use lib.Dec.{ltb}
 use mir.Syntax.{w64}
@@ -7,27 +7,19 @@ use mir.Val.{SFits}
 use mir.Facts.{toZ-ofZ}
 use Rattle.octets.specs.Pick.{pick}
 use Rattle.settings.specs.Settings.{defaultSettings}
-use Rattle.pass.specs.declared.View.{View}
 use borrow.Author.Needs.{needs}
 use Rattle.pass.proofs.view_of.Statement.{statement}
 use Rattle.pass.proofs.view_of.Tie as tie
-use Rattle.pass.proofs.view_of.Reads as reads
-use Rattle.pass.proofs.view_of.Lts as lts
-use Rattle.framing.proofs.channels_of.Reads as channels-of-reads
-use Rattle.pass.proofs.seen.Reads as seen-reads
 
--- src/lib.rt:159:9
 channels-of-requires : tie.Need-channels-of-requires
 channels-of-requires c κs = search needs
 
--- src/lib.rt:168:19
 seen-requires : tie.Need-seen-requires
 seen-requires c κs = search needs
 
 start-fits : (c : tie.After-struct-told) → SFits w64 (c .before .before .before .args .st .start)
 start-fits c = search needs
 
--- src/lib.rt:156:1
 returns : tie.Need-returns
 returns c =
     let a = c .before .before .before .args in

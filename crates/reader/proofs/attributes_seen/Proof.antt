@@ -1,5 +1,4 @@
 -- Each field is the channel's; the start pointer is read back from its bits.
-use mathlib.Core.Path.{_≡_, ap, sym, _∙_}
 use borrow.Author.Needs.{needs}
 use mir.Syntax.{w64}
 use mir.Val.{SFits}
@@ -7,18 +6,13 @@ use mir.Facts.{toZ-ofZ}
 use Rattle.reader.specs.Answer.{attributesSeen}
 use Rattle.reader.proofs.attributes_seen.Statement.{statement}
 use Rattle.reader.proofs.attributes_seen.Tie as tie
-use Rattle.reader.proofs.attributes_seen.Reads as reads
-use Rattle.reader.proofs.attributes_seen.Lts as lts
-use Rattle.layout.proofs.offset_bits.Reads as offset-bits-reads
 
--- src/lib.rt:715:9
 offset-bits-requires : tie.Need-offset-bits-requires
 offset-bits-requires c κs = search needs
 
 in64 : (c : tie.After-struct-told) → SFits w64 (c .before .before .before .before .before .before .args .v .start)
 in64 c = search needs
 
--- src/lib.rt:709:1
 returns : tie.Need-returns
 unfolding attributesSeen
 returns c = λ k. record { start = toZ-ofZ (in64 c) k; channels = c .before .before .before .before .before .before .args .v .channels; sequences = c .before .before .before .before .before .before .args .v .sequences; block = c .before .before .before .before .before .before .args .v .settings .block; class = c .before .before .before .before .before .before .args .v .settings .class; lead = c .before .before .before .before .before .before .args .v .settings .lead; kind = c .before .before .before .before .before .before .args .v .settings .kind; interval = c .before .before .before .before .before .before .args .v .settings .interval; resolution = c .before .before .before .before .before .before .args .v .settings .resolution; offset = c .before .before .offset-bits .ensures k; null = c .before .before .before .before .before .before .args .v .settings .null }

@@ -1,62 +1,46 @@
 -- Each way out is a law of a look-up.
-use mathlib.Core.Path.{_≡_, ap, sym, _∙_}
+use mathlib.Core.Path.{_∙_}
 use Rattle.reader.proofs.Answers.{look-refused, look-no-frame, look-nothing, look-no-channel, look-found}
 use borrow.Author.Needs.{needs}
 use Rattle.reader.proofs.look_up.Statement.{statement}
 use Rattle.reader.proofs.look_up.Tie as tie
-use Rattle.reader.proofs.look_up.Reads as reads
-use Rattle.reader.proofs.look_up.Lts as lts
-use Rattle.pass.proofs.scan_file.Reads as scan-file-reads
 
--- src/lib.rt:661:9
 scan-file-requires : tie.Need-scan-file-requires
 scan-file-requires c κs = search needs
 
--- src/lib.rt:663:25
 enum-known-checked : tie.Need-enum-known-checked
 enum-known-checked c = search needs
 
--- src/lib.rt:664:13
 enum-known-checked-2 : tie.Need-enum-known-checked-2
 enum-known-checked-2 c = search needs
 
--- src/lib.rt:664:30
 enum-known-checked-3 : tie.Need-enum-known-checked-3
 enum-known-checked-3 c = search needs
 
--- src/lib.rt:665:38
 enum-told : tie.Need-enum-told
 enum-told c = search needs
 
--- src/lib.rt:665:13
 returns : tie.Need-returns
 returns c = search needs
 
--- src/lib.rt:670:9
 returns-2 : tie.Need-returns-2
 returns-2 c = look-refused _ _ _ _ (c .before .before .before .before .before .before .scan-file .ensures) _ (c .before .before .before .before .checked2 .given .1 ∙ c .before .checked3 .given .1)
 
--- src/lib.rt:673:9
 returns-3 : tie.Need-returns-3
 returns-3 c = look-no-frame _ _ _ _ (c .before .before .before .before .scan-file .ensures) _ (c .before .before .checked .given .1) (c .if1 .taken)
 
--- src/lib.rt:679:22
 enum-known-found : tie.Need-enum-known-found
 enum-known-found c = search needs
 
--- src/lib.rt:680:34
 enum-told-2 : tie.Need-enum-told-2
 enum-told-2 c = search needs
 
--- src/lib.rt:680:9
 returns-4 : tie.Need-returns-4
 returns-4 c = absurd (look-nothing _ _ _ _ (c .before .before .before .before .before .before .scan-file .ensures) _ (c .before .before .before .before .checked .given .1) (c .before .before .if1 .left) (c .enum-told2 .given .1))
 
--- src/lib.rt:686:9
 returns-5 : tie.Need-returns-5
 returns-5 c = look-no-channel _ _ _ _ (c .before .before .before .before .before .before .before .before .before .scan-file .ensures) _ (c .before .before .before .before .before .before .before .checked .given .1) _ (c .before .before .before .before .before .if1 .left) (c .before .before .before .found .given .1) (c .if2 .taken)
 
--- src/lib.rt:658:1
 returns-6 : tie.Need-returns-6
 returns-6 c = look-found _ _ _ _ (c .before .before .before .before .before .before .before .before .before .scan-file .ensures) _ (c .before .before .before .before .before .before .before .checked .given .1) _ (c .before .before .before .before .before .if1 .left) (c .before .before .before .found .given .1) (c .if2 .left)
 

@@ -3,24 +3,16 @@ use Rattle.stretch.proofs.Runs.{ends-within, run-ahead}
 use borrow.Author.Needs.{needs}
 use Rattle.stretch.proofs.along.Statement.{statement}
 use Rattle.stretch.proofs.along.Tie as tie
-use Rattle.stretch.proofs.along.Reads as reads
-use Rattle.stretch.proofs.along.Lts as lts
-use Rattle.items.proofs.rest.Reads as rest-reads
-use Rattle.stretch.proofs.run.Reads as run-reads
 
--- src/lib.rt:82:21
 rest-requires : tie.Need-rest-requires
 rest-requires c κs = search needs
 
--- src/lib.rt:82:9
 run-requires : tie.Need-run-requires
 run-requires c κs = search needs
 
--- src/lib.rt:85:13
 add-t11 : tie.Need-add-t11
 add-t11 c = record { fits = ends-within (c .before .before .before .before .before .args .s .now) (c .before .before .before .before .before .args .c .at) (c .before .before .before .before .before .args .c .within) (c .before .before .run .result .at) (c .before .before .before .rest .ensures) (c .before .before .run .ensures .1) (search needs) (search needs) }
 
--- src/lib.rt:77:1
 returns : tie.Need-returns
 returns c = run-ahead _ _ _ _ _ (c .before .before .before .rest .ensures) (c .before .before .run .ensures .0)
 

@@ -1,5 +1,5 @@
 -- What ends the stretch, and what it goes on with.
-use mathlib.Core.Path.{_≡_, refl, sym, ap, _∙_}
+use mathlib.Core.Path.{refl, sym, ap, _∙_}
 use Prim.Native.Nat.{_+_, _-_}
 use native.Mathlib.Omega.{arith}
 use borrow.Author.Needs.{needs}
@@ -9,12 +9,6 @@ use Rattle.stretch.specs.Stretch.{leftBy}
 use Rattle.stretch.proofs.Runs.{Running, step-none, step-long, step-past, step-here, running-first, running-ends, running-goes, leaves-defined, leaves-same, leaves-nothing}
 use Rattle.stretch.proofs.run.Statement.{statement}
 use Rattle.stretch.proofs.run.Tie as tie
-use Rattle.stretch.proofs.run.Reads as reads
-use Rattle.stretch.proofs.run.Lts as lts
-use Rattle.octets.proofs.part.Reads as part-reads
-use Rattle.definitions.proofs.attribute_of.Reads as attribute-of-reads
-use Rattle.definitions.proofs.settle.Reads as settle-reads
-use Rattle.stretch.proofs.stepped_over.Reads as stepped-over-reads
 
 abbrev Inv-loop : tie.InvT-loop
 Inv-loop u little base settings₀ at₀ settings at = Running little base settings₀ u settings at
@@ -22,117 +16,89 @@ Inv-loop u little base settings₀ at₀ settings at = Running little base setti
 abbrev μ-loop : tie.MeasureT-loop
 μ-loop u little base settings₀ at₀ settings at = length u - at
 
--- src/lib.rt:42:5
 loop-holds : tie.Need-loop-holds Inv-loop μ-loop
 loop-holds c = running-first _ _ _ _
 
--- src/lib.rt:42:11
 add-loop : tie.Need-add-loop Inv-loop μ-loop
 add-loop c = search needs
 
--- src/lib.rt:43:19
 shared-slice-read-tag : tie.Need-shared-slice-read-tag Inv-loop μ-loop
 shared-slice-read-tag c = search needs
 
--- src/lib.rt:44:19
 add-n : tie.Need-add-n Inv-loop μ-loop
 add-n c = search needs
 
--- src/lib.rt:44:17
 shared-slice-read-n : tie.Need-shared-slice-read-n Inv-loop μ-loop
 shared-slice-read-n c = search needs
 
--- src/lib.rt:44:17
 cast-n : tie.Need-cast-n Inv-loop μ-loop
 cast-n c = omega (arith, c .shared-slice-known3 .given (c .before .before .before .loop .at + 1))
 
--- src/lib.rt:46:13
 returns : tie.Need-returns Inv-loop μ-loop
 returns c = (running-ends (c .before .before .before .before .loop .inv) (step-long _ _ _ _ _ refl (c .before .before .before .loop-test .taken) (c .if1 .taken)), c .before .before .before .before .loop .inv .low)
 
--- src/lib.rt:48:12
 sub-if2 : tie.Need-sub-if2 Inv-loop μ-loop
 sub-if2 c = search needs
 
--- src/lib.rt:48:12
 sub-if2-2 : tie.Need-sub-if2-2 Inv-loop μ-loop
 sub-if2-2 c = search needs
 
--- src/lib.rt:49:13
 returns-2 : tie.Need-returns-2 Inv-loop μ-loop
 returns-2 c = (running-ends (c .before .before .before .before .before .loop .inv) (step-past _ _ _ _ _ refl (c .before .before .before .before .loop-test .taken) (c .before .if1 .left) (c .if2 .taken)), c .before .before .before .before .before .loop .inv .low)
 
--- src/lib.rt:51:20
 add-next : tie.Need-add-next Inv-loop μ-loop
 add-next c = search needs
 
--- src/lib.rt:51:20
 add-next-2 : tie.Need-add-next-2 Inv-loop μ-loop
 add-next-2 c = search needs
 
--- src/lib.rt:52:15
 attribute-of-requires : tie.Need-attribute-of-requires Inv-loop μ-loop
 attribute-of-requires c κs = search needs
 
--- src/lib.rt:53:29
 enum-known-a : tie.Need-enum-known-a Inv-loop μ-loop
 enum-known-a c = search needs
 
--- src/lib.rt:54:59
 add-part : tie.Need-add-part Inv-loop μ-loop
 add-part c = search needs
 
--- src/lib.rt:54:43
 part-requires : tie.Need-part-requires Inv-loop μ-loop
 part-requires c κs = search needs
 
--- src/lib.rt:54:23
 settle-requires : tie.Need-settle-requires Inv-loop μ-loop
 settle-requires c κs = search needs
 
--- src/lib.rt:55:37
 enum-known-x : tie.Need-enum-known-x Inv-loop μ-loop
 enum-known-x c = search needs
 
--- src/lib.rt:42:5
 loop-less : tie.Need-loop-less Inv-loop μ-loop
 loop-less c = search needs
 
--- src/lib.rt:42:5
 loop-again : tie.Need-loop-again Inv-loop μ-loop
 unfolding leftBy
 loop-again c = running-goes (c .before .before .before .before .before .before .before .before .before .before .before .before .before .before .loop .inv) refl (c .before .before .before .before .before .before .before .before .before .before .before .before .before .loop-test .taken) (c .before .before .before .before .before .before .before .before .before .if2 .left) (step-here _ _ _ _ _ refl (c .before .before .before .before .before .before .before .before .before .before .before .before .before .loop-test .taken) (c .before .before .before .before .before .before .before .before .before .before .if1 .left) (c .before .before .before .before .before .before .before .before .before .if2 .left) ∙ leaves-defined _ _ _ _ _ (c .before .before .before .before .before .before .before .before .attribute-of .ensures) (c .before .before .before .before .before .before .a .given .1) (c .before .before .before .before .part .ensures) (c .before .before .before .settle .ensures) ∙ ap leftBy (c .before .x .given .1))
 
--- src/lib.rt:60:25
 enum-told : tie.Need-enum-told Inv-loop μ-loop
 enum-told c = search needs
 
--- src/lib.rt:60:25
 returns-3 : tie.Need-returns-3 Inv-loop μ-loop
 unfolding leftBy
 returns-3 c = (running-ends (c .before .before .before .before .before .before .before .before .before .before .before .before .before .loop .inv) (step-here _ _ _ _ _ refl (c .before .before .before .before .before .before .before .before .before .before .before .before .loop-test .taken) (c .before .before .before .before .before .before .before .before .before .if1 .left) (c .before .before .before .before .before .before .before .before .if2 .left) ∙ leaves-defined _ _ _ _ _ (c .before .before .before .before .before .before .before .attribute-of .ensures) (c .before .before .before .before .before .a .given .1) (c .before .before .before .part .ensures) (c .before .before .settle .ensures) ∙ ap leftBy (c .enum-told .given .1)), c .before .before .before .before .before .before .before .before .before .before .before .before .before .loop .inv .low)
 
--- src/lib.rt:65:21
 enum-told-2 : tie.Need-enum-told-2 Inv-loop μ-loop
 enum-told-2 c = search needs
 
--- src/lib.rt:65:21
 stepped-over-requires : tie.Need-stepped-over-requires Inv-loop μ-loop
 stepped-over-requires c κs = search needs
 
--- src/lib.rt:66:21
 returns-4 : tie.Need-returns-4 Inv-loop μ-loop
 returns-4 c = (running-ends (c .before .before .before .before .before .before .before .before .before .before .loop .inv) (step-here _ _ _ _ _ refl (c .before .before .before .before .before .before .before .before .before .loop-test .taken) (c .before .before .before .before .before .before .if1 .left) (c .before .before .before .before .before .if2 .left) ∙ leaves-nothing _ _ _ _ _ (c .before .before .before .before .attribute-of .ensures) (c .before .before .enum-told2 .given .1) (sym (c .before .stepped-over .ensures) ∙ not-true _ (c .if3 .taken))), c .before .before .before .before .before .before .before .before .before .before .loop .inv .low)
 
--- src/lib.rt:42:5
 loop-less-2 : tie.Need-loop-less-2 Inv-loop μ-loop
 loop-less-2 c = search needs
 
--- src/lib.rt:42:5
 loop-again-2 : tie.Need-loop-again-2 Inv-loop μ-loop
 loop-again-2 c = running-goes (c .before .before .before .before .before .before .before .before .before .before .loop .inv) refl (c .before .before .before .before .before .before .before .before .before .loop-test .taken) (c .before .before .before .before .before .if2 .left) (step-here _ _ _ _ _ refl (c .before .before .before .before .before .before .before .before .before .loop-test .taken) (c .before .before .before .before .before .before .if1 .left) (c .before .before .before .before .before .if2 .left) ∙ leaves-same _ _ _ _ _ (c .before .before .before .before .attribute-of .ensures) (c .before .before .enum-told2 .given .1) (sym (c .before .stepped-over .ensures) ∙ not-false _ (c .if3 .left)))
 
--- src/lib.rt:37:1
 returns-5 : tie.Need-returns-5 Inv-loop μ-loop
 returns-5 c = (running-ends (c .before .loop .inv) (step-none _ _ _ _ _ (c .loop-test .left)), c .before .loop .inv .low)
 

@@ -1,5 +1,5 @@
 -- Each sum is one channel's octets more.
-use mathlib.Core.Path.{_≡_, ap, _∙_}
+use mathlib.Core.Path.{ap, _∙_}
 use Prim.Native.Nat.{ℕ, _+_, _<_, _%_, _^_}
 use Rattle.octets.specs.Pick.{pick, both}
 use lib.Dec.{ltb}

@@ -1,18 +1,14 @@
 -- The frame is kept where it is the one that is asked for, and its octets are added up.
-use mathlib.Core.Path.{_≡_, _∙_, ap}
+use mathlib.Core.Path.{_∙_, ap}
 use Prim.Native.Nat.{_+_, _*_}
 use Rattle.layout.proofs.Laws.{frame-few}
 use Rattle.pass.specs.declared.Found.{Found}
-use Rattle.pass.specs.declared.Met.{Met}
 use Rattle.pass.specs.Passing.{viewMet}
 use Rattle.pass.proofs.Scans.{kept-this, kept-before}
+use native.Mathlib.Omega.{arith}
 use borrow.Author.Needs.{needs}
 use Rattle.pass.proofs.Met.with_frame.Statement.{statement}
 use Rattle.pass.proofs.Met.with_frame.Tie as tie
-use Rattle.pass.proofs.Met.with_frame.Reads as reads
-use Rattle.pass.proofs.Met.with_frame.Lts as lts
-use Rattle.layout.proofs.frame_size.Reads as frame-size-reads
-use Rattle.pass.proofs.view_of.Reads as view-of-reads
 
 mul-waveform : tie.Need-mul-waveform
 mul-waveform c = search needs
@@ -44,7 +40,7 @@ returns c =
         found = (ap Found.Frame (c .view-of .ensures) ∙ kept-this _ (a .self .found) (c .before .if1 .taken)) k;
         size = a .self .size + n .0 k;
       },
-      frame-few (a .sequences) (a .l .groups) (a .sequences * a .l .octets) (c .before .before .before .before .before .before .before .before .before .pre .2) (c .before .before .before .before .before .before .before .before .before .pre .3),
+      frame-few (a .sequences) (a .l .groups) (a .sequences * a .l .octets) (c .before .before .before .before .before .before .before .before .before .pre .2) (omega (arith, c .before .before .before .before .before .before .before .before .before .pre .3)),
     )
 
 returns-2 : tie.Need-returns-2
@@ -56,7 +52,7 @@ returns-2 c =
         found = kept-before (Found.Frame (viewMet (a .asked .channel) (a .st) (a .sequences) (a .start) (a .l) (a .c))) (a .self .found) (c .if1 .left) k;
         size = a .self .size + n .0 k;
       },
-      frame-few (a .sequences) (a .l .groups) (a .sequences * a .l .octets) (c .before .before .before .before .before .before .before .before .pre .2) (c .before .before .before .before .before .before .before .before .pre .3),
+      frame-few (a .sequences) (a .l .groups) (a .sequences * a .l .octets) (c .before .before .before .before .before .before .before .before .pre .2) (omega (arith, c .before .before .before .before .before .before .before .before .pre .3)),
     )
 
 pub with-frame-spec : {M : Type 1} → statement M

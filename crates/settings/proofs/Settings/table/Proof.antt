@@ -5,15 +5,10 @@ use Rattle.settings.specs.declared.Settings.{Settings}
 use borrow.Author.Needs.{needs}
 use Rattle.settings.proofs.Settings.table.Statement.{statement}
 use Rattle.settings.proofs.Settings.table.Tie as tie
-use Rattle.settings.proofs.Settings.table.Reads as reads
-use Rattle.settings.proofs.Settings.table.Lts as lts
-use Rattle.settings.proofs.Settings.default.Reads as default-reads
 
--- src/lib.rt:69:13
 default-requires : tie.Need-default-requires
 default-requires c κs = search needs
 
--- src/lib.rt:66:5
 returns : tie.Need-returns
 returns c = ap (λ (s : Settings). replicate 256 s) (c .default .ensures)
 

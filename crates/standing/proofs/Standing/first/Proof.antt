@@ -5,15 +5,10 @@ use Rattle.standing.specs.Standing.{firstStanding, withRoot}
 use borrow.Author.Needs.{needs}
 use Rattle.standing.proofs.Standing.first.Statement.{statement}
 use Rattle.standing.proofs.Standing.first.Tie as tie
-use Rattle.standing.proofs.Standing.first.Reads as reads
-use Rattle.standing.proofs.Standing.first.Lts as lts
-use Rattle.settings.proofs.Settings.default.Reads as default-reads
 
--- src/lib.rt:48:13
 default-requires : tie.Need-default-requires
 default-requires c κs = search needs
 
--- src/lib.rt:45:5
 returns : tie.Need-returns
 returns c = ap (λ (r : Settings). withRoot r firstStanding) (c .default .ensures)
 
