@@ -1,6 +1,6 @@
 -- The recording of an accepted file has each number in its range, and each list as long as the counts say.
 --     tabulate-length, tabulate-at    a list of values by number
---     settled-good          a channel's attributes as a recording has them
+--     reported-good          a channel's attributes as a recording has them
 --     frame-recorded        one frame
 --     accepted-recorded     all frames of an accepted file
 -- Assumes nothing.
@@ -19,14 +19,13 @@ use Rattle.octets.proofs.Laws.{drop-octets, range-pos}
 use Rattle.values.specs.declared.Bits.{Bits}
 use Rattle.settings.specs.declared.Settings.{Settings}
 use Rattle.settings.specs.Settings.{zeroSettings}
-use Rattle.layout.specs.Frame.{offsetBits, Frame, widthIn, channelIn, samplesOf, widthAgrees, channelAgrees, offsetOf}
+use Rattle.layout.specs.Frame.{offsetBits, Frame, widthIn, channelIn, samplesOf, widthAgrees, channelAgrees, offsetOf, reported}
 use Rattle.pass.specs.Verdict.{accepted, verdict}
 use Rattle.reader.proofs.Every.{Every}
 use Rattle.reader.proofs.Ordered.{Lies, every-lies}
 use Rattle.reader.proofs.Good.{GoodSettings, GoodFrame, both-split, number-first, agree-every, every-good}
-use Rattle.groups.specs.Group.{settled}
 use Rattle.canonical.specs.Recording.{sampleBits, tabulate, recordedFrame, recording}
-use Rattle.canonical.proofs.Good.{GoodSettled, AllSettled, GoodRecorded, AllRecorded}
+use Rattle.canonical.proofs.Good.{GoodReported, AllReported, GoodRecorded, AllRecorded}
 
 -- ---- lists by number
 
@@ -72,9 +71,9 @@ offset-good c g a = by (eqb (c .offset .width) 0) a
         let w : c .offset .width ≡ widthIn c = eqb-true (c .offset .width) (widthIn c) e in
         (w, rw w at (g .offset))
 
-pub settled-good : (c : Settings) → GoodSettings c → channelAgrees c ≡ true → GoodSettled (settled c)
-unfolding settled channelAgrees
-settled-good c g a =
+pub reported-good : (c : Settings) → GoodSettings c → channelAgrees c ≡ true → GoodReported (reported c)
+unfolding reported channelAgrees
+reported-good c g a =
     let h = both-split (widthAgrees (widthIn c) (c .offset)) (widthAgrees (widthIn c) (c .null)) a in
     let o = offset-good c g (h .0) in
     record {
@@ -91,18 +90,18 @@ settled-good c g a =
       null = g .null;
     }
 
-all-settled : (cs : List Settings) → Every GoodSettings cs → Every (λ c. channelAgrees c ≡ true) cs → AllSettled (map settled cs)
-all-settled [] g a = tt
-all-settled (c ∷ cs) g a = (settled-good c (g .0) (a .0), all-settled cs (g .1) (a .1))
+all-reported : (cs : List Settings) → Every GoodSettings cs → Every (λ c. channelAgrees c ≡ true) cs → AllReported (map reported cs)
+all-reported [] g a = tt
+all-reported (c ∷ cs) g a = (reported-good c (g .0) (a .0), all-reported cs (g .1) (a .1))
 
 -- A channel of the recording is that of the frame.
-block-at : (cs : List Settings) (c : ℕ) → c < length cs → channelIn c (map settled cs) .block ≡ channelIn c cs .block
-unfolding settled
-block-at cs c h = ap (λ (x : Settings). x .block) (map-at settled cs c zeroSettings zeroSettings h)
+block-at : (cs : List Settings) (c : ℕ) → c < length cs → channelIn c (map reported cs) .block ≡ channelIn c cs .block
+unfolding reported
+block-at cs c h = ap (λ (x : Settings). x .block) (map-at reported cs c zeroSettings zeroSettings h)
 
-width-at : (cs : List Settings) (c : ℕ) → c < length cs → widthIn (channelIn c (map settled cs)) ≡ widthIn (channelIn c cs)
-unfolding settled
-width-at cs c h = ap widthIn (map-at settled cs c zeroSettings zeroSettings h)
+width-at : (cs : List Settings) (c : ℕ) → c < length cs → widthIn (channelIn c (map reported cs)) ≡ widthIn (channelIn c cs)
+unfolding reported
+width-at cs c h = ap widthIn (map-at reported cs c zeroSettings zeroSettings h)
 
 -- ---- frames
 
@@ -123,13 +122,13 @@ module _ (s : List ℕ) (f : Frame) (l : Lies s f) (g : GoodFrame f) where
   unfolding recordedFrame samplesOf
   frame-recorded =
       let cs = f .channels in
-      let k : length (map settled cs) ≡ length cs = length-map cs settled in
+      let k : length (map reported cs) ≡ length cs = length-map cs reported in
       record {
         start = l .pointer;
         sequences = g .sequences;
         some = rw k (l .some);
         few = rw k (l .few);
-        channels = all-settled cs (g .channels) (agree-every cs (g .agree));
+        channels = all-reported cs (g .channels) (agree-every cs (g .agree));
         counted = tabulate-length (length cs) (λ c. tabulate (samplesOf c f) (sampleBits f c)) ∙ sym k;
         sized = λ c h.
             let i : c < length cs = omega arith in

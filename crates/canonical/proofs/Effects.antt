@@ -36,7 +36,7 @@ use Rattle.effects.specs.declared.Effect.the-variants.{Order, Count, Sequences,
 use Rattle.effects.specs.Effects.{rootEffect, orderEffect, countEffect, sequencesEffect, startEffect}
 use Rattle.groups.specs.Item.{item, numberItem, unsignedOf}
 use Rattle.groups.specs.Group.{scaleItem, nullItem, groupItems}
-use Rattle.canonical.proofs.Good.{GoodScale, GoodSettled}
+use Rattle.canonical.proofs.Good.{GoodScale, GoodReported}
 use Rattle.canonical.proofs.Numbers.{number-back, unsigned-fits, twos-back, signed-back}
 use Rattle.canonical.proofs.Steps.{tagOf, Definition, octetsOf, changed, AllDefine}
 
@@ -151,7 +151,7 @@ pub changes-are : (b c : Settings) → changed (definitions c) b ≡ c
 unfolding definitions
 changes-are b c = refl
 
-null-defines : (c : Settings) → GoodSettled c → defined Attribute.Null false defaultSettings (nullOctets c) ≡ Changed (Change.Null (c .null))
+null-defines : (c : Settings) → GoodReported c → defined Attribute.Null false defaultSettings (nullOctets c) ≡ Changed (Change.Null (c .null))
 unfolding nullOctets
 null-defines c g = by (g .nullWidth)
   where
@@ -168,7 +168,7 @@ null-defines c g = by (g .nullWidth)
         (be-defines Attribute.Null defaultSettings (widthIn c) (c .null .bits) (Change.Null (c .null))
         (ap Change.Null (bits-back (widthIn c) (c .null) (width-le (c .kind)) (rw e at (g .null)) e)) (w .fits) (w .some) refl)
 
-pub define-all : (c : Settings) → GoodSettled c → AllDefine defaultSettings (definitions c)
+pub define-all : (c : Settings) → GoodReported c → AllDefine defaultSettings (definitions c)
 unfolding definitions
 define-all c g =
     let base = defaultSettings in

@@ -36,7 +36,7 @@ use Rattle.groups.specs.Item.{item, numberItem, unsignedOf}
 use Rattle.groups.specs.Head.{sequencesItem, headItems}
 use Rattle.groups.specs.Group.{groupOctets, groupsOctets}
 use Rattle.canonical.specs.Canonical.{waveformOf, frameOctets}
-use Rattle.canonical.proofs.Good.{AllSettled, GoodRecorded}
+use Rattle.canonical.proofs.Good.{AllReported, GoodRecorded}
 use Rattle.canonical.proofs.Known.{usual, group, startAt, value-known, part-short}
 use Rattle.canonical.proofs.Steps.{Led, led-then, plain-led, group-led, octetsOf}
 use Rattle.canonical.proofs.Effects.{definitions, item-picked, items-are, changes-are, define-all, standing, count-is, sequences-is, start-is}
@@ -97,7 +97,7 @@ recordedAt r place channels waveform =
     record { start = r .start; place = place; little = false; sequences = r .sequences; channels = channels; waveform = waveform }
 
 module _ (s : List ℕ) (short : length s ≤ octetsLimit) (fs : List Frame) where
-  groups-led : (counted sequences : ℕ) (start continued : ℤ) (k : ℕ) (cs table : List Settings) (at : ℕ) (post : List ℕ) → AllSettled cs → drop at s ≡ groupsOctets k cs ++ post → k + length cs ≤ counted → counted ≤ channelLimit → counted ≤ length table → Led s (state (standing counted sequences start continued) table fs) (cursor at Root) (state (standing counted sequences start continued) (sets table k cs) fs) post
+  groups-led : (counted sequences : ℕ) (start continued : ℤ) (k : ℕ) (cs table : List Settings) (at : ℕ) (post : List ℕ) → AllReported cs → drop at s ≡ groupsOctets k cs ++ post → k + length cs ≤ counted → counted ≤ channelLimit → counted ≤ length table → Led s (state (standing counted sequences start continued) table fs) (cursor at Root) (state (standing counted sequences start continued) (sets table k cs) fs) post
   unfolding groupsOctets
   groups-led counted sequences start continued k [] table at post g e h l m = record { place = at; rest = e; same = refl }
   groups-led counted sequences start continued k (c ∷ cs) table at post g e h l m =

@@ -14,7 +14,7 @@ pub use Rattle.reader.proofs.Good.{GoodScale}
 use Rattle.canonical.specs.Recording.{Recorded}
 
 -- A channel's attributes, the offset as a recording has it.
-pub record GoodSettled (c : Settings) : Type 0 where
+pub record GoodReported (c : Settings) : Type 0 where
   pub blockLow : 0 < c .block
   pub blockHigh : c .block ≤ blockLimit
   pub class : c .class < 65536
@@ -27,16 +27,16 @@ pub record GoodSettled (c : Settings) : Type 0 where
   pub nullWidth : (c .null .width ≡ 0) ⊎ (c .null .width ≡ widthIn c)
   pub null : c .null .bits < 256 ^ (c .null .width)
 
-abbrev pub AllSettled : List Settings → Type 0
-AllSettled [] = Unit {0}
-AllSettled (c ∷ cs) = GoodSettled c × AllSettled cs
+abbrev pub AllReported : List Settings → Type 0
+AllReported [] = Unit {0}
+AllReported (c ∷ cs) = GoodReported c × AllReported cs
 
 pub record GoodRecorded (r : Recorded) : Type 0 where
   pub start : pointerFits (r .start) ≡ true
   pub sequences : r .sequences < 4294967296
   pub some : 0 < length (r .channels)
   pub few : length (r .channels) ≤ channelLimit
-  pub channels : AllSettled (r .channels)
+  pub channels : AllReported (r .channels)
   pub counted : length (r .samples) ≡ length (r .channels)
   pub sized : (c : ℕ) → c < length (r .channels) → length (getD (r .samples) c []) ≡ r .sequences * channelIn c (r .channels) .block
   pub bits : (c n : ℕ) → Named (r .channels) (r .sequences) c n → getD (getD (r .samples) c []) n 0 < 256 ^ widthIn (channelIn c (r .channels))

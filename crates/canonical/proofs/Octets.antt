@@ -16,7 +16,7 @@ use Rattle.stores.specs.Number.{be, Octets}
 use Rattle.stores.proofs.Number.{be-big}
 use Rattle.settings.specs.declared.Settings.{Settings}
 use Rattle.settings.specs.Settings.{zeroSettings}
-use Rattle.layout.specs.Frame.{Frame, widthIn, blockOctets, sequenceOctets, channelIn, samplesOf, offsetOf}
+use Rattle.layout.specs.Frame.{Frame, widthIn, blockOctets, sequenceOctets, channelIn, samplesOf, offsetOf, reported}
 use Rattle.layout.specs.Size.{frameSize}
 use Rattle.laid.specs.Laid.{Named, sequence, laidFrom, laid, sampleIn}
 use Rattle.laid.specs.Turned.{turnedAll}
@@ -25,7 +25,6 @@ use Rattle.laid.proofs.Laid.{laid-same, laid-self}
 use Rattle.laid.proofs.Turned.{laid-turned}
 use Rattle.pass.specs.Scan.{sizeOf, sizes}
 use Rattle.reader.proofs.Ordered.{Lies}
-use Rattle.groups.specs.Group.{settled}
 use Rattle.frames.proofs.Given.{length-size}
 use Rattle.canonical.specs.Recording.{sampleBits, tabulate, recordedFrame, recording}
 use Rattle.canonical.specs.Canonical.{waveformOf, frameOctets, framesOctets, canonical}
@@ -47,24 +46,24 @@ be-little (b ∷ v) o =
 -- ---- channels as a recording has them
 
 -- They have the frame's block lengths and widths.
-sequence-settled : (g : ℕ → ℕ → List ℕ) (k : ℕ) (cs : List Settings) (q : ℕ) → sequence g k (map settled cs) q ≡ sequence g k cs q
-unfolding sequence settled
-sequence-settled g k [] q = refl
-sequence-settled g k (c ∷ cs) q = rw (sequence-settled g (suc k) cs q)
+sequence-reported : (g : ℕ → ℕ → List ℕ) (k : ℕ) (cs : List Settings) (q : ℕ) → sequence g k (map reported cs) q ≡ sequence g k cs q
+unfolding sequence reported
+sequence-reported g k [] q = refl
+sequence-reported g k (c ∷ cs) q = rw (sequence-reported g (suc k) cs q)
 
-laid-from-settled : (g : ℕ → ℕ → List ℕ) (cs : List Settings) (q m : ℕ) → laidFrom g (map settled cs) q m ≡ laidFrom g cs q m
+laid-from-reported : (g : ℕ → ℕ → List ℕ) (cs : List Settings) (q m : ℕ) → laidFrom g (map reported cs) q m ≡ laidFrom g cs q m
 unfolding laidFrom
-laid-from-settled g cs q zero = refl
-laid-from-settled g cs q (suc m) = rw (sequence-settled g 0 cs q, laid-from-settled g cs (suc q) m)
+laid-from-reported g cs q zero = refl
+laid-from-reported g cs q (suc m) = rw (sequence-reported g 0 cs q, laid-from-reported g cs (suc q) m)
 
-laid-settled : (g : ℕ → ℕ → List ℕ) (cs : List Settings) (S : ℕ) → laid g (map settled cs) S ≡ laid g cs S
+laid-reported : (g : ℕ → ℕ → List ℕ) (cs : List Settings) (S : ℕ) → laid g (map reported cs) S ≡ laid g cs S
 unfolding laid
-laid-settled g cs S = laid-from-settled g cs 0 S
+laid-reported g cs S = laid-from-reported g cs 0 S
 
-pub octets-settled : (cs : List Settings) → sequenceOctets (map settled cs) ≡ sequenceOctets cs
-unfolding sequenceOctets blockOctets settled
-octets-settled [] = refl
-octets-settled (c ∷ cs) = rw (octets-settled cs)
+pub octets-reported : (cs : List Settings) → sequenceOctets (map reported cs) ≡ sequenceOctets cs
+unfolding sequenceOctets blockOctets reported
+octets-reported [] = refl
+octets-reported (c ∷ cs) = rw (octets-reported cs)
 
 -- ---- a waveform
 
@@ -87,11 +86,11 @@ module _ (s : List ℕ) (f : Frame) (l : Lies s f) (octets : (i : ℕ) → getD 
   sample-long c n h = simp (length-take, length-drop) (omega (arith, offset-inside h, l .fits))
 
   -- A sample's octets in the canonical file are those of the waveform, highest first.
-  sample-written : (c n : ℕ) → Named (f .channels) (f .sequences) c n → be (widthIn (channelIn c (map settled (f .channels)))) (getD (getD (recordedFrame f .samples) c []) n 0) ≡ highestFirst (f .little) (sampleIn (f .channels) (f .waveform) c n)
-  unfolding recordedFrame samplesOf settled sampleBits
+  sample-written : (c n : ℕ) → Named (f .channels) (f .sequences) c n → be (widthIn (channelIn c (map reported (f .channels)))) (getD (getD (recordedFrame f .samples) c []) n 0) ≡ highestFirst (f .little) (sampleIn (f .channels) (f .waveform) c n)
+  unfolding recordedFrame samplesOf reported sampleBits
   sample-written c n h =
       rw (
-        map-at settled (f .channels) c zeroSettings zeroSettings (h .channel),
+        map-at reported (f .channels) c zeroSettings zeroSettings (h .channel),
         tabulate-at (length (f .channels)) (λ k. tabulate (samplesOf k f) (sampleBits f k)) c [] (h .channel),
         tabulate-at (samplesOf c f) (sampleBits f c) n 0 (h .number),
       )
@@ -99,7 +98,7 @@ module _ (s : List ℕ) (f : Frame) (l : Lies s f) (octets : (i : ℕ) → getD 
 
   waveform-written : waveformOf (recordedFrame f) ≡ laid (λ c n. highestFirst (f .little) (sampleIn (f .channels) (f .waveform) c n)) (f .channels) (f .sequences)
   unfolding waveformOf recordedFrame
-  waveform-written = laid-settled _ (f .channels) (f .sequences) ∙ laid-same _ _ (f .channels) (f .sequences) sample-written
+  waveform-written = laid-reported _ (f .channels) (f .sequences) ∙ laid-same _ _ (f .channels) (f .sequences) sample-written
 
   pub waveform-big : f .little ≡ false → waveformOf (recordedFrame f) ≡ take (f .sequences * sequenceOctets (f .channels)) (f .waveform)
   waveform-big e = waveform-written ∙ rw e (laid-self (f .channels) (f .sequences) (f .waveform))
@@ -112,7 +111,7 @@ module _ (s : List ℕ) (f : Frame) (l : Lies s f) (octets : (i : ℕ) → getD 
 pub frame-long : (f : Frame) → length (frameOctets (recordedFrame f)) ≡ sizeOf f
 unfolding frameOctets recordedFrame sizeOf frameSize
 frame-long f =
-    let waveform : length (waveformOf (recordedFrame f)) ≡ f .sequences * sequenceOctets (f .channels) = waveform-long (recordedFrame f) ∙ rw octets-settled in
+    let waveform : length (waveformOf (recordedFrame f)) ≡ f .sequences * sequenceOctets (f .channels) = waveform-long (recordedFrame f) ∙ rw octets-reported in
     simp (length-append, head-long, groups-long, length-item, waveform, length-size) (omega arith)
 
 pub frames-long : (fs : List Frame) → length (framesOctets (recording fs)) ≡ sizes fs

@@ -18,14 +18,13 @@ use Rattle.octets.proofs.Pick.{either-true}
 use Rattle.stores.specs.Number.{be, length-be}
 use Rattle.values.specs.declared.Bits.{Bits}
 use Rattle.settings.specs.declared.Settings.{Settings}
-use Rattle.layout.specs.Frame.{offsetBits, Frame, widthIn, blockOctets, sequenceOctets, widthAgrees, channelAgrees, allAgree, channelIn, samplesOf}
+use Rattle.layout.specs.Frame.{offsetBits, Frame, widthIn, blockOctets, sequenceOctets, widthAgrees, channelAgrees, allAgree, channelIn, samplesOf, reported}
 use Rattle.laid.specs.Laid.{Named}
 use Rattle.laid.proofs.Laid.{laid-length, laid-at}
 use Rattle.framing.specs.Framing.{sequencesOf}
-use Rattle.groups.specs.Group.{settled}
 use Rattle.canonical.specs.Recording.{Recorded, sampleBits, tabulate, recordedFrame}
 use Rattle.canonical.specs.Canonical.{waveformOf}
-use Rattle.canonical.proofs.Good.{GoodSettled, AllSettled, GoodRecorded}
+use Rattle.canonical.proofs.Good.{GoodReported, AllReported, GoodRecorded}
 use Rattle.canonical.proofs.Numbers.{number-back}
 use Rattle.canonical.proofs.Effects.{width-good}
 
@@ -41,13 +40,13 @@ unfolding widthAgrees
 width-agrees w b (inl z) = simp (eq-eqb (b .width) 0 z)
 width-agrees w b (inr e) = simp (eq-eqb (b .width) w e, either-true)
 
-pub all-agree : (cs : List Settings) → AllSettled cs → allAgree cs ≡ true
+pub all-agree : (cs : List Settings) → AllReported cs → allAgree cs ≡ true
 unfolding allAgree channelAgrees
 all-agree [] g = refl
 all-agree (c ∷ cs) g =
     rw (width-agrees (widthIn c) (c .offset) (inr (g .0 .offsetWidth)), width-agrees (widthIn c) (c .null) (g .0 .nullWidth)) (all-agree cs (g .1))
 
-pub sequence-some : (cs : List Settings) → AllSettled cs → 0 < length cs → 0 < sequenceOctets cs
+pub sequence-some : (cs : List Settings) → AllReported cs → 0 < length cs → 0 < sequenceOctets cs
 unfolding sequenceOctets blockOctets
 sequence-some [] g h = h
 sequence-some (c ∷ cs) g h =
@@ -93,19 +92,19 @@ module _ (r : Recorded) (good : GoodRecorded r) (place : ℕ) where
       tabulate-is 0 (r .sequences * channelIn c (r .channels) .block) (sampleBits (frameOf r place) c) (getD (r .samples) c []) (good .sized c h)
       (λ n l. sample-back c n (record { channel = h; number = l }))
 
-settled-is : (c : Settings) → GoodSettled c → settled c ≡ c
-unfolding settled offsetBits
-settled-is c g =
+reported-is : (c : Settings) → GoodReported c → reported c ≡ c
+unfolding reported offsetBits
+reported-is c g =
     let n : c .offset .width ≡ 0 → ⊥ = λ z. omega (arith, width-good (c .kind) (g .kind) .some, g .offsetWidth) in
     simp (ne-eqb (c .offset .width) 0 n)
 
-all-settled : (cs : List Settings) → AllSettled cs → map settled cs ≡ cs
-all-settled [] g = refl
-all-settled (c ∷ cs) g = ap₂ _∷_ (settled-is c (g .0)) (all-settled cs (g .1))
+all-reported : (cs : List Settings) → AllReported cs → map reported cs ≡ cs
+all-reported [] g = refl
+all-reported (c ∷ cs) g = ap₂ _∷_ (reported-is c (g .0)) (all-reported cs (g .1))
 
 pub recorded-back : (r : Recorded) → GoodRecorded r → (place : ℕ) → recordedFrame (frameOf r place) ≡ r
 unfolding recordedFrame
 recorded-back r good place =
-    let cs = all-settled (r .channels) (good .channels) in
+    let cs = all-reported (r .channels) (good .channels) in
     let samples = tabulate-is [] (length (r .channels)) (λ c. tabulate (samplesOf c (frameOf r place)) (sampleBits (frameOf r place) c)) (r .samples) (good .counted) (channel-back r good place) in
     λ i. record { start = r .start; sequences = r .sequences; channels = cs i; samples = samples i }

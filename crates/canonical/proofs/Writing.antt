@@ -39,7 +39,7 @@ use Rattle.stores.specs.Storing.{Put, Putting, put-fits}
 use Rattle.stores.proofs.Stores.{put-then, put-long, sets-front}
 use Rattle.settings.specs.declared.Settings.{Settings}
 use Rattle.settings.specs.Settings.{channelLimit, defaultSettings, defaultTable}
-use Rattle.layout.specs.Frame.{Frame, sequenceOctets}
+use Rattle.layout.specs.Frame.{Frame, sequenceOctets, reported}
 use Rattle.layout.specs.declared.Layout.{Layout}
 use Rattle.layout.specs.Measure.{layoutOf}
 use Rattle.layout.specs.Size.{groupsSize, frameSize}
@@ -62,7 +62,7 @@ use Rattle.pass.proofs.Scans.{counted-kept, framed-found, shownBy, Records, Fil
 use Rattle.reader.proofs.Ordered.{Lies, accepted-lies, accepted-small}
 use Rattle.groups.specs.Item.{item}
 use Rattle.groups.specs.Head.{headItems}
-use Rattle.groups.specs.Group.{settled, groupsOctets}
+use Rattle.groups.specs.Group.{groupsOctets}
 use Rattle.groups.proofs.Puts.{put-as}
 use Rattle.frames.specs.Parts.{samplesTurned, frameParts, frameGiven}
 use Rattle.frames.proofs.Given.{frame-put}
@@ -70,7 +70,7 @@ use Rattle.canonical.specs.Recording.{Recorded, recordedFrame, recording
 use Rattle.canonical.specs.Canonical.{waveformOf, frameOctets, framesOctets, canonical}
 use Rattle.canonical.specs.Write.{framesIn, canonicalOf, fits, writtenIn, writtenOf, leftIn, leftOf, Ready}
 use Rattle.canonical.specs.declared.Written.{Written}
-use Rattle.canonical.proofs.Octets.{waveform-big, waveform-little, frames-long, canonical-long, canonical-none, octets-settled}
+use Rattle.canonical.proofs.Octets.{waveform-big, waveform-little, frames-long, canonical-long, canonical-none, octets-reported}
 use Rattle.canonical.proofs.Recordings.{waveform-long}
 
 -- ---- the frames met so far are the first of the file's
@@ -122,7 +122,7 @@ pub frame-is : (f : Frame) → frameOctets (recordedFrame f) ≡ frameParts (f .
 unfolding recordedFrame
 frame-is f =
     recorded-is (recordedFrame f)
-    ∙ (λ i. (((headItems (length-map (f .channels) settled i) (f .sequences) (f .start) ++ groupsOctets 0 (map settled (f .channels))) ++ (0x1E ∷ [])) ++ shortest (f .sequences * octets-settled (f .channels) i)) ++ waveformOf (recordedFrame f))
+    ∙ (λ i. (((headItems (length-map (f .channels) reported i) (f .sequences) (f .start) ++ groupsOctets 0 (map reported (f .channels))) ++ (0x1E ∷ [])) ++ shortest (f .sequences * octets-reported (f .channels) i)) ++ waveformOf (recordedFrame f))
 
 -- The samples of a frame, as they are written.
 pub samples-are : (s : List ℕ) (f : Frame) → Lies s f → ((i : ℕ) → getD (f .waveform) i 0 < 256) → samplesTurned (f .little) (f .channels) (f .sequences) (f .waveform) ≡ waveformOf (recordedFrame f)

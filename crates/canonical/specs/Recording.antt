@@ -5,9 +5,8 @@ use lib.IntN.{ℤ}
 use lib.ListN.{length}
 use Rattle.octets.specs.Number.{numberOf}
 use Rattle.settings.specs.declared.Settings.{Settings}
-use Rattle.layout.specs.Frame.{Frame, samplesOf}
+use Rattle.layout.specs.Frame.{Frame, samplesOf, reported}
 use Rattle.laid.specs.Laid.{sampleIn}
-use Rattle.groups.specs.Group.{settled}
 
 -- A frame of a recording: start pointer and sequences; the channels' attributes, as many as the channel count; and for each channel the bits
 -- of its samples by number.
@@ -32,7 +31,7 @@ recordedFrame f =
     record {
       start = f .start;
       sequences = f .sequences;
-      channels = map settled (f .channels);
+      channels = map reported (f .channels);
       samples = tabulate (length (f .channels)) (λ channel. tabulate (samplesOf channel f) (sampleBits f channel));
     }
 

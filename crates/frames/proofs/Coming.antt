@@ -20,9 +20,9 @@ use Rattle.runs.proofs.Turned.{run-there, length-turned}
 use Rattle.values.specs.Sample.{widthOf}
 use Rattle.settings.specs.declared.Settings.{Settings}
 use Rattle.settings.specs.Settings.{zeroSettings}
-use Rattle.layout.specs.Frame.{widthIn, blockOctets, sequenceOctets}
+use Rattle.layout.specs.Frame.{widthIn, blockOctets, sequenceOctets, reported}
 use Rattle.laid.specs.Turned.{turnedSequence, turnedAll}
-use Rattle.groups.specs.Group.{settled, groupOctets, groupsOctets}
+use Rattle.groups.specs.Group.{groupOctets, groupsOctets}
 
 pub record Coming (d : List ℕ) (at : ℕ) (all : List ℕ) (next : ℕ) (rest e : List ℕ) : Type 0 where
   pub stored : sets e next rest ≡ sets d at all
@@ -61,11 +61,11 @@ coming-done x p =
 
 -- ---- groups
 
-pub groups-next : (cs : List Settings) (i : ℕ) (c : Settings) → i < length cs → c ≡ getD cs i zeroSettings → groupsOctets i (map settled (drop i cs)) ≡ groupOctets i (settled c) ++ groupsOctets (i + 1) (map settled (drop (i + 1) cs))
+pub groups-next : (cs : List Settings) (i : ℕ) (c : Settings) → i < length cs → c ≡ getD cs i zeroSettings → groupsOctets i (map reported (drop i cs)) ≡ groupOctets i (reported c) ++ groupsOctets (i + 1) (map reported (drop (i + 1) cs))
 unfolding groupsOctets
 groups-next cs i c h e = rw (drop-cons cs i zeroSettings h, add-one, ← e)
 
-pub groups-done : (cs : List Settings) (i : ℕ) → length cs ≤ i → groupsOctets i (map settled (drop i cs)) ≡ []
+pub groups-done : (cs : List Settings) (i : ℕ) → length cs ≤ i → groupsOctets i (map reported (drop i cs)) ≡ []
 unfolding groupsOctets
 groups-done cs i h = rw (drop-of-length-le cs h)
 

@@ -14,10 +14,10 @@ use Rattle.stores.specs.Length.{shortest}
 use Rattle.stores.specs.Storing.{Put, Putting, put-fits}
 use Rattle.stores.proofs.Stores.{put-then, put-long}
 use Rattle.settings.specs.declared.Settings.{Settings}
-use Rattle.layout.specs.Frame.{sequenceOctets}
+use Rattle.layout.specs.Frame.{sequenceOctets, reported}
 use Rattle.layout.specs.Size.{groupsSize, frameSize}
 use Rattle.groups.specs.Head.{headItems}
-use Rattle.groups.specs.Group.{settled, groupsOctets}
+use Rattle.groups.specs.Group.{groupsOctets}
 use Rattle.groups.proofs.Sizes.{head-long, groups-long}
 use Rattle.groups.proofs.Puts.{put-as}
 use Rattle.frames.specs.Parts.{frameParts}
@@ -33,7 +33,7 @@ module _ {d e : List ℕ} {at a : ℕ} (cs : List Settings) (sequences : ℕ) {c
   unfolding frameSize
   groups-room = omega (arith, head-long count sequences z, head-put .next, put-long head-put)
 
-  module _ {f g h : List ℕ} {b c t : ℕ} (q : Put e a (groupsOctets 0 (map settled cs)) b f) (o : Putting f b (0x1E ∷ []) c g) (r : Putting g c (shortest octets) t h) where
+  module _ {f g h : List ℕ} {b c t : ℕ} (q : Put e a (groupsOctets 0 (map reported cs)) b f) (o : Putting f b (0x1E ∷ []) c g) (r : Putting g c (shortest octets) t h) where
     tag-put : Put f b (0x1E ∷ []) c g
     unfolding frameSize
     tag-put = put-fits (omega (arith, head-long count sequences z, head-put .next, put-long head-put, groups-long 0 cs, q .next, put-long q)) o
@@ -48,5 +48,5 @@ module _ {d e : List ℕ} {at a : ℕ} (cs : List Settings) (sequences : ℕ) {c
 
     pub frame-stored : {samples i : List ℕ} {u : ℕ} → Put h t samples u i → Put d at (frameParts start sequences cs samples) u i
     frame-stored {samples} s =
-        put-as (λ k. (((headItems (sym ec k) sequences (ez k) ++ groupsOctets 0 (map settled cs)) ++ (0x1E ∷ [])) ++ shortest (eo k)) ++ samples)
+        put-as (λ k. (((headItems (sym ec k) sequences (ez k) ++ groupsOctets 0 (map reported cs)) ++ (0x1E ∷ [])) ++ shortest (eo k)) ++ samples)
         (put-then (put-then (put-then (put-then head-put q) tag-put) length-put) s)

@@ -10,10 +10,10 @@ ghost use Prim.Native.Nat.{_+_, _*_, _≤_, _<_, min};
 ghost use lib.Dec.{leb};
 ghost use lib.ListN.{length, take};
 ghost use Rattle.stores.specs.Storing.{Put, Putting};
-ghost use Rattle.layout.specs.Frame.{sequenceOctets};
+ghost use Rattle.layout.specs.Frame.{sequenceOctets, reported};
 ghost use Rattle.layout.specs.Size.{groupsSize, frameSize};
 ghost use Rattle.laid.specs.Turned.{Even, turnedAll};
-ghost use Rattle.groups.specs.Group.{settled, groupsOctets};
+ghost use Rattle.groups.specs.Group.{groupsOctets};
 ghost use Rattle.frames.specs.Parts.{samplesTurned, frameParts, frameGiven};
 ghost use Rattle.settings.specs.Settings.{channelLimit};
 ghost use Rattle.standing.specs.Standing.{octetsLimit};
@@ -23,7 +23,7 @@ use standing::Standing;
 // The groups of the first `count` channels.
 fn put_groups(out: &mut [u8], at: usize, table: [Settings; Settings::CHANNELS], count: usize) -> usize
     requires { ⌜ (count ≤ channelLimit) × (at + groupsSize 0 (take count table) ≤ length (now out)) ⌝ }
-    ensures { λ r. ⌜ Put (now (out .entry)) at (groupsOctets 0 (map settled (take count table))) r (now (out .exit)) ⌝ }
+    ensures { λ r. ⌜ Put (now (out .entry)) at (groupsOctets 0 (map reported (take count table))) r (now (out .exit)) ⌝ }
 {
     let mut i = 0usize;
     let mut next = at;

@@ -24,11 +24,11 @@ use Rattle.stores.proofs.Stores.{put-then, put-long, putting-then}
 use Rattle.values.proofs.Laws.{width-le}
 use Rattle.settings.specs.declared.Scale.{Scale}
 use Rattle.settings.specs.declared.Settings.{Settings}
-use Rattle.layout.specs.Frame.{widthIn}
+use Rattle.layout.specs.Frame.{widthIn, reported}
 use Rattle.layout.specs.Size.{channelSize, nullSize, contentSize, sequencesSize}
 use Rattle.groups.specs.Item.{item, numberItem, unsignedOf}
 use Rattle.groups.specs.Head.{sequencesItem, headItems}
-use Rattle.groups.specs.Group.{settled, channelOctets, scaleItem, nullItem, groupItems, groupOctets}
+use Rattle.groups.specs.Group.{channelOctets, scaleItem, nullItem, groupItems, groupOctets}
 use Rattle.groups.specs.Parts.{firstItems, scaleItems, lastItems}
 use Rattle.groups.proofs.Sizes.{sequences-long, scale-long, channel-long, content-octet}
 
@@ -75,16 +75,16 @@ null-none : (c : Settings) → eqb (c .null .width) 0 ≡ true → item 0x12 [] 
 unfolding item field be shortest
 null-none c e = simp e
 
-null-is : (c : Settings) → nullItem (settled c) ≡ field 0x12 (nullSize c) (c .null .bits)
-unfolding nullItem settled
+null-is : (c : Settings) → nullItem (reported c) ≡ field 0x12 (nullSize c) (c .null .bits)
+unfolding nullItem reported
 null-is c =
     pick-cases (λ (l : List ℕ). l ≡ field 0x12 (nullSize c) (c .null .bits)) (eqb (c .null .width) 0)
     (null-none c)
     (λ e. field-is 0x12 (widthIn c) (c .null .bits) (omega (arith, width-le (c .kind))) ∙ simp e)
 
 -- The items of a group.
-pub items-is : (c : Settings) → groupItems (settled c) ≡ (firstItems c ++ scaleItems c) ++ lastItems c
-unfolding groupItems settled
+pub items-is : (c : Settings) → groupItems (reported c) ≡ (firstItems c ++ scaleItems c) ++ lastItems c
+unfolding groupItems reported
 items-is c =
     let w : widthIn c < 128 = omega (arith, width-le (c .kind)) in
     let f : 4 < 128 = omega arith in
@@ -100,12 +100,12 @@ pub length-ahead : (k n : ℕ) → length (aheadParts k n) ≡ 2 + channelSize k
 length-ahead k n = simp (length-append, channel-long) (omega arith)
 
 -- A channel's group.
-pub group-is : (k n : ℕ) (c : Settings) → n ≡ contentSize c → aheadParts k n ++ groupItems (settled c) ≡ groupOctets k (settled c)
+pub group-is : (k n : ℕ) (c : Settings) → n ≡ contentSize c → aheadParts k n ++ groupItems (reported c) ≡ groupOctets k (reported c)
 unfolding groupOctets
 group-is k n c e =
-    ap (λ (m : ℕ). aheadParts k m ++ groupItems (settled c)) e
-    ∙ ap (λ (l : List ℕ). 0x3F ∷ l) (append-assoc (channelOctets k) (contentSize c ∷ []) (groupItems (settled c)))
-    ∙ ap (λ (l : List ℕ). 0x3F ∷ (channelOctets k ++ (l ++ groupItems (settled c)))) (sym (content-octet c))
+    ap (λ (m : ℕ). aheadParts k m ++ groupItems (reported c)) e
+    ∙ ap (λ (l : List ℕ). 0x3F ∷ l) (append-assoc (channelOctets k) (contentSize c ∷ []) (groupItems (reported c)))
+    ∙ ap (λ (l : List ℕ). 0x3F ∷ (channelOctets k ++ (l ++ groupItems (reported c)))) (sym (content-octet c))
 
 -- 06.
 pub sequences-none : (n : ℕ) → n ≡ 0 → sequencesItem n ≡ 0x06 ∷ 0 ∷ []

@@ -20,11 +20,11 @@ use Rattle.stores.specs.Length.{shortest, shortest-short, length-shortest-short
 use Rattle.values.proofs.Laws.{width-le}
 use Rattle.settings.specs.declared.Scale.{Scale}
 use Rattle.settings.specs.declared.Settings.{Settings}
-use Rattle.layout.specs.Frame.{widthIn, offsetBits}
+use Rattle.layout.specs.Frame.{widthIn, offsetBits, reported}
 use Rattle.layout.specs.Size.{channelSize, nullSize, contentSize, groupSize, groupsSize, sequencesSize}
 use Rattle.groups.specs.Item.{item, numberItem, unsignedOf}
 use Rattle.groups.specs.Head.{sequencesItem, headItems}
-use Rattle.groups.specs.Group.{settled, channelOctets, scaleItem, nullItem, groupItems, groupOctets, groupsOctets}
+use Rattle.groups.specs.Group.{channelOctets, scaleItem, nullItem, groupItems, groupOctets, groupsOctets}
 
 pub length-item : (tag : ℕ) (v : List ℕ) → length (item tag v) ≡ length (shortest (length v)) + 1 + length v
 unfolding item
@@ -72,8 +72,8 @@ null-long c = by (eqb (c .null .width) 0)
     by true = short-item 0x12 [] (omega arith)
     by false = number-long 0x12 (widthIn c) (c .null .bits) (omega (arith, width-le (c .kind)))
 
-pub content-long : (c : Settings) → length (groupItems (settled c)) ≡ contentSize c
-unfolding groupItems settled
+pub content-long : (c : Settings) → length (groupItems (reported c)) ≡ contentSize c
+unfolding groupItems reported
 content-long c =
     let block = number-long 0x04 4 (c .block) (omega arith) in
     let class = number-long 0x08 2 (c .class) (omega arith) in
@@ -98,16 +98,16 @@ content-few c =
     omega arith
 
 -- Their length is one octet.
-pub content-octet : (c : Settings) → shortest (length (groupItems (settled c))) ≡ contentSize c ∷ []
+pub content-octet : (c : Settings) → shortest (length (groupItems (reported c))) ≡ contentSize c ∷ []
 content-octet c = rw (content-long c) (shortest-short (contentSize c) (content-few c))
 
-pub group-long : (k : ℕ) (c : Settings) → length (groupOctets k (settled c)) ≡ groupSize k c
+pub group-long : (k : ℕ) (c : Settings) → length (groupOctets k (reported c)) ≡ groupSize k c
 unfolding groupOctets groupSize
 group-long k c =
     let one = length-shortest-short (contentSize c) (content-few c) in
     simp (length-append, content-long, channel-long) (omega arith)
 
-pub groups-long : (k : ℕ) (cs : List Settings) → length (groupsOctets k (map settled cs)) ≡ groupsSize k cs
+pub groups-long : (k : ℕ) (cs : List Settings) → length (groupsOctets k (map reported cs)) ≡ groupsSize k cs
 unfolding groupsOctets groupsSize
 groups-long k [] = refl
 groups-long k (c ∷ cs) = rw (length-append, group-long, groups-long (suc k) cs)

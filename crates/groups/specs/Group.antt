@@ -8,22 +8,8 @@ use Rattle.stores.specs.Number.{be}
 use Rattle.stores.specs.Length.{shortest}
 use Rattle.settings.specs.declared.Scale.{Scale}
 use Rattle.settings.specs.declared.Settings.{Settings}
-use Rattle.layout.specs.Frame.{widthIn, offsetBits}
+use Rattle.layout.specs.Frame.{widthIn}
 use Rattle.groups.specs.Item.{item, numberItem, unsignedOf}
-
--- The attributes of a channel: an offset not defined is zero bits of the sample's width.
-unfoldable pub settled : Settings → Settings
-settled c =
-    record {
-      block = c .block;
-      class = c .class;
-      lead = c .lead;
-      kind = c .kind;
-      interval = c .interval;
-      resolution = c .resolution;
-      offset = offsetBits c;
-      null = c .null;
-    }
 
 -- The shortest form of a channel number below 16,384: seven bits an octet, highest first.
 unfoldable pub channelOctets : ℕ → List ℕ

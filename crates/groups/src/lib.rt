@@ -9,10 +9,10 @@ ghost use Prim.Native.Nat.{_+_, _≤_, _<_};
 ghost use lib.ListN.{length};
 ghost use lib.Signed.{mag};
 ghost use Rattle.stores.specs.Storing.{Put, Putting};
-ghost use Rattle.layout.specs.Frame.{widthIn};
+ghost use Rattle.layout.specs.Frame.{widthIn, reported};
 ghost use Rattle.layout.specs.Size.{channelSize, nullSize, contentSize, groupSize, sequencesSize};
 ghost use Rattle.groups.specs.Head.{sequencesItem, headItems};
-ghost use Rattle.groups.specs.Group.{settled, channelOctets, scaleItem, groupItems, groupOctets};
+ghost use Rattle.groups.specs.Group.{channelOctets, scaleItem, groupItems, groupOctets};
 ghost use Rattle.groups.specs.Parts.{unsignedBy, firstItems, scaleItems, lastItems};
 use settings::Scale;
 use settings::Settings;
@@ -90,7 +90,7 @@ fn put_last(out: &mut [u8], at: usize, c: Settings) -> usize
 // The items of a channel's group.
 fn put_items(out: &mut [u8], at: usize, c: Settings) -> usize
     requires { ⌜ at + contentSize c ≤ length (now out) ⌝ }
-    ensures { λ r. ⌜ Put (now (out .entry)) at (groupItems (settled c)) r (now (out .exit)) ⌝ }
+    ensures { λ r. ⌜ Put (now (out .entry)) at (groupItems (reported c)) r (now (out .exit)) ⌝ }
 {
     let a = put_first(out, at, c);
     let b = put_scales(out, a, c);
@@ -128,7 +128,7 @@ fn group_octets(k: u8, n: u8) -> usize
 // A channel's group, with the octets that its items take.
 fn store_group(out: &mut [u8], at: usize, k: u8, n: u8, c: Settings) -> usize
     requires { ⌜ (n ≡ contentSize c) × (at + groupSize k c ≤ length (now out)) ⌝ }
-    ensures { λ r. ⌜ Put (now (out .entry)) at (groupOctets k (settled c)) r (now (out .exit)) ⌝ }
+    ensures { λ r. ⌜ Put (now (out .entry)) at (groupOctets k (reported c)) r (now (out .exit)) ⌝ }
 {
     let a = stores::put_octet(out, at, 0x3F);
     let b = put_channel(out, a, k);
@@ -138,7 +138,7 @@ fn store_group(out: &mut [u8], at: usize, k: u8, n: u8, c: Settings) -> usize
 
 // Stores channel k's group.
 pub fn put_group(out: &mut [u8], at: usize, k: u8, c: Settings) -> usize
-    ensures { λ r. ⌜ Putting (now (out .entry)) at (groupOctets k (settled c)) r (now (out .exit)) ⌝ }
+    ensures { λ r. ⌜ Putting (now (out .entry)) at (groupOctets k (reported c)) r (now (out .exit)) ⌝ }
 {
     let n = content_size(c);
     if stores::overruns(out.len(), at, group_octets(k, n)) {

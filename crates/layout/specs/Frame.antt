@@ -42,6 +42,20 @@ octetsBelow channel cs = sequenceOctets (take channel cs)
 unfoldable pub offsetBits : Settings → Bits
 offsetBits c = pick (eqb (c .offset .width) 0) (record { width = widthIn c; bits = 0 }) (c .offset)
 
+-- The attributes of a channel as they are reported and recorded: an offset not defined is zero bits of the sample's width.
+unfoldable pub reported : Settings → Settings
+reported c =
+    record {
+      block = c .block;
+      class = c .class;
+      lead = c .lead;
+      kind = c .kind;
+      interval = c .interval;
+      resolution = c .resolution;
+      offset = offsetBits c;
+      null = c .null;
+    }
+
 -- Bits that are defined have the sample's width.
 unfoldable pub widthAgrees : ℕ → Bits → Bool
 widthAgrees width b = either (eqb (b .width) 0) (eqb (b .width) width)

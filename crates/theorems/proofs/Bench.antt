@@ -11,7 +11,7 @@ use Rattle.heads.specs.Head.{channelOf, lengthOf, unknownContext, rootOnly, pri
 use Rattle.items.specs.Walk.{Items, item, finished, fault, refusal, itemOf, nextIn, nextOf, follow, walk, itemsFrom, itemsOf}
 use Rattle.definitions.specs.Define.{tagged, scaleOf, defined}
 use Rattle.settings.specs.Settings.{allApplied}
-use Rattle.layout.specs.Frame.{offsetBits, blockOctets, sequenceOctets, octetsBelow, widthAgrees, channelAgrees, allAgree, samplesOf, offsetOf, placeOf}
+use Rattle.layout.specs.Frame.{offsetBits, blockOctets, sequenceOctets, octetsBelow, widthAgrees, channelAgrees, allAgree, samplesOf, offsetOf, placeOf, reported}
 use Rattle.stores.specs.Number.{be}
 use Rattle.stores.specs.Length.{holding, shortest}
 use Rattle.laid.specs.Laid.{block, sequence, laidFrom, laid}
@@ -26,7 +26,7 @@ use Rattle.pass.specs.Verdict.{oneChanged, withFrame, carried, placeAt, afterIt
 use Rattle.reader.specs.Answer.{attributesIn, describedIn, attributesOf, sampleIn, sampledIn, sampleOf}
 use Rattle.groups.specs.Item.{item as itemOctets, numberItem, unsignedOf}
 use Rattle.groups.specs.Head.{sequencesItem, headItems}
-use Rattle.groups.specs.Group.{settled, channelOctets, scaleItem, nullItem, groupItems, groupOctets, groupsOctets}
+use Rattle.groups.specs.Group.{channelOctets, scaleItem, nullItem, groupItems, groupOctets, groupsOctets}
 use Rattle.canonical.specs.Recording.{sampleBits, tabulate, recordedFrame, recording}
 use Rattle.canonical.specs.Canonical.{waveformOf, frameOctets, framesOctets, canonical}
 use Rattle.canonical.specs.Write.{framesIn, canonicalOf}
@@ -78,7 +78,7 @@ unfolding bigFrom littleOf numberOf twos signedOf widthOf plainOf isNull valueOf
     channelsOf sequencesOf pointerFits pointerAfter framedAs
     oneChanged withFrame carried placeAt afterItem interpret verdict checkedAs checkOf
     offsetBits attributesIn describedIn attributesOf sampleIn sampledIn sampleOf
-    settled sampleBits tabulate recordedFrame recording
+    reported sampleBits tabulate recordedFrame recording
     be holding shortest block sequence laidFrom laid
     itemOctets numberItem unsignedOf channelOctets scaleItem nullItem groupItems groupOctets groupsOctets
     sequencesItem headItems waveformOf frameOctets framesOctets canonical

@@ -6,14 +6,15 @@ use native.Mathlib.Omega.{arith}
 use borrow.Author.Needs.{needs}
 use lib.ListN.{length, take, drop, getD}
 use Rattle.settings.specs.Settings.{zeroSettings}
-use Rattle.groups.specs.Group.{settled, groupsOctets}
+use Rattle.layout.specs.Frame.{reported}
+use Rattle.groups.specs.Group.{groupsOctets}
 use Rattle.groups.proofs.Sizes.{groups-long}
 use Rattle.frames.proofs.Coming.{Coming, coming-first, coming-step, coming-done, groups-next, groups-done, taken-at, taken-long}
 use Rattle.frames.proofs.put_groups.Statement.{statement}
 use Rattle.frames.proofs.put_groups.Tie as tie
 
 abbrev Inv-loop : tie.InvT-loop
-Inv-loop out₀ at count table i₀ next₀ out i next = (i ≤ count) × (length (take count table) ≡ count) × (count ≤ 256) × (at + length (groupsOctets 0 (map settled (take count table))) ≤ length out₀) × Coming out₀ at (groupsOctets 0 (map settled (take count table))) next (groupsOctets i (map settled (drop i (take count table)))) out
+Inv-loop out₀ at count table i₀ next₀ out i next = (i ≤ count) × (length (take count table) ≡ count) × (count ≤ 256) × (at + length (groupsOctets 0 (map reported (take count table))) ≤ length out₀) × Coming out₀ at (groupsOctets 0 (map reported (take count table))) next (groupsOctets i (map reported (drop i (take count table)))) out
 
 abbrev μ-loop : tie.MeasureT-loop
 μ-loop out₀ at count table i₀ next₀ out i next = count - i
