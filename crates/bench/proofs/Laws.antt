@@ -14,8 +14,7 @@ use Rattle.stores.specs.Storing.{Putting, put-fits}
 use Rattle.stores.proofs.Stores.{sets-front, put-long, putting-then}
 use Rattle.octets.proofs.Pick.{pick-cases}
 use Rattle.heads.specs.declared.Refusal.{Refusal}
-use Rattle.pass.specs.declared.Checked.{Checked}
-use Rattle.pass.specs.declared.Checked.the-variants.{Frames}
+use Rattle.heads.specs.Answer.{answered, refusedBy}
 use Rattle.bench.specs.Line.{decimalIn, decimalOf, frames, refused, at-place, line-end, lineOf}
 
 -- A number has no more digits than are allowed.
@@ -76,7 +75,7 @@ few n = decimal-long 20 n
 
 -- The line of a count, from the promises of its three parts.
 pub frames-line : {d e f g : List ℕ} {a b r : ℕ} (n : ℕ) → 64 ≡ length d
-    → Putting d 0 frames a e → Putting e a (decimalOf n) b f → Putting f b line-end r g → Counts r g × (take r g ≡ lineOf (Frames n))
+    → Putting d 0 frames a e → Putting e a (decimalOf n) b f → Putting f b line-end r g → Counts r g × (take r g ≡ lineOf (answered n))
 unfolding lineOf
 frames-line n l p q t =
     let x = length-append frames (decimalOf n) in
@@ -86,7 +85,7 @@ frames-line n l p q t =
 -- The line of a refusal, from the promises of its five parts.
 pub refused-line : {d e f g h i : List ℕ} {a b j k r : ℕ} (x : Refusal) → 64 ≡ length d
     → Putting d 0 refused a e → Putting e a (decimalOf (x .number)) b f → Putting f b at-place j g
-    → Putting g j (decimalOf (x .place)) k h → Putting h k line-end r i → Counts r i × (take r i ≡ lineOf (Checked.Refused x))
+    → Putting g j (decimalOf (x .place)) k h → Putting h k line-end r i → Counts r i × (take r i ≡ lineOf (refusedBy x))
 unfolding lineOf
 refused-line x l p q s t u =
     let n = decimalOf (x .number) in

@@ -3,7 +3,7 @@ use mathlib.Core.List.{List, [], _∷_, _++_}
 use Prim.Native.Nat.{ℕ, zero, suc, _+_, _/_, _%_}
 use lib.Dec.{ltb}
 use Rattle.octets.specs.Pick.{pick}
-use Rattle.pass.specs.declared.Checked.{Checked}
+use Rattle.heads.specs.Answer.{Answer, answered, refusedAs}
 
 -- A number in decimal, in ASCII; no more digits than are allowed.
 unfoldable pub decimalIn : ℕ → ℕ → List ℕ
@@ -30,6 +30,6 @@ abbrev pub line-end : List ℕ
 line-end = 0x0A ∷ []
 
 -- `frames N` or `refused R at P`.
-unfoldable pub lineOf : Checked → List ℕ
-lineOf (Checked.Frames n) = frames ++ decimalOf n ++ line-end
-lineOf (Checked.Refused r) = refused ++ decimalOf (r .number) ++ at-place ++ decimalOf (r .place) ++ line-end
+unfoldable pub lineOf : Answer ℕ → List ℕ
+lineOf (answered n) = frames ++ decimalOf n ++ line-end
+lineOf (refusedAs number place) = refused ++ decimalOf number ++ at-place ++ decimalOf place ++ line-end

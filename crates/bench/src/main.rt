@@ -6,6 +6,7 @@ ghost use mathlib.Core.Path.{_≡_};
 ghost use lib.ListN.{take};
 ghost use Rattle.io.specs.Counts.{Counts};
 ghost use Rattle.stores.specs.Storing.{Putting};
+ghost use Rattle.pass.specs.Verdict.{checkedSays};
 ghost use Rattle.bench.specs.Line.{decimalOf, lineOf};
 use libc::STDIN_FILENO;
 use libc::STDOUT_FILENO;
@@ -33,7 +34,7 @@ fn put_decimal(out: &mut [u8], at: usize, n: u64) -> usize
 // Puts the line of an answer at the start of out, and answers how many octets it has.
 fn put_line(checked: Checked, out: &mut [u8; 64]) -> usize
     ensures { λ r. ⌜ Counts r (now (out .exit)) ⌝ }
-    ensures { λ r. ⌜ take r (now (out .exit)) ≡ lineOf checked ⌝ }
+    ensures { λ r. ⌜ take r (now (out .exit)) ≡ lineOf (checkedSays checked) ⌝ }
 {
     match checked {
         Checked::Frames(n) => {

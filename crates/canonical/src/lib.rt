@@ -11,7 +11,7 @@ ghost use mathlib.Core.List.{_∷_, []};
 ghost use Prim.Native.Nat.{_≤_};
 ghost use lib.ListN.{length};
 ghost use Rattle.stores.specs.Storing.{Put};
-ghost use Rattle.canonical.specs.Write.{canonicalOf, Ready, writtenOf, leftOf};
+ghost use Rattle.canonical.specs.Write.{canonicalOf, Ready, writtenSays, writtenOf, leftOf};
 use effects::Effect;
 use framing::Framed;
 use heads::Refusal;
@@ -119,7 +119,7 @@ fn write_frames(s: &[u8], out: &mut [u8]) -> usize
 
 // Writes the canonical file of a file into the front of a buffer.
 pub fn write_canonical(s: &[u8], out: &mut [u8]) -> Written
-    ensures { λ r. ⌜ (r ≡ writtenOf (now (s .entry)) (now (out .entry))) × (now (out .exit) ≡ leftOf (now (s .entry)) (now (out .entry))) ⌝ }
+    ensures { λ r. ⌜ (writtenSays r ≡ writtenOf (now (s .entry)) (now (out .entry))) × (now (out .exit) ≡ leftOf (now (s .entry)) (now (out .entry))) ⌝ }
 {
     let pass = pass::scan_file(
         s,

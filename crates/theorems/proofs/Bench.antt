@@ -4,26 +4,24 @@ use mathlib.Core.List.{List, [], _∷_, map}
 use Prim.Native.Nat.{ℕ}
 use lib.IntN.{pos, negsuc}
 use Rattle.octets.specs.Number.{bigFrom, littleOf, numberOf, twos, signedOf}
+use Rattle.values.specs.declared.Value.{Value}
 use Rattle.values.specs.declared.Value.the-variants.{Whole}
 use Rattle.values.specs.Sample.{widthOf, plainOf, isNull, valueOf}
 use Rattle.items.specs.declared.Item.{Item}
+use Rattle.heads.specs.Answer.{Answer, answered, refusedAs}
 use Rattle.heads.specs.Head.{channelOf, lengthOf, unknownContext, rootOnly, primitiveHead, groupLength, groupHead, headOf}
-use Rattle.items.specs.Walk.{Items, item, finished, fault, refusal, itemOf, nextIn, nextOf, follow, walk, itemsFrom, itemsOf}
+use Rattle.items.specs.Walk.{Items, item, finished, fault, itemOf, nextIn, nextOf, follow, walk, itemsFrom, itemsOf}
 use Rattle.definitions.specs.Define.{tagged, scaleOf, defined}
 use Rattle.settings.specs.Settings.{allApplied}
 use Rattle.layout.specs.Frame.{offsetBits, blockOctets, sequenceOctets, octetsBelow, widthAgrees, channelAgrees, allAgree, samplesOf, offsetOf, placeOf, reported}
 use Rattle.stores.specs.Number.{be}
 use Rattle.stores.specs.Length.{holding, shortest}
 use Rattle.laid.specs.Laid.{block, sequence, laidFrom, laid}
-use Rattle.pass.specs.declared.Checked.{Checked}
-use Rattle.pass.specs.declared.Checked.the-variants.{Frames}
-use Rattle.reader.specs.declared.Described.{Described}
-use Rattle.reader.specs.declared.Sampled.{Sampled}
-use Rattle.reader.specs.declared.Sampled.the-variants.{Sample}
+use Rattle.reader.specs.declared.Attributes.{Attributes}
 use Rattle.framing.specs.Framing.{channelsOf, sequencesOf, pointerFits, pointerAfter, framedAs}
 use Rattle.effects.specs.Effects.{orderEffect, countEffect, sequencesEffect, startEffect, compressedEffect, allEffect, oneEffect, rootEffect, plainEffect, memberEffect, groupEffect, effectOf}
 use Rattle.pass.specs.Verdict.{oneChanged, withFrame, carried, placeAt, afterItem, interpret, verdict, checkedAs, checkOf}
-use Rattle.reader.specs.Answer.{attributesIn, describedIn, attributesOf, sampleIn, sampledIn, sampleOf}
+use Rattle.reader.specs.Answer.{FoundSample, foundSample, attributesIn, attributesOf, sampleIn, sampleOf}
 use Rattle.groups.specs.Item.{item as itemOctets, numberItem, unsignedOf}
 use Rattle.groups.specs.Head.{sequencesItem, headItems}
 use Rattle.groups.specs.Group.{channelOctets, scaleItem, nullItem, groupItems, groupOctets, groupsOctets}
@@ -46,26 +44,26 @@ named (fault r) = []
 -- canonical file.
 pub data Fact : Type 0 where
   groups : List ℕ → Fact
-  attributes : ℕ → ℕ → Described → Fact
-  sample : ℕ → ℕ → ℕ → Sampled → Fact
+  attributes : ℕ → ℕ → Answer Attributes → Fact
+  sample : ℕ → ℕ → ℕ → Answer FoundSample → Fact
   rewritten : List ℕ → Fact
 
 -- A file, the answer of the check, and what else is said of it.
 pub record Case : Type 0 where
   pub input : List ℕ
-  pub checked : Checked
+  pub checked : Answer ℕ
   pub facts : List Fact
 
 -- The question with the answer that the definitions give for the file s.
-abbrev pub answered : List ℕ → Fact → Fact
-answered s (groups x) = groups (named (itemsOf s))
-answered s (attributes frame channel x) = attributes frame channel (attributesOf s frame channel)
-answered s (sample frame channel n x) = sample frame channel n (sampleOf s frame channel n)
-answered s (rewritten x) = rewritten (canonicalOf s)
+abbrev pub factOf : List ℕ → Fact → Fact
+factOf s (groups x) = groups (named (itemsOf s))
+factOf s (attributes frame channel x) = attributes frame channel (attributesOf s frame channel)
+factOf s (sample frame channel n x) = sample frame channel n (sampleOf s frame channel n)
+factOf s (rewritten x) = rewritten (canonicalOf s)
 
 -- The file with the answers that the definitions give.
-abbrev pub asked : Case → Case
-asked c = record { input = c .input; checked = checkOf (c .input); facts = map (answered (c .input)) (c .facts) }
+abbrev pub caseOf : Case → Case
+caseOf c = record { input = c .input; checked = checkOf (c .input); facts = map (factOf (c .input)) (c .facts) }
 
 -- A table with the answers that the definitions give; it unfolds all of them.
 unfoldable pub computed : List Case → List Case
@@ -77,24 +75,24 @@ unfolding bigFrom littleOf numberOf twos signedOf widthOf plainOf isNull valueOf
     allEffect oneEffect plainEffect memberEffect groupEffect effectOf
     channelsOf sequencesOf pointerFits pointerAfter framedAs
     oneChanged withFrame carried placeAt afterItem interpret verdict checkedAs checkOf
-    offsetBits attributesIn describedIn attributesOf sampleIn sampledIn sampleOf
+    offsetBits attributesIn attributesOf sampleIn sampleOf
     reported sampleBits tabulate recordedFrame recording
     be holding shortest block sequence laidFrom laid
     itemOctets numberItem unsignedOf channelOctets scaleItem nullItem groupItems groupOctets groupsOctets
     sequencesItem headItems waveformOf frameOctets framesOctets canonical
     named framesIn canonicalOf
-computed cs = map asked cs
+computed cs = map caseOf cs
 
 -- ---- the files
 
 -- A refused file: the number and the place of the refusal.
 abbrev refusedAt : List ℕ → ℕ → ℕ → Case
-refusedAt s number place = record { input = s; checked = Checked.Refused (refusal number place); facts = [] }
+refusedAt s number place = record { input = s; checked = refusedAs number place; facts = [] }
 
 -- The attributes of a channel by the frame's channels and sequences and by its data type and sample width; all else is as by default.
-abbrev typed : ℕ → ℕ → ℕ → ℕ → Described
+abbrev typed : ℕ → ℕ → ℕ → ℕ → Answer Attributes
 typed channels sequences kind width =
-    Described.Attributes (record {
+    answered (record {
       start = pos 0;
       channels = channels;
       sequences = sequences;
@@ -107,6 +105,10 @@ typed channels sequences kind width =
       offset = record { width = width; bits = 0 };
       null = record { width = 0; bits = 0 };
     })
+
+-- A sample at a place.
+abbrev at : ℕ → Value → Answer FoundSample
+at place value = answered (foundSample place value)
 
 -- P2's canonical file, 113 octets.
 abbrev pub canonical2 : List ℕ
@@ -130,7 +132,7 @@ cases =
     -- P1
     record {
       input = [];
-      checked = Frames 0;
+      checked = answered 0;
       facts = rewritten [] ∷ [];
     }
     -- P2
@@ -138,39 +140,39 @@ cases =
       input =
           0x01 ∷ 0x01 ∷ 0x01 ∷ 0x04 ∷ 0x01 ∷ 0x02 ∷ 0x05 ∷ 0x01 ∷ 0x02 ∷ 0x3F ∷ 0x01 ∷ 0x03 ∷ 0x04 ∷ 0x01 ∷ 0x01
           ∷ 0x1E ∷ 0x06 ∷ 0x01 ∷ 0x00 ∷ 0x02 ∷ 0x00 ∷ 0xFF ∷ 0xFF ∷ [];
-      checked = Frames 1;
+      checked = answered 1;
       facts =
-          sample 0 0 0 (Sample 17 (Whole (pos 1)))
-          ∷ sample 0 0 1 (Sample 19 (Whole (pos 2)))
-          ∷ sample 0 1 0 (Sample 21 (Whole (negsuc 0)))
+          sample 0 0 0 (at 17 (Whole (pos 1)))
+          ∷ sample 0 0 1 (at 19 (Whole (pos 2)))
+          ∷ sample 0 1 0 (at 21 (Whole (negsuc 0)))
           ∷ rewritten canonical2
           ∷ [];
     }
     -- P3
     ∷ record {
       input = 0x1E ∷ 0x00 ∷ [];
-      checked = Frames 1;
+      checked = answered 1;
       facts = attributes 0 0 (typed 1 0 0 2) ∷ [];
     }
     -- P4
     ∷ record {
       input = 0x05 ∷ 0x01 ∷ 0x02 ∷ 0x3F ∷ 0x00 ∷ 0x03 ∷ 0x0A ∷ 0x01 ∷ 0x03 ∷ 0x0A ∷ 0x01 ∷ 0x05 ∷ 0x1E ∷ 0x02 ∷ 0x07 ∷ 0x08 ∷ [];
-      checked = Frames 1;
+      checked = answered 1;
       facts =
           attributes 0 0 (typed 2 1 5 1)
           ∷ attributes 0 1 (typed 2 1 5 1)
-          ∷ sample 0 0 0 (Sample 14 (Whole (pos 7)))
-          ∷ sample 0 1 0 (Sample 15 (Whole (pos 8)))
+          ∷ sample 0 0 0 (at 14 (Whole (pos 7)))
+          ∷ sample 0 1 0 (at 15 (Whole (pos 8)))
           ∷ [];
     }
     -- P5
     ∷ record {
       input = 0x3F ∷ 0x00 ∷ 0x03 ∷ 0x0A ∷ 0x01 ∷ 0x03 ∷ 0x1E ∷ 0x02 ∷ 0x00 ∷ 0x09 ∷ [];
-      checked = Frames 1;
+      checked = answered 1;
       facts =
           attributes 0 0 (typed 1 1 0 2)
-          ∷ sample 0 0 0 (Sample 8 (Whole (pos 9)))
-          ∷ sample 0 0 1 (Sampled.Refused (refusal 22 0))
+          ∷ sample 0 0 0 (at 8 (Whole (pos 9)))
+          ∷ sample 0 0 1 (refusedAs 22 0)
           ∷ [];
     }
     -- P6
@@ -186,7 +188,7 @@ cases =
     -- P11
     ∷ record {
       input = 0x05 ∷ 0x02 ∷ 0x01 ∷ 0x00 ∷ 0x3F ∷ 0x81 ∷ 0x7F ∷ 0x03 ∷ 0x0A ∷ 0x01 ∷ 0x03 ∷ [];
-      checked = Frames 0;
+      checked = answered 0;
       facts = groups (255 ∷ []) ∷ [];
     }
     ∷ []
