@@ -14,7 +14,7 @@ use Rattle.octets.proofs.Pick.{pick-cases}
 use Rattle.heads.specs.declared.Refusal.{Refusal}
 use Rattle.pass.specs.declared.Checked.{Checked}
 use Rattle.pass.specs.declared.Checked.the-variants.{Frames}
-use Rattle.line.specs.Line.{decimalIn, decimalOf, framesWord, refusedWord, atWord, lineEnd, lineOf, Lined}
+use Rattle.line.specs.Line.{decimalIn, decimalOf, ascii, lineOf, Lined}
 
 -- A number has no more digits than are allowed.
 decimal-long : (allowed n : ℕ) → length (decimalIn allowed n) ≤ allowed
@@ -72,25 +72,25 @@ few n = decimal-long 20 n
 
 -- The line of a count, from the promises of its three parts.
 pub frames-line : {d e f g : List ℕ} {a b r : ℕ} (n : ℕ) → 64 ≡ length d
-    → Putting d 0 framesWord a e → Putting e a (decimalOf n) b f → Putting f b lineEnd r g → Lined (Frames n) d r g
+    → Putting d 0 (ascii "frames ") a e → Putting e a (decimalOf n) b f → Putting f b (ascii "\n") r g → Lined (Frames n) d r g
 unfolding lineOf
 frames-line n l p q t =
-    let x = length-append framesWord (decimalOf n) in
-    at-start (Frames n) (omega (arith, few n, x, length-append (framesWord ++ decimalOf n) lineEnd))
+    let x = length-append (ascii "frames ") (decimalOf n) in
+    at-start (Frames n) (omega (arith, few n, x, length-append (ascii "frames " ++ decimalOf n) (ascii "\n")))
     (more l (omega (arith, few n, x)) (more l (omega (arith, few n)) p q) t)
 
 -- The line of a refusal, from the promises of its five parts.
 pub refused-line : {d e f g h i : List ℕ} {a b j k r : ℕ} (x : Refusal) → 64 ≡ length d
-    → Putting d 0 refusedWord a e → Putting e a (decimalOf (x .number)) b f → Putting f b atWord j g
-    → Putting g j (decimalOf (x .place)) k h → Putting h k lineEnd r i → Lined (Checked.Refused x) d r i
+    → Putting d 0 (ascii "refused ") a e → Putting e a (decimalOf (x .number)) b f → Putting f b (ascii " at ") j g
+    → Putting g j (decimalOf (x .place)) k h → Putting h k (ascii "\n") r i → Lined (Checked.Refused x) d r i
 unfolding lineOf
 refused-line x l p q s t u =
     let n = decimalOf (x .number) in
     let m = decimalOf (x .place) in
     let v : length n ≤ 20 = few (x .number) in
     let w : length m ≤ 20 = few (x .place) in
-    let y = length-append refusedWord n in
-    let z = length-append (refusedWord ++ n) atWord in
-    let o = length-append (refusedWord ++ n ++ atWord) m in
-    at-start (Checked.Refused x) (omega (arith, y, z, o, length-append (refusedWord ++ n ++ atWord ++ m) lineEnd))
+    let y = length-append (ascii "refused ") n in
+    let z = length-append (ascii "refused " ++ n) (ascii " at ") in
+    let o = length-append (ascii "refused " ++ n ++ ascii " at ") m in
+    at-start (Checked.Refused x) (omega (arith, y, z, o, length-append (ascii "refused " ++ n ++ ascii " at " ++ m) (ascii "\n")))
     (more l (omega (arith, y, z, o)) (more l (omega (arith, y, z)) (more l (omega (arith, y)) (more l (omega arith) p q) s) t) u)

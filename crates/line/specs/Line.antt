@@ -2,6 +2,8 @@
 use mathlib.Core.Path.{_≡_}
 use mathlib.Core.List.{List, [], _∷_, _++_}
 use Prim.Native.Nat.{ℕ, zero, suc, _+_, _/_, _%_}
+use Prim.Native.Char.{code}
+use Prim.Native.String.{String, [] as []ᵗ, _∷_ as _∷ᵗ_}
 use lib.Dec.{ltb}
 use lib.ListN.{length, drop}
 use Rattle.octets.specs.Pick.{pick}
@@ -18,23 +20,15 @@ decimalIn (suc allowed) n =
 unfoldable pub decimalOf : ℕ → List ℕ
 decimalOf n = decimalIn 20 n
 
--- `frames `, `refused `, ` at ` and the end of a line, in ASCII.
-abbrev pub framesWord : List ℕ
-framesWord = 0x66 ∷ 0x72 ∷ 0x61 ∷ 0x6D ∷ 0x65 ∷ 0x73 ∷ 0x20 ∷ []
-
-abbrev pub refusedWord : List ℕ
-refusedWord = 0x72 ∷ 0x65 ∷ 0x66 ∷ 0x75 ∷ 0x73 ∷ 0x65 ∷ 0x64 ∷ 0x20 ∷ []
-
-abbrev pub atWord : List ℕ
-atWord = 0x20 ∷ 0x61 ∷ 0x74 ∷ 0x20 ∷ []
-
-abbrev pub lineEnd : List ℕ
-lineEnd = 0x0A ∷ []
+-- The octets of a text in ASCII.
+abbrev pub ascii : String → List ℕ
+ascii []ᵗ = []
+ascii (c ∷ᵗ more) = code c ∷ ascii more
 
 -- `frames N` or `refused R at P`.
 unfoldable pub lineOf : Checked → List ℕ
-lineOf (Checked.Frames n) = framesWord ++ decimalOf n ++ lineEnd
-lineOf (Checked.Refused r) = refusedWord ++ decimalOf (r .number) ++ atWord ++ decimalOf (r .place) ++ lineEnd
+lineOf (Checked.Frames n) = ascii "frames " ++ decimalOf n ++ ascii "\n"
+lineOf (Checked.Refused r) = ascii "refused " ++ decimalOf (r .number) ++ ascii " at " ++ decimalOf (r .place) ++ ascii "\n"
 
 -- The line stands at the start of the buffer d, and octets past it keep what they held: r is its length, and e the buffer then.
 pub record Lined (checked : Checked) (d : List ℕ) (r : ℕ) (e : List ℕ) : Type 0 where
