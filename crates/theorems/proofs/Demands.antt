@@ -20,8 +20,8 @@ use Rattle.reader.specs.Answer.{attributesIn, attributesOf}
 use Rattle.canonical.specs.declared.Written.{Written}
 use Rattle.canonical.specs.Canonical.{canonical}
 use Rattle.canonical.specs.Write.{writtenOf, leftOf}
-use Rattle.theorems.proofs.Questions.{frameAt, AnsweredBy, AttributesAnswered, SampleAnswered, check-accepted, accepted-or-refused, limit-exactly, limit-place, limit-passed, refused-answers, attributes-answered, sample-answered}
-use Rattle.theorems.proofs.Places.{Name, Exists, NamedSample, Belongs, Inside, Owned, sample-exists, sample-inside, samples-apart, octet-owned}
+use Rattle.theorems.proofs.Questions.{frameNumber, AnsweredBy, AttributesAnswered, SampleAnswered, check-accepted, accepted-or-refused, limit-exactly, limit-place, limit-passed, refused-answers, attributes-answered, sample-answered}
+use Rattle.theorems.proofs.Places.{Name, Exists, NamedSample, Belongs, InWaveform, Owned, sample-exists, sample-inside, samples-apart, octet-owned}
 use Rattle.theorems.proofs.Canonical.{recordingOf, AllOctets, Writes, ReadAgain, writes, refusal-leaves, written-file, written-again, same-written}
 
 -- ---- demand 1
@@ -68,8 +68,8 @@ pub record DemandTwo (s : List ℕ) : Type 0 where
   -- The check counts the frames of the verdict.
   pub count : (n : ℕ) → (checkOf s ≡ Checked.Frames n) ↔ ((fs : List Frame) × (verdict s ≡ accepted fs) × (length fs ≡ n))
   -- The attributes, the start pointer among them, and the place and value of a sample are those of its frame.
-  pub attributes : (fs : List Frame) → verdict s ≡ accepted fs → (i c : ℕ) → i < length fs → c < length (frameAt fs i .channels) → attributesOf s i c ≡ Described.Attributes (attributesIn c (frameAt fs i))
-  pub sample : (fs : List Frame) → verdict s ≡ accepted fs → (a : NamedSample s) → Inside s fs a
+  pub attributes : (fs : List Frame) → verdict s ≡ accepted fs → (i c : ℕ) → i < length fs → c < length (frameNumber fs i .channels) → attributesOf s i c ≡ Described.Attributes (attributesIn c (frameNumber fs i))
+  pub sample : (fs : List Frame) → verdict s ≡ accepted fs → (a : NamedSample s) → InWaveform s fs a
   -- The canonical file stands at the start of the buffer, and octets past it keep what they held.
   pub written : (d : List ℕ) (m : ℕ) → writtenOf s d ≡ Written.Octets m → (take m (leftOf s d) ≡ canonical (recordingOf s)) × (drop m (leftOf s d) ≡ drop m d)
   -- Read, it has as many frames and holds the same recording; written out again, it is as the first file.
@@ -92,11 +92,11 @@ pub record Placed (s : List ℕ) (fs : List Frame) : Type 0 where
   -- Each name that the file has is a sample's.
   pub named : (x : Name) → Exists fs x → (a : NamedSample s) × (a .name ≡ x)
   -- Its octets, from the place that the reader answers, lie inside its own frame's waveform.
-  pub inside : (a : NamedSample s) → Inside s fs a
+  pub inside : (a : NamedSample s) → InWaveform s fs a
   -- Two samples with different names share no octet.
   pub apart : (a b : NamedSample s) → (a .name ≡ b .name → ⊥) → (p : ℕ) → Belongs s fs a p → Belongs s fs b p → ⊥
   -- Each octet of a waveform is one sample's, or surplus, and never both.
-  pub owned : (i o : ℕ) → i < length fs → o < length (frameAt fs i .waveform) → Owned s fs (frameAt fs i) o
+  pub owned : (i o : ℕ) → i < length fs → o < length (frameNumber fs i .waveform) → Owned s fs (frameNumber fs i) o
 
 -- "Whatever an accepted file holds, and whichever of its samples is named by frame, channel and number, the sample's octets, from the place
 -- that the reader answers, lie inside its own frame's waveform. Two of the file's samples with different names, in one frame or in two,

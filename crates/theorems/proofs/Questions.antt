@@ -170,34 +170,34 @@ sampledNumber (Sampled.Sample place value) = 0
 sampledNumber (Sampled.Refused r) = r .number
 
 -- Frame i.
-abbrev pub frameAt : List Frame → ℕ → Frame
-frameAt fs i = getD fs i zeroFrame
+abbrev pub frameNumber : List Frame → ℕ → Frame
+frameNumber fs i = getD fs i zeroFrame
 
 -- The attributes, or the first of 20 and 21 that holds, at place 0.
 pub record AttributesAnswered (s : List ℕ) (fs : List Frame) (i c : ℕ) : Type 0 where
   pub frame : (attributesOf s i c ≡ Described.Refused (refusal noFrame 0)) ↔ (length fs ≤ i)
-  pub channel : (attributesOf s i c ≡ Described.Refused (refusal noChannel 0)) ↔ ((i < length fs) × (length (frameAt fs i .channels) ≤ c))
-  pub there : (a : Attributes) → (attributesOf s i c ≡ Described.Attributes a) ↔ ((i < length fs) × (c < length (frameAt fs i .channels)) × (attributesIn c (frameAt fs i) ≡ a))
+  pub channel : (attributesOf s i c ≡ Described.Refused (refusal noChannel 0)) ↔ ((i < length fs) × (length (frameNumber fs i .channels) ≤ c))
+  pub there : (a : Attributes) → (attributesOf s i c ≡ Described.Attributes a) ↔ ((i < length fs) × (c < length (frameNumber fs i .channels)) × (attributesIn c (frameNumber fs i) ≡ a))
   pub late : (r : Refusal) → attributesOf s i c ≡ Described.Refused r → (r ≡ refusal noFrame 0) ⊎ (r ≡ refusal noChannel 0)
 
 -- The sample, or the first of 20, 21 and 22 that holds, at place 0.
 pub record SampleAnswered (s : List ℕ) (fs : List Frame) (i c n : ℕ) : Type 0 where
   pub frame : (sampleOf s i c n ≡ Sampled.Refused (refusal noFrame 0)) ↔ (length fs ≤ i)
-  pub channel : (sampleOf s i c n ≡ Sampled.Refused (refusal noChannel 0)) ↔ ((i < length fs) × (length (frameAt fs i .channels) ≤ c))
-  pub sample : (sampleOf s i c n ≡ Sampled.Refused (refusal noSample 0)) ↔ ((i < length fs) × (c < length (frameAt fs i .channels)) × (samplesOf c (frameAt fs i) ≤ n))
-  pub there : (place : ℕ) (v : Value) → (sampleOf s i c n ≡ Sampled.Sample place v) ↔ ((i < length fs) × (c < length (frameAt fs i .channels)) × (n < samplesOf c (frameAt fs i)) × (sampleIn s c n (frameAt fs i) ≡ Sampled.Sample place v))
+  pub channel : (sampleOf s i c n ≡ Sampled.Refused (refusal noChannel 0)) ↔ ((i < length fs) × (length (frameNumber fs i .channels) ≤ c))
+  pub sample : (sampleOf s i c n ≡ Sampled.Refused (refusal noSample 0)) ↔ ((i < length fs) × (c < length (frameNumber fs i .channels)) × (samplesOf c (frameNumber fs i) ≤ n))
+  pub there : (place : ℕ) (v : Value) → (sampleOf s i c n ≡ Sampled.Sample place v) ↔ ((i < length fs) × (c < length (frameNumber fs i .channels)) × (n < samplesOf c (frameNumber fs i)) × (sampleIn s c n (frameNumber fs i) ≡ Sampled.Sample place v))
   pub late : (r : Refusal) → sampleOf s i c n ≡ Sampled.Refused r → (r ≡ refusal noFrame 0) ⊎ ((r ≡ refusal noChannel 0) ⊎ (r ≡ refusal noSample 0))
 
 module _ (s : List ℕ) (fs : List Frame) (e : verdict s ≡ accepted fs) (i c : ℕ) where
-  attributes-tested : Tested describedNumber (attributesOf s i c) (Described.Attributes (attributesIn c (frameAt fs i))) (Described.Refused (refusal noFrame 0)) (Described.Refused (refusal noChannel 0)) (Described.Refused (refusal noSample 0)) i (length fs) c (length (frameAt fs i .channels)) 0 1
+  attributes-tested : Tested describedNumber (attributesOf s i c) (Described.Attributes (attributesIn c (frameNumber fs i))) (Described.Refused (refusal noFrame 0)) (Described.Refused (refusal noChannel 0)) (Described.Refused (refusal noSample 0)) i (length fs) c (length (frameNumber fs i .channels)) 0 1
   unfolding attributesOf describedIn
   attributes-tested =
-      rw (ap (describedIn i c) e) (tested describedNumber _ _ _ _ (omega arith) i (length fs) c (length (frameAt fs i .channels)) 0 1)
+      rw (ap (describedIn i c) e) (tested describedNumber _ _ _ _ (omega arith) i (length fs) c (length (frameNumber fs i .channels)) 0 1)
 
   attributes-late : (r : Refusal) → attributesOf s i c ≡ Described.Refused r → (r ≡ refusal noFrame 0) ⊎ (r ≡ refusal noChannel 0)
   attributes-late r q = by-which (attributes-tested .one)
     where
-      by-which : (attributesOf s i c ≡ Described.Attributes (attributesIn c (frameAt fs i))) ⊎ ((attributesOf s i c ≡ Described.Refused (refusal noFrame 0)) ⊎ ((attributesOf s i c ≡ Described.Refused (refusal noChannel 0)) ⊎ (attributesOf s i c ≡ Described.Refused (refusal noSample 0)))) → (r ≡ refusal noFrame 0) ⊎ (r ≡ refusal noChannel 0)
+      by-which : (attributesOf s i c ≡ Described.Attributes (attributesIn c (frameNumber fs i))) ⊎ ((attributesOf s i c ≡ Described.Refused (refusal noFrame 0)) ⊎ ((attributesOf s i c ≡ Described.Refused (refusal noChannel 0)) ⊎ (attributesOf s i c ≡ Described.Refused (refusal noSample 0)))) → (r ≡ refusal noFrame 0) ⊎ (r ≡ refusal noChannel 0)
       by-which (inl h) = let z : _≡_ {A = ℕ} 0 1 = cc in let w : ⊥ = omega arith in absurd w
       by-which (inr (inl h)) = inl cc
       by-which (inr (inr (inl h))) = inr cc
@@ -214,16 +214,16 @@ module _ (s : List ℕ) (fs : List Frame) (e : verdict s ≡ accepted fs) (i c :
       }
 
   module _ (n : ℕ) where
-    sample-tested : Tested sampledNumber (sampleOf s i c n) (sampleIn s c n (frameAt fs i)) (Sampled.Refused (refusal noFrame 0)) (Sampled.Refused (refusal noChannel 0)) (Sampled.Refused (refusal noSample 0)) i (length fs) c (length (frameAt fs i .channels)) n (samplesOf c (frameAt fs i))
+    sample-tested : Tested sampledNumber (sampleOf s i c n) (sampleIn s c n (frameNumber fs i)) (Sampled.Refused (refusal noFrame 0)) (Sampled.Refused (refusal noChannel 0)) (Sampled.Refused (refusal noSample 0)) i (length fs) c (length (frameNumber fs i .channels)) n (samplesOf c (frameNumber fs i))
     unfolding sampleOf sampledIn sampleIn
     sample-tested =
-        rw (ap (sampledIn s i c n) e) (tested sampledNumber _ _ _ _ (omega arith) i (length fs) c (length (frameAt fs i .channels)) n (samplesOf c (frameAt fs i)))
+        rw (ap (sampledIn s i c n) e) (tested sampledNumber _ _ _ _ (omega arith) i (length fs) c (length (frameNumber fs i .channels)) n (samplesOf c (frameNumber fs i)))
 
     sample-late : (r : Refusal) → sampleOf s i c n ≡ Sampled.Refused r → (r ≡ refusal noFrame 0) ⊎ ((r ≡ refusal noChannel 0) ⊎ (r ≡ refusal noSample 0))
     unfolding sampleIn
     sample-late r q = by-which (sample-tested .one)
       where
-        by-which : (sampleOf s i c n ≡ sampleIn s c n (frameAt fs i)) ⊎ ((sampleOf s i c n ≡ Sampled.Refused (refusal noFrame 0)) ⊎ ((sampleOf s i c n ≡ Sampled.Refused (refusal noChannel 0)) ⊎ (sampleOf s i c n ≡ Sampled.Refused (refusal noSample 0)))) → (r ≡ refusal noFrame 0) ⊎ ((r ≡ refusal noChannel 0) ⊎ (r ≡ refusal noSample 0))
+        by-which : (sampleOf s i c n ≡ sampleIn s c n (frameNumber fs i)) ⊎ ((sampleOf s i c n ≡ Sampled.Refused (refusal noFrame 0)) ⊎ ((sampleOf s i c n ≡ Sampled.Refused (refusal noChannel 0)) ⊎ (sampleOf s i c n ≡ Sampled.Refused (refusal noSample 0)))) → (r ≡ refusal noFrame 0) ⊎ ((r ≡ refusal noChannel 0) ⊎ (r ≡ refusal noSample 0))
         by-which (inl h) = let z : _≡_ {A = ℕ} 0 1 = cc in let w : ⊥ = omega arith in absurd w
         by-which (inr (inl h)) = inl cc
         by-which (inr (inr (inl h))) = inr (inl cc)
