@@ -20,8 +20,10 @@ use Rattle.reader.specs.Answer.{attributesIn, attributesOf}
 use Rattle.canonical.specs.declared.Written.{Written}
 use Rattle.canonical.specs.Canonical.{canonical}
 use Rattle.canonical.specs.Write.{writtenOf, leftOf}
+use Rattle.reader.proofs.Ordered.{endOf}
 use Rattle.theorems.proofs.Questions.{frameNumber, AnsweredBy, AttributesAnswered, SampleAnswered, check-accepted, accepted-or-refused, limit-exactly, limit-place, limit-passed, refused-answers, attributes-answered, sample-answered}
 use Rattle.theorems.proofs.Places.{Name, Exists, NamedSample, Belongs, InWaveform, Owned, sample-exists, sample-inside, samples-apart, octet-owned}
+use Rattle.theorems.proofs.Waveforms.{PartOfFile, waveform-part, waveforms-apart}
 use Rattle.theorems.proofs.Canonical.{recordingOf, AllOctets, Writes, ReadAgain, writes, refusal-leaves, written-file, written-again, same-written}
 
 -- ---- demand 1
@@ -88,7 +90,10 @@ demand-two s =
 -- ---- demand 3
 
 -- The samples of an accepted file, whose frames are fs.
-pub record Placed (s : List ℕ) (fs : List Frame) : Type 0 where
+pub record SamplesPlaced (s : List ℕ) (fs : List Frame) : Type 0 where
+  -- Each frame's waveform is a part of the file, and frame follows on frame without overlap.
+  pub waveform : (i : ℕ) → i < length fs → PartOfFile s (frameNumber fs i)
+  pub ordered : (i j : ℕ) → i < j → j < length fs → endOf (frameNumber fs i) ≤ frameNumber fs j .place
   -- Each name that the file has is a sample's.
   pub named : (x : Name) → Exists fs x → (a : NamedSample s) × (a .name ≡ x)
   -- Its octets, from the place that the reader answers, lie inside its own frame's waveform.
@@ -104,13 +109,21 @@ pub record Placed (s : List ℕ) (fs : List Frame) : Type 0 where
 -- accepted files are both written out, whatever the output buffers held before, the canonical files left there are equal, in length and in
 -- every octet, exactly when the recordings are equal, down to each attribute and each bit of each sample."
 pub record DemandThree : Type 0 where
-  pub places : (s : List ℕ) (fs : List Frame) → verdict s ≡ accepted fs → Placed s fs
+  pub places : (s : List ℕ) (fs : List Frame) → verdict s ≡ accepted fs → SamplesPlaced s fs
   -- Files s and t are written to buffers that held d and g; m and n octets are their canonical files.
   pub same : (s t d g : List ℕ) (m n : ℕ) → AllOctets s → AllOctets t → writtenOf s d ≡ Written.Octets m → writtenOf t g ≡ Written.Octets n → ((m ≡ n) × (take m (leftOf s d) ≡ take n (leftOf t g))) ↔ (recordingOf s ≡ recordingOf t)
 
 pub demand-three : DemandThree
 demand-three =
     record {
-      places = λ s fs e. record { named = sample-exists s fs e; inside = sample-inside s fs e; apart = samples-apart s fs e; owned = octet-owned s fs e };
+      places = λ s fs e.
+          record {
+            waveform = waveform-part s fs e;
+            ordered = waveforms-apart s fs e;
+            named = sample-exists s fs e;
+            inside = sample-inside s fs e;
+            apart = samples-apart s fs e;
+            owned = octet-owned s fs e;
+          };
       same = same-written;
     }

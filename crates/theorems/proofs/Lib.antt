@@ -1,5 +1,6 @@
 pub mod Questions
 pub mod Places
+pub mod Waveforms
 pub mod Canonical
 pub mod Demands
 pub mod Bench
