@@ -68,7 +68,7 @@ use Rattle.frames.specs.Parts.{samplesTurned, frameParts, frameGiven}
 use Rattle.frames.proofs.Given.{frame-put}
 use Rattle.canonical.specs.Recording.{Recorded, recordedFrame, recording}
 use Rattle.canonical.specs.Canonical.{waveformOf, frameOctets, framesOctets, canonical}
-use Rattle.canonical.specs.Write.{framesIn, canonicalOf, fits, writtenIn, writtenOf, leftIn, leftOf, Ready}
+use Rattle.canonical.specs.Write.{framesIn, canonicalOf, fits, writtenIn, writtenOf, leftIn, leftOf, Ready, Wrote}
 use Rattle.canonical.specs.declared.Written.{Written}
 use Rattle.canonical.proofs.Octets.{waveform-big, waveform-little, frames-long, canonical-long, canonical-none, octets-reported}
 use Rattle.canonical.proofs.Recordings.{waveform-long}
@@ -475,3 +475,7 @@ module _ (s d : List ℕ) (q : Asked) (r : Scan) (e : r ≡ scanOf q s) where
           answer-is (Written.Octets k) f
           (rw b (ap Written.Octets (p .next ∙ zero-add (length c))))
           (rw b (p .stored ∙ sets-front c d (omega (arith, long-is))))
+
+-- The answer and the buffer, of a file whose octets the slice's rule gives.
+pub promised : {s d e : List ℕ} {r : Written} → ((i : ℕ) → getD s i 0 < 256) → (r ≡ writtenOf s d) × (e ≡ leftOf s d) → Wrote s d r e
+promised octets p = record { octets = λ i h. octets i; answers = p .0; leaves = p .1 }

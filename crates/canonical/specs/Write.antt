@@ -8,6 +8,7 @@ use lib.ListN.{length, drop}
 use Rattle.octets.specs.Pick.{pick, both}
 use Rattle.heads.specs.Refusals.{noRoom}
 use Rattle.items.specs.Walk.{refusal}
+use Rattle.stores.specs.Number.{Octets}
 use Rattle.layout.specs.Frame.{Frame}
 use Rattle.standing.specs.Standing.{octetsLimit}
 use Rattle.pass.specs.Scan.{sizes}
@@ -50,6 +51,12 @@ writtenOf s buffer = writtenIn buffer (verdict s)
 -- The buffer afterwards.
 unfoldable pub leftOf : List ℕ → List ℕ → List ℕ
 leftOf s buffer = leftIn buffer (verdict s)
+
+-- A call of the writer: the file s and what the buffer held, and then the answer and the buffer as the call leaves it. A file is octets.
+pub record Wrote (s buffer : List ℕ) (answer : Written) (left : List ℕ) : Type 0 where
+  pub octets : Octets s
+  pub answers : answer ≡ writtenOf s buffer
+  pub leaves : left ≡ leftOf s buffer
 
 -- A file that is accepted and has frames, and a buffer that its canonical file fits into.
 pub record Ready (s buffer : List ℕ) : Type 0 where

@@ -20,13 +20,13 @@ same-length : tie.Need-same-length
 same-length c = search needs
 
 returns : tie.Need-returns
-returns c = (canonical-written _ _ (c .before .before .before .before .before .write-canonical .ensures .0) (c .before .n .given .1), c .before .before .before .before .before .write-canonical .ensures .1)
+returns c = (canonical-written _ _ (c .before .before .before .before .before .write-canonical .ensures .answers) (c .before .n .given .1), c .before .before .before .before .before .write-canonical .ensures .leaves)
 
 same-length-2 : tie.Need-same-length-2
 same-length-2 c = search needs
 
 returns-2 : tie.Need-returns-2
-returns-2 c = (canonical-refused _ _ (c .before .before .before .before .before .before .write-canonical .ensures .0) (c .before .before .x .given .1), c .before .before .before .before .before .before .write-canonical .ensures .1)
+returns-2 c = (canonical-refused _ _ (c .before .before .before .before .before .before .write-canonical .ensures .answers) (c .before .before .x .given .1), c .before .before .before .before .before .before .write-canonical .ensures .leaves)
 
 pub mfer-canonical-spec : {M : Type 1} → statement M
 mfer-canonical-spec =
