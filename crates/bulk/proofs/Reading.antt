@@ -5,7 +5,7 @@
 -- Assumes nothing.
 use mathlib.Core.Path.{_≡_, refl, sym, ap, _∙_}
 use mathlib.Core.Logic.{inl, inr}
-use mathlib.Core.List.{List, _++_}
+use mathlib.Core.List.{List}
 use Prim.Native.Nat.{ℕ, zero, suc, _+_, _-_, _*_, _/_, _%_, _≤_, _<_, min}
 use native.Mathlib.Nat.{zero-mul, zero-add, add-mul, mod-lt, div-add-mod', mul-add-div-right, mul-add-mod-self-right}
 use native.Mathlib.Omega.{arith}
@@ -14,28 +14,24 @@ use lib.ListN.{length, getD, take, drop}
 use lib.Seq.{sets}
 use Rattle.octets.specs.Number.{numberOf}
 use Rattle.stores.proofs.Stores.{sets-front}
-use Rattle.heads.specs.declared.Refusal.{Refusal}
+use Rattle.heads.specs.Answer.{Answer, answered, refusedAs, leftBy}
 use Rattle.values.specs.Sample.{widthOf}
 use Rattle.layout.specs.Frame.{Frame, widthIn, blockOctets, sequenceOctets, channelIn, samplesOf, offsetOf, placeOf}
 use Rattle.laid.proofs.Places.{row-fits, below-fits, offset-inside}
 use Rattle.pass.specs.declared.View.{View}
 use Rattle.pass.specs.Verdict.{verdict}
 use Rattle.pass.specs.Scan.{viewOf}
-use Rattle.reader.specs.declared.Placed.{Placed}
-use Rattle.reader.specs.declared.Placed.the-variants.{At}
-use Rattle.reader.specs.Answer.{placeSeen, placedIn, placedOf}
+use Rattle.reader.specs.Answer.{placeSeen, placedOf}
 use Rattle.reader.proofs.Answers.{Located, PlacedAt, countSeen, frameIn, settings-seen, count-seen, place-is}
 use Rattle.reader.proofs.Answers as answers
-use Rattle.reader.proofs.Order.{sample-both}
+use Rattle.reader.proofs.Order.{sample-found, sample-refused}
 use Rattle.reader.proofs.Every.{every-at}
 use Rattle.reader.proofs.Good.{GoodSettings, accepted-good}
 use Rattle.reader.proofs.Ordered.{accepted-lies, accepted-small}
 use Rattle.settings.specs.Settings.{zeroSettings}
-use Rattle.bulk.specs.declared.Read.{Read}
-use Rattle.bulk.specs.declared.Read.the-variants.{Samples}
-use Rattle.bulk.specs.Samples.{bitsAt, bitsIn, bitsOf, bitsFrom, readIn, readOf, writtenAs, bufferAfter}
+use Rattle.bulk.specs.Samples.{bitsAt, bitsFrom, readOf}
 use Rattle.bulk.specs.Walked.{blocked, Wide, InBlocks}
-use Rattle.bulk.proofs.Walks.{length-bits, bits-same}
+use Rattle.bulk.proofs.Walks.{bits-same}
 
 -- ---- the channel that is seen
 
@@ -81,12 +77,10 @@ view-bits : (s : List ℕ) (channel n : ℕ) (f : Frame) → channel < length (f
 unfolding viewOf placeSeen placeOf offsetOf bitsAt
 view-bits s channel n f h = simp (lt-ltb channel (length (f .channels)) h)
 
-pub bits-seen : {s : List ℕ} {frame channel : ℕ} {v : View} (l : Located s frame channel v) (n : ℕ) → numberOf (v .little) (take (widthIn (v .settings)) (drop (placeSeen v n) s)) ≡ bitsOf s frame channel n
-unfolding bitsOf bitsIn
+pub bits-seen : {s : List ℕ} {frame channel : ℕ} {v : View} (l : Located s frame channel v) (n : ℕ) → numberOf (v .little) (take (widthIn (v .settings)) (drop (placeSeen v n) s)) ≡ bitsAt s channel (frameIn l) n
 bits-seen {s} {frame} {channel} l n =
     ap (λ (w : View). numberOf (w .little) (take (widthIn (w .settings)) (drop (placeSeen w n) s))) (l .view)
     ∙ view-bits s channel n (frameIn l) (l .channelIs)
-    ∙ sym (ap (bitsIn s frame channel n) (l .verdictIs))
 
 -- The widths of the data types.
 pub width-wide : (k : ℕ) → k ≤ 8 → Wide (widthOf k)
@@ -146,40 +140,33 @@ module _ {s : List ℕ} {frame channel first p : ℕ} {v : View} (m : PlacedAt s
         }
 
     -- The samples of the blocks are those of the channel.
-    pub seen-bits : (n : ℕ) → bitsFrom (blocked (v .little) w s (p - first % v .settings .block * w) (v .settings .block) (v .octets)) (first % v .settings .block) n ≡ bitsFrom (bitsOf s frame channel) first n
+    pub seen-bits : (n : ℕ) → bitsFrom (blocked (v .little) w s (p - first % v .settings .block * w) (v .settings .block) (v .octets)) (first % v .settings .block) n ≡ bitsFrom (bitsAt s channel (frameIn (m .channelAt))) first n
     unfolding blocked
     seen-bits n =
-        bits-same (blocked (v .little) w s (p - first % v .settings .block * w) (v .settings .block) (v .octets)) (bitsOf s frame channel) (first % v .settings .block) first n
+        bits-same (blocked (v .little) w s (p - first % v .settings .block * w) (v .settings .block) (v .octets)) (bitsAt s channel (frameIn (m .channelAt))) (first % v .settings .block) first n
         (λ j k. rw (walked j, e) (bits-seen (m .channelAt) (first + j)))
 
 -- ---- the answer and the buffer
 
 module _ (s : List ℕ) (frame channel first room : ℕ) where
-  pub read-samples : {p n : ℕ} {v : View} → PlacedAt s frame channel first p v → n ≡ min room (countSeen v - first) → Samples n ≡ readOf s frame channel first room
-  unfolding readOf readIn
-  read-samples {v = v} m e =
+  pub read-samples : {p n : ℕ} {v : View} (m : PlacedAt s frame channel first p v) → n ≡ min room (countSeen v - first) → answered (bitsFrom (bitsAt s channel (frameIn (m .channelAt))) first n) ≡ readOf s frame channel first room
+  unfolding readOf
+  read-samples m e =
       let l = m .channelAt in
       let c = count-seen l in
-      let h : first < samplesOf channel (frameIn l) = omega (arith, m .number) in
-      ap Samples (e ∙ ap (λ (k : ℕ). min room (k - first)) c)
-      ∙ sym (ap (readIn room frame channel first) (l .verdictIs) ∙ simp (lt-ltb frame (length (l .frames)) (l .frameIn), lt-ltb channel _ (l .channelIs), lt-ltb first _ h))
+      ap (λ (k : ℕ). answered (bitsFrom (bitsAt s channel (frameIn l)) first k)) (e ∙ ap (λ (k : ℕ). min room (k - first)) c)
+      ∙ sym (sample-found frame channel (l .verdictIs) (l .frameIn) (l .channelIs) _ (omega (arith, m .number)))
 
-  pub read-refused : {r : Placed} {x : Refusal} → r ≡ placedOf s frame channel first → r ≡ Placed.Refused x → Read.Refused x ≡ readOf s frame channel first room
-  unfolding placedOf placedIn readOf readIn
-  read-refused {x = x} e f =
-      sample-both (λ (a : Placed) (b : Read). Placed.Refused x ≡ a → Read.Refused x ≡ b) Placed.Refused Read.Refused
-      (λ r q. let y : x ≡ r = cc in ap Read.Refused y) frame channel
-      (λ g. At (placeOf channel first g) (viewOf channel g)) (λ g. Samples (min room (samplesOf channel g - first))) first (verdict s)
-      (λ fs a i c h q. let z : _≡_ {A = ℕ} 0 1 = cc in let y : ⊥ = omega arith in absurd y) (sym f ∙ e)
+  pub read-refused : {number place : ℕ} → refusedAs number place ≡ placedOf s frame channel first → refusedAs number place ≡ readOf s frame channel first room
+  unfolding placedOf readOf
+  read-refused e = sample-refused _ _ frame channel first (verdict s) e
 
-module _ (s : List ℕ) (frame channel first : ℕ) (out : List ℕ) where
-  abbrev after : Read → List ℕ
-  after r = let bits = writtenAs s frame channel first r in bits ++ drop (length bits) out
+-- The buffer, and how many samples are answered, by what is read.
+module _ {a : Answer (List ℕ)} (out : List ℕ) where
+  pub kept : {number place : ℕ} → refusedAs number place ≡ a → out ≡ leftBy a out
+  unfolding leftBy
+  kept e = ap (λ (x : Answer (List ℕ)). leftBy x out) e
 
-  pub kept : {x : Refusal} → Read.Refused x ≡ readOf s frame channel first (length out) → out ≡ bufferAfter s frame channel first out
-  unfolding bufferAfter writtenAs
-  kept e = ap after e
-
-  pub filled : {n : ℕ} {new : List ℕ} → Samples n ≡ readOf s frame channel first (length out) → n ≤ length out → new ≡ sets out 0 (bitsFrom (bitsOf s frame channel) first n) → new ≡ bufferAfter s frame channel first out
-  unfolding bufferAfter writtenAs
-  filled {n} e h f = f ∙ sets-front (bitsFrom (bitsOf s frame channel) first n) out (omega (arith, length-bits (bitsOf s frame channel) first n)) ∙ ap after e
+  pub filled : {x new : List ℕ} → answered x ≡ a → length x ≤ length out → new ≡ sets out 0 x → new ≡ leftBy a out
+  unfolding leftBy
+  filled {x} e h f = f ∙ sets-front x out h ∙ ap (λ (y : Answer (List ℕ)). leftBy y out) e

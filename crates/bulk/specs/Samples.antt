@@ -1,8 +1,9 @@
 -- The bits of samples, as the file has them (document 01, "Frames and samples"), and what reading many of them answers.
-use mathlib.Core.List.{List, [], _∷_, _++_}
+use mathlib.Core.List.{List, [], _∷_}
 use Prim.Native.Nat.{ℕ, zero, suc, _-_, min}
-use lib.ListN.{length, getD, take, drop}
+use lib.ListN.{getD, take, drop}
 use Rattle.octets.specs.Number.{numberOf}
+use Rattle.heads.specs.Answer.{Answer, answered, refusedBy}
 use Rattle.layout.specs.Frame.{Frame, widthIn, channelIn, samplesOf, placeOf}
 use Rattle.pass.specs.Verdict.{Verdict, accepted, refused, verdict}
 use Rattle.pass.specs.Scan.{zeroFrame}
@@ -28,23 +29,13 @@ unfoldable pub bitsFrom : (ℕ → ℕ) → ℕ → ℕ → List ℕ
 bitsFrom g n zero = []
 bitsFrom g n (suc k) = g n ∷ bitsFrom g (suc n) k
 
--- How many samples from number `first` on are read: as many as there is room for, or as there are. The file's refusal, and 20, 21, 22
--- where there is no sample `first`, come as for the question for that sample.
-unfoldable pub readIn : ℕ → ℕ → ℕ → ℕ → Verdict → Read
-readIn room frame channel first v =
-    askedSample Read.Refused (λ f. Samples (min room (samplesOf channel f - first))) frame channel first v
+-- What the answer says: how many samples were written.
+abbrev pub readSays : Read → Answer ℕ
+readSays (Samples n) = answered n
+readSays (Read.Refused r) = refusedBy r
 
--- The same for a file.
-unfoldable pub readOf : List ℕ → ℕ → ℕ → ℕ → ℕ → Read
-readOf s frame channel first room = readIn room frame channel first (verdict s)
-
--- What is written: the bits of these samples, and nothing at a refusal.
-unfoldable pub writtenAs : List ℕ → ℕ → ℕ → ℕ → Read → List ℕ
-writtenAs s frame channel first (Samples k) = bitsFrom (bitsOf s frame channel) first k
-writtenAs s frame channel first (Read.Refused r) = []
-
--- The buffer afterwards: what is written at its front, and then what it held.
-unfoldable pub bufferAfter : List ℕ → ℕ → ℕ → ℕ → List ℕ → List ℕ
-bufferAfter s frame channel first out =
-    let bits = writtenAs s frame channel first (readOf s frame channel first (length out)) in
-    bits ++ drop (length bits) out
+-- The bits of the samples from number `first` on: as many as there is room for, or as there are. The file's refusal, and 20, 21, 22 where there
+-- is no sample `first`, come as for the question for that sample.
+unfoldable pub readOf : List ℕ → ℕ → ℕ → ℕ → ℕ → Answer (List ℕ)
+readOf s frame channel first room =
+    askedSample (λ f. bitsFrom (bitsAt s channel f) first (min room (samplesOf channel f - first))) frame channel first (verdict s)

@@ -8,7 +8,8 @@ ghost use mathlib.Core.Path.{_≡_};
 ghost use Prim.Native.Nat.{_+_, _*_, _≤_, min};
 ghost use lib.ListN.{length};
 ghost use lib.Seq.{sets};
-ghost use Rattle.bulk.specs.Samples.{bitsFrom, readOf, bufferAfter};
+ghost use Rattle.heads.specs.Answer.{mapAnswer, leftBy};
+ghost use Rattle.bulk.specs.Samples.{bitsFrom, readSays, readOf};
 ghost use Rattle.bulk.specs.Walked.{bitsHere, spaced, blocked, Wide, Within, InBlocks};
 use heads::Refusal;
 use reader::Placed;
@@ -268,8 +269,8 @@ pub enum Read {
 
 // The bits of a channel's samples from number `first` on, at the front of the buffer: as many as fit or there are.
 pub fn samples(s: &[u8], frame: u32, channel: u32, first: u64, out: &mut [u64]) -> Read
-    ensures { λ r. ⌜ r ≡ readOf (now (s .entry)) frame channel first (length (now (out .entry))) ⌝ }
-    ensures { λ _. ⌜ now (out .exit) ≡ bufferAfter (now (s .entry)) frame channel first (now (out .entry)) ⌝ }
+    ensures { λ r. ⌜ readSays r ≡ mapAnswer length (readOf (now (s .entry)) frame channel first (length (now (out .entry)))) ⌝ }
+    ensures { λ _. ⌜ now (out .exit) ≡ leftBy (readOf (now (s .entry)) frame channel first (length (now (out .entry)))) (now (out .entry)) ⌝ }
 {
     match reader::place(s, frame, channel, first) {
         Placed::Refused(x) => Read::Refused(x),

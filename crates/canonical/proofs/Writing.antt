@@ -68,8 +68,8 @@ use Rattle.frames.specs.Parts.{samplesTurned, frameParts, frameGiven}
 use Rattle.frames.proofs.Given.{frame-put}
 use Rattle.canonical.specs.Recording.{Recorded, recordedFrame, recording}
 use Rattle.canonical.specs.Canonical.{waveformOf, frameOctets, framesOctets, canonical}
-use Rattle.canonical.specs.Write.{framesIn, canonicalOf, fits, writtenIn, writtenOf, leftIn, leftOf, Ready, Wrote}
-use Rattle.canonical.specs.declared.Written.{Written}
+use Rattle.canonical.specs.Write.{framesIn, canonicalOf, fits, outputIn, writtenOf, leftOf, Ready, Wrote}
+use Rattle.heads.specs.Answer.{Answer, answered, refusedAs, refusedBy, mapAnswer, leftBy}
 use Rattle.canonical.proofs.Octets.{waveform-big, waveform-little, frames-long, canonical-long, canonical-none, octets-reported}
 use Rattle.canonical.proofs.Recordings.{waveform-long}
 
@@ -399,15 +399,20 @@ module _ {s d : List ℕ} {table : List Settings} {own : ℕ} {c : Cursor} {st :
 -- ---- what the writer answers
 
 module _ (s d : List ℕ) (q : Asked) (r : Scan) (e : r ≡ scanOf q s) where
-  abbrev Answer : Written → List ℕ → Type 0
-  Answer a left = (a ≡ writtenOf s d) × (left ≡ leftOf s d)
+  -- The answer, and the buffer afterwards.
+  abbrev Told : Answer ℕ → List ℕ → Type 0
+  Told a left = (a ≡ writtenOf s d) × (left ≡ leftOf s d)
+
+  told : (x : Answer (List ℕ)) → x ≡ outputIn d (verdict s) → Told (mapAnswer length x) (leftBy x d)
+  unfolding writtenOf leftOf
+  told x u = (ap (mapAnswer length) u, ap (λ (y : Answer (List ℕ)). leftBy y d) u)
 
   -- The file's own refusal.
-  pub written-refused : (x : Refusal) → r .checked ≡ Checked.Refused x → Answer (Written.Refused x) d
-  unfolding writtenOf leftOf writtenIn leftIn scanOf scannedIn
-  written-refused x h = by (verdict s) refl
+  pub written-refused : (x : Refusal) → r .checked ≡ Checked.Refused x → Told (refusedBy x) d
+  unfolding leftBy outputIn scanOf scannedIn
+  written-refused x h = told (refusedBy x) (by (verdict s) refl)
     where
-      by : (v : Verdict) → verdict s ≡ v → (Written.Refused x ≡ writtenIn d (verdict s)) × (d ≡ leftIn d (verdict s))
+      by : (v : Verdict) → verdict s ≡ v → refusedBy x ≡ outputIn d (verdict s)
       by (accepted fs) k =
           let z : Checked.Frames (length fs) ≡ Checked.Refused x = sym (ap (λ (y : Scan). y .checked) (e ∙ ap (scannedIn q) k)) ∙ h in
           let y : _≡_ {A = ℕ} 0 1 = cc in
@@ -416,7 +421,7 @@ module _ (s d : List ℕ) (q : Asked) (r : Scan) (e : r ≡ scanOf q s) where
       by (refused y) k =
           let z : Checked.Refused y ≡ Checked.Refused x = sym (ap (λ (y : Scan). y .checked) (e ∙ ap (scannedIn q) k)) ∙ h in
           let f : y ≡ x = cc in
-          (rw (k, f), rw k)
+          rw (k, f)
 
   module _ (n : ℕ) (h : r .checked ≡ Checked.Frames n) where
     -- An accepted file, with so many frames.
@@ -435,25 +440,24 @@ module _ (s d : List ℕ) (q : Asked) (r : Scan) (e : r ≡ scanOf q s) where
             let o : ⊥ = omega arith in
             absurd o
 
-    answer-is : (a : Written) (left : List ℕ) → a ≡ writtenIn d (accepted (framesIn (verdict s))) → left ≡ leftIn d (accepted (framesIn (verdict s))) → Answer a left
-    unfolding writtenOf leftOf
-    answer-is a left u v = (u ∙ ap (writtenIn d) (sym (taken-is .0)), v ∙ ap (leftIn d) (sym (taken-is .0)))
+    told-taken : (x : Answer (List ℕ)) → x ≡ outputIn d (accepted (framesIn (verdict s))) → Told (mapAnswer length x) (leftBy x d)
+    told-taken x u = told x (u ∙ ap (outputIn d) (sym (taken-is .0)))
 
     -- No frames: the empty file.
-    pub written-none : n ≡ 0 → Answer (Written.Octets 0) d
-    unfolding writtenIn leftIn fits
+    pub written-none : n ≡ 0 → Told (answered 0) d
+    unfolding leftBy outputIn fits
     written-none z =
         let c = canonical-none (framesIn (verdict s)) (sym (taken-is .1) ∙ z) in
-        answer-is (Written.Octets 0) d (rw c (simp (le-leb 0 (length d) (omega arith)))) (rw c (simp (le-leb 0 (length d) (omega arith))))
+        told-taken (answered []) (rw c (simp (le-leb 0 (length d) (omega arith))))
 
     module _ (some : n ≡ 0 → ⊥) where
       long-is : length (canonical (recording (framesIn (verdict s)))) ≡ r .size + 3
       long-is = canonical-long (framesIn (verdict s)) (λ z. some (taken-is .1 ∙ z)) ∙ omega (arith, taken-is .2)
 
       -- It does not fit.
-      pub written-short : fits (canonicalOf s) d ≡ false → Answer (Written.Refused (refusal noRoom 0)) d
-      unfolding writtenIn leftIn canonicalOf
-      written-short f = answer-is (Written.Refused (refusal noRoom 0)) d (rw f) (rw f)
+      pub written-short : fits (canonicalOf s) d ≡ false → Told (refusedAs noRoom 0) d
+      unfolding leftBy outputIn canonicalOf
+      written-short f = told-taken (refusedAs noRoom 0) (rw f)
 
       pub short-buffer : length d < r .size + 3 → fits (canonicalOf s) d ≡ false
       unfolding fits canonicalOf
@@ -467,15 +471,14 @@ module _ (s d : List ℕ) (q : Asked) (r : Scan) (e : r ≡ scanOf q s) where
       ready l = record { is = taken-is .0; some = λ z. some (taken-is .1 ∙ z); room = omega (arith, taken-is .2) }
 
       -- It fits, and is written.
-      pub written-whole : {k : ℕ} {f : List ℕ} → r .size + 3 ≤ octetsLimit → r .size + 3 ≤ length d → Put d 0 (canonicalOf s) k f → Answer (Written.Octets k) f
-      unfolding writtenIn leftIn fits canonicalOf
+      pub written-whole : {k : ℕ} {f : List ℕ} → r .size + 3 ≤ octetsLimit → r .size + 3 ≤ length d → Put d 0 (canonicalOf s) k f → Told (answered k) f
+      unfolding leftBy outputIn fits canonicalOf
       written-whole {k} {f} l m p =
           let c = canonical (recording (framesIn (verdict s))) in
           let b : fits c d ≡ true = simp (long-is, le-leb (r .size + 3) (length d) m, le-leb (r .size + 3) octetsLimit l) in
-          answer-is (Written.Octets k) f
-          (rw b (ap Written.Octets (p .next ∙ zero-add (length c))))
-          (rw b (p .stored ∙ sets-front c d (omega (arith, long-is))))
+          let t = told-taken (answered c) (rw b) in
+          (ap answered (p .next ∙ zero-add (length c)) ∙ t .0, p .stored ∙ sets-front c d (omega (arith, long-is)) ∙ t .1)
 
 -- The answer and the buffer, of a file whose octets the slice's rule gives.
-pub promised : {s d e : List ℕ} {r : Written} → ((i : ℕ) → getD s i 0 < 256) → (r ≡ writtenOf s d) × (e ≡ leftOf s d) → Wrote s d r e
+pub promised : {s d e : List ℕ} {a : Answer ℕ} → ((i : ℕ) → getD s i 0 < 256) → (a ≡ writtenOf s d) × (e ≡ leftOf s d) → Wrote s d a e
 promised octets p = record { octets = λ i h. octets i; answers = p .0; leaves = p .1 }

@@ -1,13 +1,13 @@
 -- What the canonical writer answers and what it leaves in the buffer (document 01, "What comes back when it is no" and "The canonical file").
-use mathlib.Core.List.{List, [], _++_}
+use mathlib.Core.List.{List, []}
 use mathlib.Core.Bool.{Bool}
 use Prim.Native.Nat.{ℕ, _+_, _≤_}
 use mathlib.Core.Path.{_≡_}
 use lib.Dec.{leb}
-use lib.ListN.{length, drop}
+use lib.ListN.{length}
 use Rattle.octets.specs.Pick.{pick, both}
 use Rattle.heads.specs.Refusals.{noRoom}
-use Rattle.items.specs.Walk.{refusal}
+use Rattle.heads.specs.Answer.{Answer, answered, refusedAs, refusedBy, mapAnswer, leftBy}
 use Rattle.stores.specs.Number.{Octets}
 use Rattle.layout.specs.Frame.{Frame}
 use Rattle.standing.specs.Standing.{octetsLimit}
@@ -30,30 +30,28 @@ canonicalOf s = canonical (recording (framesIn (verdict s)))
 unfoldable pub fits : List ℕ → List ℕ → Bool
 fits octets buffer = both (leb (length octets) (length buffer)) (leb (length octets) octetsLimit)
 
--- The file's own refusal; else 23 where the canonical file does not fit; else its length.
-unfoldable pub writtenIn : List ℕ → Verdict → Written
-writtenIn buffer (refused r) = Written.Refused r
-writtenIn buffer (accepted fs) =
+-- What the writer's answer says: the canonical file's length, or the refusal.
+abbrev pub writtenSays : Written → Answer ℕ
+writtenSays (Written.Octets n) = answered n
+writtenSays (Written.Refused r) = refusedBy r
+
+-- What is written: the file's own refusal; else 23 where the canonical file does not fit; else that file.
+unfoldable pub outputIn : List ℕ → Verdict → Answer (List ℕ)
+outputIn buffer (refused r) = refusedBy r
+outputIn buffer (accepted fs) =
     let octets = canonical (recording fs) in
-    pick (fits octets buffer) (Written.Octets (length octets)) (Written.Refused (refusal noRoom 0))
+    pick (fits octets buffer) (answered octets) (refusedAs noRoom 0)
 
--- A refusal changes no octet of the buffer; on success the canonical file stands at its start, and octets past it keep what they held.
-unfoldable pub leftIn : List ℕ → Verdict → List ℕ
-leftIn buffer (refused r) = buffer
-leftIn buffer (accepted fs) =
-    let octets = canonical (recording fs) in
-    pick (fits octets buffer) (octets ++ drop (length octets) buffer) buffer
+-- The writer answers the canonical file's length.
+unfoldable pub writtenOf : List ℕ → List ℕ → Answer ℕ
+writtenOf s buffer = mapAnswer length (outputIn buffer (verdict s))
 
--- The answer for a file and a buffer.
-unfoldable pub writtenOf : List ℕ → List ℕ → Written
-writtenOf s buffer = writtenIn buffer (verdict s)
-
--- The buffer afterwards.
+-- The buffer afterwards: a refusal changes no octet of it; on success the canonical file stands at its start, and octets past it keep what they held.
 unfoldable pub leftOf : List ℕ → List ℕ → List ℕ
-leftOf s buffer = leftIn buffer (verdict s)
+leftOf s buffer = leftBy (outputIn buffer (verdict s)) buffer
 
 -- A call of the writer: the file s and what the buffer held, and then the answer and the buffer as the call leaves it. A file is octets.
-pub record Wrote (s buffer : List ℕ) (answer : Written) (left : List ℕ) : Type 0 where
+pub record Wrote (s buffer : List ℕ) (answer : Answer ℕ) (left : List ℕ) : Type 0 where
   pub octets : Octets s
   pub answers : answer ≡ writtenOf s buffer
   pub leaves : left ≡ leftOf s buffer

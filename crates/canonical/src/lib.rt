@@ -10,7 +10,7 @@ ghost use mathlib.Core.List.{_∷_, []};
 ghost use Prim.Native.Nat.{_≤_};
 ghost use lib.ListN.{length};
 ghost use Rattle.stores.specs.Storing.{Put};
-ghost use Rattle.canonical.specs.Write.{canonicalOf, Ready, Wrote};
+ghost use Rattle.canonical.specs.Write.{canonicalOf, Ready, writtenSays, Wrote};
 use effects::Effect;
 use framing::Framed;
 use heads::Refusal;
@@ -118,7 +118,7 @@ fn write_frames(s: &[u8], out: &mut [u8]) -> usize
 
 // Writes the canonical file of a file into the front of a buffer.
 pub fn write_canonical(s: &[u8], out: &mut [u8]) -> Written
-    ensures { λ r. ⌜ Wrote (now (s .entry)) (now (out .entry)) r (now (out .exit)) ⌝ }
+    ensures { λ r. ⌜ Wrote (now (s .entry)) (now (out .entry)) (writtenSays r) (now (out .exit)) ⌝ }
 {
     let pass = pass::scan_file(
         s,

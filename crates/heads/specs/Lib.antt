@@ -1,2 +1,3 @@
 pub mod Refusals
+pub mod Answer
 pub mod Head

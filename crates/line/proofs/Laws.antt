@@ -12,8 +12,7 @@ use Rattle.stores.specs.Storing.{Putting, put-fits}
 use Rattle.stores.proofs.Stores.{sets-front, putting-then}
 use Rattle.octets.proofs.Pick.{pick-cases}
 use Rattle.heads.specs.declared.Refusal.{Refusal}
-use Rattle.pass.specs.declared.Checked.{Checked}
-use Rattle.pass.specs.declared.Checked.the-variants.{Frames}
+use Rattle.heads.specs.Answer.{Answer, answered, refusedBy, leftBy}
 use Rattle.line.specs.Line.{decimalIn, decimalOf, ascii, lineOf, Lined}
 
 -- A number has no more digits than are allowed.
@@ -55,10 +54,11 @@ fewest-digits (suc allowed) (suc (suc j)) n h f =
     last-digit (suc j) n ∙ simp (le-ltb, more)
 
 -- The line, stored at the start of a buffer that has room for it.
-at-start : {d e : List ℕ} {r : ℕ} (checked : Checked) → length (lineOf checked) ≤ length d → Putting d 0 (lineOf checked) r e → Lined checked d r e
-at-start {d} checked h p =
+at-start : {d e : List ℕ} {r : ℕ} (a : Answer ℕ) → length (lineOf a) ≤ length d → Putting d 0 (lineOf a) r e → Lined a d r e
+unfolding leftBy
+at-start {d} a h p =
     let q = put-fits (omega arith) p in
-    record { long = omega (arith, q .next); left = q .stored ∙ sets-front (lineOf checked) d h }
+    record { long = omega (arith, q .next); left = q .stored ∙ sets-front (lineOf a) d h }
 
 -- One text after another at the start of a buffer of 64 octets.
 more : {d e f us vs : List ℕ} {a r : ℕ} → 64 ≡ length d → length us + length vs ≤ 64
@@ -72,17 +72,17 @@ few n = decimal-long 20 n
 
 -- The line of a count, from the promises of its three parts.
 pub frames-line : {d e f g : List ℕ} {a b r : ℕ} (n : ℕ) → 64 ≡ length d
-    → Putting d 0 (ascii "frames ") a e → Putting e a (decimalOf n) b f → Putting f b (ascii "\n") r g → Lined (Frames n) d r g
+    → Putting d 0 (ascii "frames ") a e → Putting e a (decimalOf n) b f → Putting f b (ascii "\n") r g → Lined (answered n) d r g
 unfolding lineOf
 frames-line n l p q t =
     let x = length-append (ascii "frames ") (decimalOf n) in
-    at-start (Frames n) (omega (arith, few n, x, length-append (ascii "frames " ++ decimalOf n) (ascii "\n")))
+    at-start (answered n) (omega (arith, few n, x, length-append (ascii "frames " ++ decimalOf n) (ascii "\n")))
     (more l (omega (arith, few n, x)) (more l (omega (arith, few n)) p q) t)
 
 -- The line of a refusal, from the promises of its five parts.
 pub refused-line : {d e f g h i : List ℕ} {a b j k r : ℕ} (x : Refusal) → 64 ≡ length d
     → Putting d 0 (ascii "refused ") a e → Putting e a (decimalOf (x .number)) b f → Putting f b (ascii " at ") j g
-    → Putting g j (decimalOf (x .place)) k h → Putting h k (ascii "\n") r i → Lined (Checked.Refused x) d r i
+    → Putting g j (decimalOf (x .place)) k h → Putting h k (ascii "\n") r i → Lined (refusedBy x) d r i
 unfolding lineOf
 refused-line x l p q s t u =
     let n = decimalOf (x .number) in
@@ -92,5 +92,5 @@ refused-line x l p q s t u =
     let y = length-append (ascii "refused ") n in
     let z = length-append (ascii "refused " ++ n) (ascii " at ") in
     let o = length-append (ascii "refused " ++ n ++ ascii " at ") m in
-    at-start (Checked.Refused x) (omega (arith, y, z, o, length-append (ascii "refused " ++ n ++ ascii " at " ++ m) (ascii "\n")))
+    at-start (refusedBy x) (omega (arith, y, z, o, length-append (ascii "refused " ++ n ++ ascii " at " ++ m) (ascii "\n")))
     (more l (omega (arith, y, z, o)) (more l (omega (arith, y, z)) (more l (omega (arith, y)) (more l (omega arith) p q) s) t) u)

@@ -5,9 +5,9 @@ use Prim.Native.Nat.{ℕ, zero, suc, _+_, _/_, _%_}
 use Prim.Native.Char.{code}
 use Prim.Native.String.{String, [] as []ᵗ, _∷_ as _∷ᵗ_}
 use lib.Dec.{ltb}
-use lib.ListN.{length, drop}
+use lib.ListN.{length}
 use Rattle.octets.specs.Pick.{pick}
-use Rattle.pass.specs.declared.Checked.{Checked}
+use Rattle.heads.specs.Answer.{Answer, answered, refusedAs, leftBy}
 
 -- A number in decimal, in ASCII; no more digits than are allowed.
 unfoldable pub decimalIn : ℕ → ℕ → List ℕ
@@ -26,11 +26,11 @@ ascii []ᵗ = []
 ascii (c ∷ᵗ more) = code c ∷ ascii more
 
 -- `frames N` or `refused R at P`.
-unfoldable pub lineOf : Checked → List ℕ
-lineOf (Checked.Frames n) = ascii "frames " ++ decimalOf n ++ ascii "\n"
-lineOf (Checked.Refused r) = ascii "refused " ++ decimalOf (r .number) ++ ascii " at " ++ decimalOf (r .place) ++ ascii "\n"
+unfoldable pub lineOf : Answer ℕ → List ℕ
+lineOf (answered n) = ascii "frames " ++ decimalOf n ++ ascii "\n"
+lineOf (refusedAs number place) = ascii "refused " ++ decimalOf number ++ ascii " at " ++ decimalOf place ++ ascii "\n"
 
--- The line stands at the start of the buffer d, and octets past it keep what they held: r is its length, and e the buffer then.
-pub record Lined (checked : Checked) (d : List ℕ) (r : ℕ) (e : List ℕ) : Type 0 where
-  pub long : r ≡ length (lineOf checked)
-  pub left : e ≡ lineOf checked ++ drop (length (lineOf checked)) d
+-- The line of an answer stands at the start of the buffer d, and octets past it keep what they held: r is its length, and e the buffer then.
+pub record Lined (a : Answer ℕ) (d : List ℕ) (r : ℕ) (e : List ℕ) : Type 0 where
+  pub long : r ≡ length (lineOf a)
+  pub left : e ≡ leftBy (answered (lineOf a)) d

@@ -5,6 +5,7 @@
 // Read first: specs/Line.antt.
 
 ghost use Rattle.stores.specs.Storing.{Putting};
+ghost use Rattle.pass.specs.Verdict.{checkedSays};
 ghost use Rattle.line.specs.Line.{decimalOf, Lined};
 use pass::Checked;
 
@@ -26,7 +27,7 @@ fn put_decimal(out: &mut [u8], at: usize, n: u64) -> usize
 
 // Puts the line of an answer at the start of out, and answers how many octets it has.
 pub fn put_line(checked: Checked, out: &mut [u8; 64]) -> usize
-    ensures { λ r. ⌜ Lined checked (now (out .entry)) r (now (out .exit)) ⌝ }
+    ensures { λ r. ⌜ Lined (checkedSays checked) (now (out .entry)) r (now (out .exit)) ⌝ }
 {
     match checked {
         Checked::Frames(n) => {

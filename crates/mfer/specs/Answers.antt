@@ -1,5 +1,6 @@
--- What the exported functions answer: a refusal's number as the result, 0 where there is none, and every output set in every case. At a
+-- What the exported functions hand out: a refusal's number as the result, 0 where there is none, and every output set in every case. At a
 -- refusal `place` is the refusal's, and every other output is 0.
+use mathlib.Core.Path.{_≡_}
 use mathlib.Core.List.{List, [], _∷_}
 use Prim.Native.Nat.{ℕ}
 use lib.IntN.{ℤ, pos}
@@ -7,44 +8,43 @@ use lib.ListN.{replicate}
 use Rattle.values.specs.declared.Value.{Value}
 use Rattle.values.specs.declared.Value.the-variants.{Whole, Status, Single, Double, NotNumber, Null}
 use Rattle.values.specs.Sample.{kindOf}
-use Rattle.pass.specs.declared.Checked.{Checked}
+use Rattle.heads.specs.Answer.{Answer, answered, refusedAs}
+use Rattle.stores.specs.Number.{Octets}
 use Rattle.reader.specs.declared.Attributes.{Attributes}
-use Rattle.reader.specs.declared.Described.{Described}
-use Rattle.reader.specs.declared.Sampled.{Sampled}
-use Rattle.pass.specs.Verdict.{checkOf}
-use Rattle.reader.specs.Answer.{attributesOf, sampleOf}
-use Rattle.bulk.specs.declared.Read.{Read}
-use Rattle.bulk.specs.Samples.{bitsOf, readOf}
-use Rattle.canonical.specs.declared.Written.{Written}
-use Rattle.canonical.specs.Write.{writtenOf}
+use Rattle.reader.specs.Answer.{FoundSample}
+use Rattle.canonical.specs.Write.{writtenOf, leftOf}
 
--- ---- mfer_check
-
-pub record CheckAnswer : Type 0 where
+-- The result, the place in the file, and the other outputs.
+pub record Outputs (A : Type 0) : Type 0 where
   pub refusal : ℕ
-  pub frames : ℕ
   pub place : ℕ
+  pub values : A
 
-abbrev pub checkAnswer : ℕ → ℕ → ℕ → CheckAnswer
-checkAnswer refusal frames place = record { refusal = refusal; frames = frames; place = place }
+abbrev pub outputs : {A : Type 0} → ℕ → ℕ → A → Outputs A
+outputs refusal place values = record { refusal = refusal; place = place; values = values }
 
-unfoldable pub checkAs : Checked → CheckAnswer
-checkAs (Checked.Frames n) = checkAnswer 0 n 0
-checkAs (Checked.Refused x) = checkAnswer (x .number) 0 (x .place)
+-- An answer: 0, a place, and the values. A refusal: its number, its place, and zeros.
+unfoldable pub handedOut : {A B : Type 0} → (A → ℕ) → (A → B) → B → Answer A → Outputs B
+handedOut place values zeros (answered a) = outputs 0 (place a) (values a)
+handedOut place values zeros (refusedAs number at) = outputs number at zeros
 
-unfoldable pub checkSays : List ℕ → CheckAnswer
-checkSays s = checkAs (checkOf s)
+-- ---- mfer_check, mfer_samples, mfer_canonical
+
+-- A count, and no place.
+abbrev pub countOut : Answer ℕ → Outputs ℕ
+countOut a = handedOut (λ n. 0) (λ n. n) 0 a
+
+-- A call of mfer_canonical: the file s and what the buffer held, and then what is handed out and the buffer as the call leaves it. A file is octets.
+pub record CanonicalOut (s buffer : List ℕ) (out : Outputs ℕ) (left : List ℕ) : Type 0 where
+  pub octets : Octets s
+  pub answers : out ≡ countOut (writtenOf s buffer)
+  pub leaves : left ≡ leftOf s buffer
 
 -- ---- mfer_attributes
 
-pub record AttributesAnswer : Type 0 where
-  pub refusal : ℕ
+pub record AttributesOut : Type 0 where
   pub numbers : List ℤ
   pub bits : List ℕ
-  pub place : ℕ
-
-abbrev pub attributesAnswer : ℕ → List ℤ → List ℕ → ℕ → AttributesAnswer
-attributesAnswer refusal numbers bits place = record { refusal = refusal; numbers = numbers; bits = bits; place = place }
 
 -- The attributes that are numbers, in their order; a null of width 0 is none.
 unfoldable pub numbersOf : Attributes → List ℤ
@@ -70,24 +70,19 @@ numbersOf a =
 unfoldable pub bitPairOf : Attributes → List ℕ
 bitPairOf a = a .offset .bits ∷ a .null .bits ∷ []
 
-unfoldable pub attributesAs : Described → AttributesAnswer
-attributesAs (Described.Attributes a) = attributesAnswer 0 (numbersOf a) (bitPairOf a) 0
-attributesAs (Described.Refused x) = attributesAnswer (x .number) (replicate 15 (pos 0)) (replicate 2 0) (x .place)
+abbrev pub attributesValues : List ℤ → List ℕ → AttributesOut
+attributesValues numbers bits = record { numbers = numbers; bits = bits }
 
-unfoldable pub attributesSay : List ℕ → ℕ → ℕ → AttributesAnswer
-attributesSay s frame channel = attributesAs (attributesOf s frame channel)
+-- The attributes, and no place.
+abbrev pub attributesOut : Answer Attributes → Outputs AttributesOut
+attributesOut a = handedOut (λ x. 0) (λ x. attributesValues (numbersOf x) (bitPairOf x)) (attributesValues (replicate 15 (pos 0)) (replicate 2 0)) a
 
 -- ---- mfer_sample
 
-pub record SampleAnswer : Type 0 where
-  pub refusal : ℕ
-  pub place : ℕ
+pub record SampleOut : Type 0 where
   pub kind : ℕ
   pub whole : ℤ
   pub bits : ℕ
-
-abbrev pub sampleAnswer : ℕ → ℕ → ℕ → ℤ → ℕ → SampleAnswer
-sampleAnswer refusal place kind whole bits = record { refusal = refusal; place = place; kind = kind; whole = whole; bits = bits }
 
 -- The number of a whole value, and 0 of every other kind.
 unfoldable pub wholeOf : Value → ℤ
@@ -98,46 +93,9 @@ wholeOf (Double x) = pos 0
 wholeOf (NotNumber n) = pos 0
 wholeOf Null = pos 0
 
--- A sample with these bits.
-unfoldable pub sampleAs : ℕ → Sampled → SampleAnswer
-sampleAs bits (Sampled.Sample place v) = sampleAnswer 0 place (kindOf v) (wholeOf v) bits
-sampleAs bits (Sampled.Refused x) = sampleAnswer (x .number) (x .place) 0 (pos 0) 0
+abbrev pub sampleValues : ℕ → ℤ → ℕ → SampleOut
+sampleValues kind whole bits = record { kind = kind; whole = whole; bits = bits }
 
-unfoldable pub sampleSays : List ℕ → ℕ → ℕ → ℕ → SampleAnswer
-sampleSays s frame channel n = sampleAs (bitsOf s frame channel n) (sampleOf s frame channel n)
-
--- ---- mfer_samples
-
-pub record SamplesAnswer : Type 0 where
-  pub refusal : ℕ
-  pub count : ℕ
-  pub place : ℕ
-
-abbrev pub samplesAnswer : ℕ → ℕ → ℕ → SamplesAnswer
-samplesAnswer refusal count place = record { refusal = refusal; count = count; place = place }
-
-unfoldable pub samplesAs : Read → SamplesAnswer
-samplesAs (Read.Samples k) = samplesAnswer 0 k 0
-samplesAs (Read.Refused x) = samplesAnswer (x .number) 0 (x .place)
-
--- There is room for so many samples. The buffer afterwards is `bufferAfter` of the crate bulk.
-unfoldable pub samplesSay : List ℕ → ℕ → ℕ → ℕ → ℕ → SamplesAnswer
-samplesSay s frame channel first room = samplesAs (readOf s frame channel first room)
-
--- ---- mfer_canonical
-
-pub record CanonicalAnswer : Type 0 where
-  pub refusal : ℕ
-  pub written : ℕ
-  pub place : ℕ
-
-abbrev pub canonicalAnswer : ℕ → ℕ → ℕ → CanonicalAnswer
-canonicalAnswer refusal written place = record { refusal = refusal; written = written; place = place }
-
-unfoldable pub canonicalAs : Written → CanonicalAnswer
-canonicalAs (Written.Octets n) = canonicalAnswer 0 n 0
-canonicalAs (Written.Refused x) = canonicalAnswer (x .number) 0 (x .place)
-
--- The buffer afterwards is `leftOf` of the crate canonical.
-unfoldable pub canonicalSays : List ℕ → List ℕ → CanonicalAnswer
-canonicalSays s buffer = canonicalAs (writtenOf s buffer)
+-- A sample with these bits, and its place.
+abbrev pub sampleOut : ℕ → Answer FoundSample → Outputs SampleOut
+sampleOut bits a = handedOut (λ x. x .place) (λ x. sampleValues (kindOf (x .value)) (wholeOf (x .value)) bits) (sampleValues 0 (pos 0) 0) a

@@ -5,9 +5,11 @@
 // Read first: specs/Answers.antt; each function is thin over the crate that has its meaning.
 ghost use mathlib.Core.Path.{_≡_};
 ghost use Rattle.values.specs.Sample.{kindOf};
-ghost use Rattle.mfer.specs.Answers.{checkAnswer, checkSays, numbersOf, bitPairOf, attributesAnswer, attributesSay, wholeOf, sampleAnswer, sampleSays, samplesAnswer, samplesSay, canonicalAnswer, canonicalSays};
-ghost use Rattle.bulk.specs.Samples.{bufferAfter};
-ghost use Rattle.canonical.specs.Write.{leftOf};
+ghost use Rattle.heads.specs.Answer.{mapAnswer, leftBy};
+ghost use Rattle.pass.specs.Verdict.{checkOf};
+ghost use Rattle.reader.specs.Answer.{attributesOf, sampleOf};
+ghost use Rattle.bulk.specs.Samples.{bitsOf, readOf};
+ghost use Rattle.mfer.specs.Answers.{outputs, countOut, CanonicalOut, numbersOf, bitPairOf, attributesValues, attributesOut, wholeOf, sampleValues, sampleOut};
 ghost use lib.ListN.{length};
 use bulk::Read;
 use canonical::Written;
@@ -20,7 +22,7 @@ use values::Value;
 // Checks a file: how many frames it has.
 #[no_mangle]
 pub extern "C" fn mfer_check(file: &[u8], frames: &mut u64, place: &mut u64) -> u32
-    ensures { λ r. ⌜ checkAnswer r (now (frames .exit)) (now (place .exit)) ≡ checkSays (now (file .entry)) ⌝ }
+    ensures { λ r. ⌜ outputs r (now (place .exit)) (now (frames .exit)) ≡ countOut (checkOf (now (file .entry))) ⌝ }
 {
     match reader::check(file) {
         Checked::Frames(n) => {
@@ -84,7 +86,7 @@ pub extern "C" fn mfer_attributes(
     bits: &mut [u64; 2],
     place: &mut u64,
 ) -> u32
-    ensures { λ r. ⌜ attributesAnswer r (now (numbers .exit)) (now (bits .exit)) (now (place .exit)) ≡ attributesSay (now (file .entry)) frame channel ⌝ }
+    ensures { λ r. ⌜ outputs r (now (place .exit)) (attributesValues (now (numbers .exit)) (now (bits .exit))) ≡ attributesOut (attributesOf (now (file .entry)) frame channel) ⌝ }
 {
     match reader::describe(file, frame, channel) {
         Described::Attributes(a) => {
@@ -143,7 +145,7 @@ pub extern "C" fn mfer_sample(
     whole: &mut i64,
     bits: &mut u64,
 ) -> u32
-    ensures { λ r. ⌜ sampleAnswer r (now (place .exit)) (now (kind .exit)) (now (whole .exit)) (now (bits .exit)) ≡ sampleSays (now (file .entry)) frame channel number ⌝ }
+    ensures { λ r. ⌜ outputs r (now (place .exit)) (sampleValues (now (kind .exit)) (now (whole .exit)) (now (bits .exit))) ≡ sampleOut (bitsOf (now (file .entry)) frame channel number) (sampleOf (now (file .entry)) frame channel number) ⌝ }
 {
     match reader::place(file, frame, channel, number) {
         Placed::At(at, v) => {
@@ -179,8 +181,8 @@ pub extern "C" fn mfer_samples(
     count: &mut u64,
     place: &mut u64,
 ) -> u32
-    ensures { λ r. ⌜ samplesAnswer r (now (count .exit)) (now (place .exit)) ≡ samplesSay (now (file .entry)) frame channel first (length (now (out .entry))) ⌝ }
-    ensures { λ _. ⌜ now (out .exit) ≡ bufferAfter (now (file .entry)) frame channel first (now (out .entry)) ⌝ }
+    ensures { λ r. ⌜ outputs r (now (place .exit)) (now (count .exit)) ≡ countOut (mapAnswer length (readOf (now (file .entry)) frame channel first (length (now (out .entry))))) ⌝ }
+    ensures { λ _. ⌜ now (out .exit) ≡ leftBy (readOf (now (file .entry)) frame channel first (length (now (out .entry)))) (now (out .entry)) ⌝ }
 {
     match bulk::samples(file, frame, channel, first, out) {
         Read::Samples(n) => {
@@ -205,8 +207,7 @@ pub extern "C" fn mfer_canonical(
     written: &mut u64,
     place: &mut u64,
 ) -> u32
-    ensures { λ r. ⌜ canonicalAnswer r (now (written .exit)) (now (place .exit)) ≡ canonicalSays (now (file .entry)) (now (out .entry)) ⌝ }
-    ensures { λ _. ⌜ now (out .exit) ≡ leftOf (now (file .entry)) (now (out .entry)) ⌝ }
+    ensures { λ r. ⌜ CanonicalOut (now (file .entry)) (now (out .entry)) (outputs r (now (place .exit)) (now (written .exit))) (now (out .exit)) ⌝ }
 {
     match canonical::write_canonical(file, out) {
         Written::Octets(n) => {

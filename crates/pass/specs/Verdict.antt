@@ -7,6 +7,7 @@ use Rattle.octets.specs.Pick.{pick}
 use Rattle.items.specs.declared.Item.{Item}
 use Rattle.heads.specs.declared.Refusal.{Refusal}
 use Rattle.heads.specs.Refusals.{longFile}
+use Rattle.heads.specs.Answer.{Answer, answered, refusedBy}
 use Rattle.items.specs.Walk.{Items, item, finished, fault, itemsOf, refusal}
 use Rattle.settings.specs.declared.Settings.{Settings}
 use Rattle.settings.specs.Settings.{channelLimit, defaultTable, zeroSettings, applied, allApplied}
@@ -105,11 +106,16 @@ interpret s x (fault r) = refused r
 unfoldable pub verdict : List ℕ → Verdict
 verdict s = pick (ltb octetsLimit (length s)) (refused (refusal longFile 0)) (interpret s firstState (itemsOf s))
 
--- The answer of the check: the number of frames, or the refusal.
-unfoldable pub checkedAs : Verdict → Checked
-checkedAs (accepted fs) = Frames (length fs)
-checkedAs (refused r) = Checked.Refused r
+-- What the check's answer says: the number of frames, or the refusal.
+abbrev pub checkedSays : Checked → Answer ℕ
+checkedSays (Frames n) = answered n
+checkedSays (Checked.Refused r) = refusedBy r
+
+-- What it is to say, by the verdict on the file.
+unfoldable pub checkedAs : Verdict → Answer ℕ
+checkedAs (accepted fs) = answered (length fs)
+checkedAs (refused r) = refusedBy r
 
 -- The same for a file.
-unfoldable pub checkOf : List ℕ → Checked
+unfoldable pub checkOf : List ℕ → Answer ℕ
 checkOf s = checkedAs (verdict s)

@@ -17,10 +17,11 @@ use lib.ListN.{length, getD, take, drop}
 use Rattle.octets.specs.Pick.{pick}
 use Rattle.heads.specs.declared.Refusal.{Refusal}
 use Rattle.heads.specs.Refusals.{noFrame, noChannel, noSample}
-use Rattle.items.specs.Walk.{refusal}
+use Rattle.heads.specs.Answer.{Answer, answered, refusedAs, refusedBy, mapAnswer}
 use Rattle.values.specs.declared.Value.{Value}
 use Rattle.values.specs.Sample.{widthOf, valueOf}
 use Rattle.layout.specs.Frame.{Frame, channelIn, samplesOf, offsetOf, placeOf}
+use Rattle.reader.specs.declared.Attributes.{Attributes}
 use Rattle.laid.proofs.Places.{offset-inside}
 use Rattle.pass.specs.declared.Asked.{Asked}
 use Rattle.pass.specs.declared.View.{View}
@@ -28,26 +29,20 @@ use Rattle.pass.specs.declared.Found.{Found}
 use Rattle.pass.specs.declared.Found.the-variants.{Nothing}
 use Rattle.pass.specs.declared.Checked.{Checked}
 use Rattle.pass.specs.declared.Scan.{Scan}
-use Rattle.reader.specs.declared.LookedUp.{LookedUp}
-use Rattle.reader.specs.declared.Described.{Described}
-use Rattle.reader.specs.declared.Placed.{Placed}
-use Rattle.reader.specs.declared.Placed.the-variants.{At}
-use Rattle.reader.specs.declared.Sampled.{Sampled}
-use Rattle.reader.specs.declared.Sampled.the-variants.{Sample}
-use Rattle.pass.specs.Verdict.{Verdict, accepted, refused, verdict, checkedAs, checkOf}
+use Rattle.pass.specs.Verdict.{Verdict, accepted, refused, verdict, checkedSays, checkedAs, checkOf}
 use Rattle.pass.specs.Scan.{zeroFrame, viewOf, foundIn, scannedIn, scanOf}
-use Rattle.reader.specs.Answer.{seenIn, seenOf, attributesIn, attributesSeen, describedIn, attributesOf, placedIn, placedOf, sampleIn, sampledIn, sampleOf, placeSeen}
-use Rattle.reader.proofs.Order.{asked-both, sample-both}
+use Rattle.reader.specs.Answer.{FoundSample, foundSample, FoundPlace, foundPlace, asked, seenOf, attributesIn, attributesSeen, attributesOf, placedOf, sampleIn, sampleOf, placeSeen}
+use Rattle.reader.proofs.Order.{asked-both, sample-both, asked-found}
 use Rattle.reader.proofs.Ordered.{accepted-lies, accepted-small}
 
-checked-in : (q : Asked) (v : Verdict) → scannedIn q v .checked ≡ checkedAs v
+checked-in : (q : Asked) (v : Verdict) → checkedSays (scannedIn q v .checked) ≡ checkedAs v
 unfolding scannedIn checkedAs
 checked-in q (accepted fs) = refl
 checked-in q (refused r) = refl
 
-pub checked-is : (q : Asked) (s : List ℕ) (r : Scan) → r ≡ scanOf q s → r .checked ≡ checkOf s
+pub checked-is : (q : Asked) (s : List ℕ) (r : Scan) → r ≡ scanOf q s → checkedSays (r .checked) ≡ checkOf s
 unfolding scanOf checkOf
-checked-is q s r e = ap (λ (x : Scan). x .checked) e ∙ checked-in q (verdict s)
+checked-is q s r e = ap (λ (x : Scan). checkedSays (x .checked)) e ∙ checked-in q (verdict s)
 
 -- The frame that is asked for is the one that was found.
 found-view : (q : Asked) (fs : List Frame) (v : View) → q .frame < length fs → foundIn q fs ≡ Found.Frame v → v ≡ viewOf (q .channel) (getD fs (q .frame) zeroFrame)
@@ -67,17 +62,21 @@ view-channels : (channel : ℕ) (f : Frame) → viewOf channel f .channels ≡ l
 unfolding viewOf
 view-channels channel f = refl
 
+-- What a look-up is to answer, by the verdict on the file.
+abbrev viewAsked : Asked → Verdict → Answer View
+viewAsked q v = asked (λ f. answered (viewOf (q .channel) f)) (q .frame) (q .channel) v
+
 module _ (q : Asked) where
-  refused-in : (v : Verdict) (x : Refusal) → scannedIn q v .checked ≡ Checked.Refused x → LookedUp.Refused x ≡ seenIn (q .frame) (q .channel) v
-  unfolding scannedIn seenIn
+  refused-in : (v : Verdict) (x : Refusal) → scannedIn q v .checked ≡ Checked.Refused x → refusedBy x ≡ viewAsked q v
+  unfolding scannedIn
   refused-in (accepted fs) x e =
       let z : _≡_ {A = ℕ} 0 1 = cc in
       let a : ⊥ = omega arith in
       absurd a
-  refused-in (refused r) x e = let f : r ≡ x = cc in ap LookedUp.Refused (sym f)
+  refused-in (refused r) x e = let f : r ≡ x = cc in ap (λ (y : Refusal). refusedBy y) (sym f)
 
-  no-frame-in : (v : Verdict) (n : ℕ) → scannedIn q v .checked ≡ Checked.Frames n → n ≤ q .frame → LookedUp.Refused (refusal noFrame 0) ≡ seenIn (q .frame) (q .channel) v
-  unfolding scannedIn seenIn
+  no-frame-in : (v : Verdict) (n : ℕ) → scannedIn q v .checked ≡ Checked.Frames n → n ≤ q .frame → refusedAs noFrame 0 ≡ viewAsked q v
+  unfolding scannedIn
   no-frame-in (accepted fs) n e h =
       let f : length fs ≡ n = cc in
       let k : length fs ≤ q .frame = omega arith in
@@ -93,8 +92,8 @@ module _ (q : Asked) where
   nothing-in (accepted fs) n e h g = let f : length fs ≡ n = cc in found-some q fs (omega arith) g
   nothing-in (refused r) n e h g = let z : _≡_ {A = ℕ} 0 1 = cc in omega arith
 
-  no-channel-in : (v : Verdict) (n : ℕ) (w : View) → scannedIn q v .checked ≡ Checked.Frames n → q .frame < n → scannedIn q v .found ≡ Found.Frame w → w .channels ≤ q .channel → LookedUp.Refused (refusal noChannel 0) ≡ seenIn (q .frame) (q .channel) v
-  unfolding scannedIn seenIn
+  no-channel-in : (v : Verdict) (n : ℕ) (w : View) → scannedIn q v .checked ≡ Checked.Frames n → q .frame < n → scannedIn q v .found ≡ Found.Frame w → w .channels ≤ q .channel → refusedAs noChannel 0 ≡ viewAsked q v
+  unfolding scannedIn
   no-channel-in (accepted fs) n w e h g l =
       let f : length fs ≡ n = cc in
       let k : q .frame < length fs = omega arith in
@@ -106,8 +105,8 @@ module _ (q : Asked) where
       let a : ⊥ = omega arith in
       absurd a
 
-  found-in : (v : Verdict) (n : ℕ) (w : View) → scannedIn q v .checked ≡ Checked.Frames n → q .frame < n → scannedIn q v .found ≡ Found.Frame w → q .channel < w .channels → LookedUp.Channel w ≡ seenIn (q .frame) (q .channel) v
-  unfolding scannedIn seenIn
+  found-in : (v : Verdict) (n : ℕ) (w : View) → scannedIn q v .checked ≡ Checked.Frames n → q .frame < n → scannedIn q v .found ≡ Found.Frame w → q .channel < w .channels → answered w ≡ viewAsked q v
+  unfolding scannedIn
   found-in (accepted fs) n w e h g l =
       let f : length fs ≡ n = cc in
       let k : q .frame < length fs = omega arith in
@@ -121,39 +120,39 @@ module _ (q : Asked) where
       absurd a
 
 module _ (s : List ℕ) (frame channel : ℕ) (r : Scan) where
-  abbrev asked : Asked
-  asked = record { frame = frame; channel = channel }
+  abbrev question : Asked
+  question = record { frame = frame; channel = channel }
 
-  module _ (e : r ≡ scanOf asked s) where
-    told : r ≡ scannedIn asked (verdict s)
+  module _ (e : r ≡ scanOf question s) where
+    told : r ≡ scannedIn question (verdict s)
     unfolding scanOf
     told = e
 
-    checked-told : scannedIn asked (verdict s) .checked ≡ r .checked
+    checked-told : scannedIn question (verdict s) .checked ≡ r .checked
     checked-told = sym (ap (λ (x : Scan). x .checked) told)
 
-    found-told : scannedIn asked (verdict s) .found ≡ r .found
+    found-told : scannedIn question (verdict s) .found ≡ r .found
     found-told = sym (ap (λ (x : Scan). x .found) told)
 
-    pub look-refused : (x : Refusal) → r .checked ≡ Checked.Refused x → LookedUp.Refused x ≡ seenOf s frame channel
+    pub look-refused : (x : Refusal) → r .checked ≡ Checked.Refused x → refusedBy x ≡ seenOf s frame channel
     unfolding seenOf
-    look-refused x a = refused-in asked (verdict s) x (checked-told ∙ a)
+    look-refused x a = refused-in question (verdict s) x (checked-told ∙ a)
 
     module _ (n : ℕ) (a : r .checked ≡ Checked.Frames n) where
-      pub look-no-frame : n ≤ frame → LookedUp.Refused (refusal noFrame 0) ≡ seenOf s frame channel
+      pub look-no-frame : n ≤ frame → refusedAs noFrame 0 ≡ seenOf s frame channel
       unfolding seenOf
-      look-no-frame h = no-frame-in asked (verdict s) n (checked-told ∙ a) h
+      look-no-frame h = no-frame-in question (verdict s) n (checked-told ∙ a) h
 
       pub look-nothing : frame < n → r .found ≡ Nothing → ⊥
-      look-nothing h b = nothing-in asked (verdict s) n (checked-told ∙ a) h (found-told ∙ b)
+      look-nothing h b = nothing-in question (verdict s) n (checked-told ∙ a) h (found-told ∙ b)
 
-      pub look-no-channel : (w : View) → frame < n → r .found ≡ Found.Frame w → w .channels ≤ channel → LookedUp.Refused (refusal noChannel 0) ≡ seenOf s frame channel
+      pub look-no-channel : (w : View) → frame < n → r .found ≡ Found.Frame w → w .channels ≤ channel → refusedAs noChannel 0 ≡ seenOf s frame channel
       unfolding seenOf
-      look-no-channel w h b l = no-channel-in asked (verdict s) n w (checked-told ∙ a) h (found-told ∙ b) l
+      look-no-channel w h b l = no-channel-in question (verdict s) n w (checked-told ∙ a) h (found-told ∙ b) l
 
-      pub look-found : (w : View) → frame < n → r .found ≡ Found.Frame w → channel < w .channels → LookedUp.Channel w ≡ seenOf s frame channel
+      pub look-found : (w : View) → frame < n → r .found ≡ Found.Frame w → channel < w .channels → answered w ≡ seenOf s frame channel
       unfolding seenOf
-      look-found w h b l = found-in asked (verdict s) n w (checked-told ∙ a) h (found-told ∙ b) l
+      look-found w h b l = found-in question (verdict s) n w (checked-told ∙ a) h (found-told ∙ b) l
 
 -- ---- answers over a look-up
 
@@ -165,32 +164,23 @@ pub record Located (s : List ℕ) (frame channel : ℕ) (w : View) : Type 0 wher
   pub channelIs : channel < length (getD frames frame zeroFrame .channels)
   pub view : w ≡ viewOf channel (getD frames frame zeroFrame)
 
-pub located : (s : List ℕ) (frame channel : ℕ) (w : View) {r : LookedUp} → r ≡ seenOf s frame channel → r ≡ LookedUp.Channel w → Located s frame channel w
-unfolding seenOf seenIn
-located s frame channel w e f =
-    let found : Frame → LookedUp = λ g. LookedUp.Channel (viewOf channel g) in
-    asked-both (λ (a b : LookedUp). LookedUp.Channel w ≡ a → Located s frame channel w) LookedUp.Refused LookedUp.Refused
-    (λ r q. let z : _≡_ {A = ℕ} 0 1 = cc in let a : ⊥ = omega arith in absurd a) frame channel found found (verdict s)
-    (λ fs v i c q. record { frames = fs; verdictIs = v; frameIn = i; channelIs = c; view = (cc) }) (sym f ∙ e)
+pub located : (s : List ℕ) (frame channel : ℕ) (w : View) → answered w ≡ seenOf s frame channel → Located s frame channel w
+unfolding seenOf
+located s frame channel w e =
+    asked-both (λ (a b : Answer View). answered w ≡ a → Located s frame channel w)
+    (λ number place q. let z : _≡_ {A = ℕ} 0 1 = cc in let a : ⊥ = omega arith in absurd a) frame channel _ (λ g. answered (viewOf channel g)) (verdict s)
+    (λ fs v i c q. record { frames = fs; verdictIs = v; frameIn = i; channelIs = c; view = (cc) }) e
 
 view-attributes : (channel : ℕ) (f : Frame) → channel < length (f .channels) → attributesSeen (viewOf channel f) ≡ attributesIn channel f
 unfolding attributesSeen viewOf attributesIn
 view-attributes channel f h = simp (lt-ltb channel (length (f .channels)) h)
 
-pub described-found : (s : List ℕ) (frame channel : ℕ) (w : View) → Located s frame channel w → Described.Attributes (attributesSeen w) ≡ attributesOf s frame channel
-unfolding attributesOf describedIn
-described-found s frame channel w p =
-    ap (λ (x : View). Described.Attributes (attributesSeen x)) (p .view)
-    ∙ ap Described.Attributes (view-attributes channel (getD (p .frames) frame zeroFrame) (p .channelIs))
-    ∙ sym (ap (describedIn frame channel) (p .verdictIs) ∙ simp (lt-ltb frame (length (p .frames)) (p .frameIn), lt-ltb channel _ (p .channelIs)))
-
-pub described-refused : (s : List ℕ) (frame channel : ℕ) (x : Refusal) {r : LookedUp} → r ≡ seenOf s frame channel → r ≡ LookedUp.Refused x → Described.Refused x ≡ attributesOf s frame channel
-unfolding attributesOf describedIn seenOf seenIn
-described-refused s frame channel x e f =
-    asked-both (λ (a : LookedUp) (b : Described). LookedUp.Refused x ≡ a → Described.Refused x ≡ b) LookedUp.Refused Described.Refused
-    (λ r q. let y : x ≡ r = cc in ap Described.Refused y) frame channel
-    (λ g. LookedUp.Channel (viewOf channel g)) (λ g. Described.Attributes (attributesIn channel g)) (verdict s)
-    (λ fs v i c q. let z : _≡_ {A = ℕ} 0 1 = cc in let a : ⊥ = omega arith in absurd a) (sym f ∙ e)
+-- The attributes are those of the channel that is seen.
+pub described-is : (s : List ℕ) (frame channel : ℕ) → mapAnswer attributesSeen (seenOf s frame channel) ≡ attributesOf s frame channel
+unfolding attributesOf seenOf
+described-is s frame channel =
+    asked-both (λ (a : Answer View) (b : Answer Attributes). mapAnswer attributesSeen a ≡ b) (λ number place. refl) frame channel _ _ (verdict s)
+    (λ fs v i c. ap answered (view-attributes channel (getD fs frame zeroFrame) c))
 
 -- ---- the place of a sample
 
@@ -219,12 +209,12 @@ module _ {s : List ℕ} {frame channel : ℕ} {w : View} (p : Located s frame ch
   unfolding viewOf
   little-seen = ap (λ (v : View). v .little) (p .view)
 
-  placed-by : (n : ℕ) → placedOf s frame channel n ≡ pick (ltb n (samplesOf channel frameIn)) (At (placeOf channel n frameIn) (viewOf channel frameIn)) (Placed.Refused (refusal noSample 0))
-  unfolding placedOf placedIn
-  placed-by n = ap (placedIn frame channel n) (p .verdictIs) ∙ simp (lt-ltb frame (length (p .frames)) (p .frameIn), lt-ltb channel _ (p .channelIs))
+  placed-by : (n : ℕ) → placedOf s frame channel n ≡ pick (ltb n (samplesOf channel frameIn)) (answered (foundPlace (placeOf channel n frameIn) (viewOf channel frameIn))) (refusedAs noSample 0)
+  unfolding placedOf
+  placed-by n = asked-found frame channel (p .verdictIs) (p .frameIn) (p .channelIs) _
 
   -- No such sample.
-  pub place-none : {n : ℕ} → countSeen w ≤ n → Placed.Refused (refusal noSample 0) ≡ placedOf s frame channel n
+  pub place-none : {n : ℕ} → countSeen w ≤ n → refusedAs noSample 0 ≡ placedOf s frame channel n
   place-none {n} h =
       let k : samplesOf channel frameIn ≤ n = omega (arith, count-seen) in
       sym (placed-by n ∙ simp (le-ltb n (samplesOf channel frameIn) k))
@@ -249,17 +239,15 @@ module _ {s : List ℕ} {frame channel : ℕ} {w : View} (p : Located s frame ch
         positive a zero l = let z : ⊥ = omega (arith, rw mul-zero at l) in absurd z
         positive a (suc b) l = omega arith
 
-    pub place-found : {at : ℕ} → at ≡ placeSeen w n → At at w ≡ placedOf s frame channel n
-    place-found e = (λ i. At ((e ∙ place-is n) i) (p .view i)) ∙ sym (placed-by n ∙ simp (lt-ltb n (samplesOf channel frameIn) number-in))
+    pub place-found : {at : ℕ} → at ≡ placeSeen w n → answered (foundPlace at w) ≡ placedOf s frame channel n
+    place-found e = (λ i. answered (foundPlace ((e ∙ place-is n) i) (p .view i))) ∙ sym (placed-by n ∙ simp (lt-ltb n (samplesOf channel frameIn) number-in))
 
-pub place-refused : (s : List ℕ) (frame channel n : ℕ) (x : Refusal) {r : LookedUp} → r ≡ seenOf s frame channel → r ≡ LookedUp.Refused x → Placed.Refused x ≡ placedOf s frame channel n
-unfolding placedOf placedIn seenOf seenIn
-place-refused s frame channel n x e f =
-    asked-both (λ (a : LookedUp) (b : Placed). LookedUp.Refused x ≡ a → Placed.Refused x ≡ b) LookedUp.Refused Placed.Refused
-    (λ r q. let y : x ≡ r = cc in ap Placed.Refused y) frame channel
-    (λ g. LookedUp.Channel (viewOf channel g))
-    (λ g. pick (ltb n (samplesOf channel g)) (At (placeOf channel n g) (viewOf channel g)) (Placed.Refused (refusal noSample 0))) (verdict s)
-    (λ fs v i c q. let z : _≡_ {A = ℕ} 0 1 = cc in let a : ⊥ = omega arith in absurd a) (sym f ∙ e)
+-- Where no channel is seen there is no place.
+pub place-refused : (s : List ℕ) (frame channel n number place : ℕ) → refusedAs number place ≡ seenOf s frame channel → refusedAs number place ≡ placedOf s frame channel n
+unfolding placedOf seenOf
+place-refused s frame channel n number place e =
+    asked-both (λ (a : Answer View) (b : Answer FoundPlace). refusedAs number place ≡ a → refusedAs number place ≡ b) (λ m p q. cc) frame channel _ _ (verdict s)
+    (λ fs v i c q. let z : _≡_ {A = ℕ} 0 1 = cc in let a : ⊥ = omega arith in absurd a) e
 
 -- The place as it is computed, with the width as it was read.
 pub place-sum : (v : View) (n width : ℕ) → width ≡ widthOf (v .settings .kind) → v .place + (n / v .settings .block * v .octets + v .below + n % v .settings .block * width) ≡ placeSeen v n
@@ -274,39 +262,46 @@ pub record PlacedAt (s : List ℕ) (frame channel n p : ℕ) (v : View) : Type 0
   pub number : n < countSeen v
   pub place : p ≡ placeSeen v n
 
-module _ (s : List ℕ) (frame channel n : ℕ) {r : Placed} (e : r ≡ placedOf s frame channel n) where
+module _ (s : List ℕ) (frame channel n : ℕ) where
   there : {p : ℕ} {v : View} (fs : List Frame) → verdict s ≡ accepted fs → frame < length fs → channel < length (getD fs frame zeroFrame .channels) → n < samplesOf channel (getD fs frame zeroFrame)
       → p ≡ placeOf channel n (getD fs frame zeroFrame) → v ≡ viewOf channel (getD fs frame zeroFrame) → PlacedAt s frame channel n p v
   there fs a i c h q w =
       let l : Located s frame channel _ = record { frames = fs; verdictIs = a; frameIn = i; channelIs = c; view = w } in
       record { channelAt = l; number = omega (arith, count-seen l); place = q ∙ sym (place-is l n) }
 
-  pub placed-at : {p : ℕ} {v : View} → r ≡ At p v → PlacedAt s frame channel n p v
-  unfolding placedOf placedIn
-  placed-at {p} {v} f =
-      let found : Frame → Placed = λ g. At (placeOf channel n g) (viewOf channel g) in
-      sample-both (λ (a b : Placed). At p v ≡ a → PlacedAt s frame channel n p v) Placed.Refused Placed.Refused
-      (λ x q. let z : _≡_ {A = ℕ} 0 1 = cc in let a : ⊥ = omega arith in absurd a) frame channel found found n (verdict s)
-      (λ fs a i c h q. there fs a i c h (cc) (cc)) (sym f ∙ e)
+  pub placed-at : {p : ℕ} {v : View} → answered (foundPlace p v) ≡ placedOf s frame channel n → PlacedAt s frame channel n p v
+  unfolding placedOf
+  placed-at {p} {v} e =
+      sample-both (λ (a b : Answer FoundPlace). answered (foundPlace p v) ≡ a → PlacedAt s frame channel n p v)
+      (λ number place q. let z : _≡_ {A = ℕ} 0 1 = cc in let a : ⊥ = omega arith in absurd a) frame channel _ (λ f. foundPlace (placeOf channel n f) (viewOf channel f)) n (verdict s)
+      (λ fs a i c h q.
+      let x : foundPlace p v ≡ foundPlace (placeOf channel n (getD fs frame zeroFrame)) (viewOf channel (getD fs frame zeroFrame)) = cc in
+      there fs a i c h (ap (λ (y : FoundPlace). y .place) x) (ap (λ (y : FoundPlace). y .channel) x)) e
 
-  pub sample-refused : {x : Refusal} → r ≡ Placed.Refused x → Sampled.Refused x ≡ sampleOf s frame channel n
-  unfolding placedOf placedIn sampleOf sampledIn
-  sample-refused {x} f =
-      sample-both (λ (a : Placed) (b : Sampled). Placed.Refused x ≡ a → Sampled.Refused x ≡ b) Placed.Refused Sampled.Refused
-      (λ r q. let y : x ≡ r = cc in ap Sampled.Refused y) frame channel
-      (λ g. At (placeOf channel n g) (viewOf channel g)) (sampleIn s channel n) n (verdict s)
-      (λ fs a i c h q. let z : _≡_ {A = ℕ} 0 1 = cc in let a : ⊥ = omega arith in absurd a) (sym f ∙ e)
+-- A sample is what the octets at its place say.
+abbrev pub sampleSeen : List ℕ → FoundPlace → FoundSample
+sampleSeen s x =
+    let c = x .channel .settings in
+    foundSample (x .place) (valueOf (c .kind) (c .null) (x .channel .little) (take (widthOf (c .kind)) (drop (x .place) s)))
+
+view-sample : (s : List ℕ) (channel n : ℕ) (f : Frame) → channel < length (f .channels) → sampleSeen s (foundPlace (placeOf channel n f) (viewOf channel f)) ≡ sampleIn s channel n f
+unfolding viewOf sampleIn
+view-sample s channel n f h =
+    let c : viewOf channel f .settings ≡ channelIn channel (f .channels) = simp (lt-ltb channel (length (f .channels)) h) in
+    λ j. foundSample (placeOf channel n f) (valueOf (c j .kind) (c j .null) (f .little) (take (widthOf (c j .kind)) (drop (placeOf channel n f) s)))
+
+pub sample-is : (s : List ℕ) (frame channel n : ℕ) → mapAnswer (sampleSeen s) (placedOf s frame channel n) ≡ sampleOf s frame channel n
+unfolding placedOf sampleOf
+sample-is s frame channel n =
+    sample-both (λ (a : Answer FoundPlace) (b : Answer FoundSample). mapAnswer (sampleSeen s) a ≡ b) (λ number place. refl) frame channel _ _ n (verdict s)
+    (λ fs v i c h. ap answered (view-sample s channel n (getD fs frame zeroFrame) c))
 
 -- The sample that lies at the place that was found.
-module _ {s : List ℕ} {frame channel n p : ℕ} {w : View} (m : PlacedAt s frame channel n p w) where
-  pub sample-found : {v : Value} {width : ℕ} {x : List ℕ} → width ≡ widthOf (w .settings .kind) → x ≡ take width (drop p s) → v ≡ valueOf (w .settings .kind) (w .settings .null) (w .little) x → Sample p v ≡ sampleOf s frame channel n
-  unfolding sampleIn sampleOf sampledIn
-  sample-found ew ex ev =
-      let l = m .channelAt in
-      let k : n < samplesOf channel (frameIn l) = omega (arith, count-seen l, m .number) in
-      let q : p ≡ placeOf channel n (frameIn l) = m .place ∙ place-is l n in
-      let c = settings-seen l in
-      let o = little-seen l in
-      ap (Sample p) (ev ∙ ap (valueOf (w .settings .kind) (w .settings .null) (w .little)) (rw ew at ex))
-      ∙ (λ j. Sample (q j) (valueOf (c j .kind) (c j .null) (o j) (take (widthOf (c j .kind)) (drop (q j) s))))
-      ∙ sym (ap (sampledIn s frame channel n) (l .verdictIs) ∙ simp (lt-ltb frame (length (l .frames)) (l .frameIn), lt-ltb channel _ (l .channelIs), lt-ltb n _ k))
+pub sample-at : (s : List ℕ) (frame channel n : ℕ) {p width : ℕ} {w : View} {x : List ℕ} {v : Value} → answered (foundPlace p w) ≡ placedOf s frame channel n
+    → width ≡ widthOf (w .settings .kind) → x ≡ take width (drop p s) → v ≡ valueOf (w .settings .kind) (w .settings .null) (w .little) x → answered (foundSample p v) ≡ sampleOf s frame channel n
+sample-at s frame channel n {p} {w = w} e ew ex ev =
+    ap (λ (y : Value). answered (foundSample p y)) (ev ∙ ap (valueOf (w .settings .kind) (w .settings .null) (w .little)) (rw ew at ex))
+    ∙ ap (mapAnswer (sampleSeen s)) e ∙ sample-is s frame channel n
+
+pub sample-refused : (s : List ℕ) (frame channel n number place : ℕ) → refusedAs number place ≡ placedOf s frame channel n → refusedAs number place ≡ sampleOf s frame channel n
+sample-refused s frame channel n number place e = ap (mapAnswer (sampleSeen s)) e ∙ sample-is s frame channel n

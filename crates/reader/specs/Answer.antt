@@ -5,10 +5,10 @@ use Prim.Native.Nat.{ℕ, _+_, _*_, _/_, _%_}
 use lib.Dec.{ltb}
 use lib.ListN.{length, getD, take, drop}
 use Rattle.octets.specs.Pick.{pick}
+use Rattle.values.specs.declared.Value.{Value}
 use Rattle.values.specs.Sample.{valueOf}
-use Rattle.heads.specs.declared.Refusal.{Refusal}
 use Rattle.heads.specs.Refusals.{noFrame, noChannel, noSample}
-use Rattle.items.specs.Walk.{refusal}
+use Rattle.heads.specs.Answer.{Answer, answered, refusedAs, refusedBy}
 use Rattle.layout.specs.Frame.{Frame, widthIn, offsetBits, channelIn, samplesOf, placeOf}
 use Rattle.pass.specs.declared.View.{View}
 use Rattle.reader.specs.declared.Attributes.{Attributes}
@@ -21,21 +21,57 @@ use Rattle.reader.specs.declared.Sampled.the-variants.{Sample}
 use Rattle.pass.specs.Verdict.{Verdict, accepted, refused, verdict}
 use Rattle.pass.specs.Scan.{zeroFrame, viewOf}
 
+-- ---- what the answers say
+
+-- The attributes of a channel.
+abbrev pub describedSays : Described → Answer Attributes
+describedSays (Described.Attributes a) = answered a
+describedSays (Described.Refused r) = refusedBy r
+
+-- A sample: its place and value.
+pub record FoundSample : Type 0 where
+  pub place : ℕ
+  pub value : Value
+
+abbrev pub foundSample : ℕ → Value → FoundSample
+foundSample place value = record { place = place; value = value }
+
+abbrev pub sampledSays : Sampled → Answer FoundSample
+sampledSays (Sample place value) = answered (foundSample place value)
+sampledSays (Sampled.Refused r) = refusedBy r
+
+-- A channel as the pass keeps it.
+abbrev pub lookedUpSays : LookedUp → Answer View
+lookedUpSays (LookedUp.Channel v) = answered v
+lookedUpSays (LookedUp.Refused r) = refusedBy r
+
+-- The place of a sample, with its channel as the pass keeps it.
+pub record FoundPlace : Type 0 where
+  pub place : ℕ
+  pub channel : View
+
+abbrev pub foundPlace : ℕ → View → FoundPlace
+foundPlace place v = record { place = place; channel = v }
+
+abbrev pub placedSays : Placed → Answer FoundPlace
+placedSays (At place v) = answered (foundPlace place v)
+placedSays (Placed.Refused r) = refusedBy r
+
 -- ---- the order of the refusals
 
 -- A question on a refused file answers that file's refusal; then 20, 21 in that order; and else what is asked of the frame.
-abbrev pub asked : {A : Type 0} → (Refusal → A) → (Frame → A) → ℕ → ℕ → Verdict → A
-asked refuse answer frame channel (refused r) = refuse r
-asked refuse answer frame channel (accepted fs) =
+abbrev pub asked : {A : Type 0} → (Frame → Answer A) → ℕ → ℕ → Verdict → Answer A
+asked answer frame channel (refused r) = refusedBy r
+asked answer frame channel (accepted fs) =
     let f = getD fs frame zeroFrame in
     pick (ltb frame (length fs))
-    (pick (ltb channel (length (f .channels))) (answer f) (refuse (refusal noChannel 0)))
-    (refuse (refusal noFrame 0))
+    (pick (ltb channel (length (f .channels))) (answer f) (refusedAs noChannel 0))
+    (refusedAs noFrame 0)
 
 -- Where a question names a sample too, 22 comes after them.
-abbrev pub askedSample : {A : Type 0} → (Refusal → A) → (Frame → A) → ℕ → ℕ → ℕ → Verdict → A
-askedSample refuse answer frame channel n v =
-    asked refuse (λ f. pick (ltb n (samplesOf channel f)) (answer f) (refuse (refusal noSample 0))) frame channel v
+abbrev pub askedSample : {A : Type 0} → (Frame → A) → ℕ → ℕ → ℕ → Verdict → Answer A
+askedSample answer frame channel n v =
+    asked (λ f. pick (ltb n (samplesOf channel f)) (answered (answer f)) (refusedAs noSample 0)) frame channel v
 
 -- ---- attributes
 
@@ -57,48 +93,32 @@ attributesIn channel f =
       null = c .null;
     }
 
--- The attributes that a question answers, by the verdict on the file.
-unfoldable pub describedIn : ℕ → ℕ → Verdict → Described
-describedIn frame channel v = asked Described.Refused (λ f. Described.Attributes (attributesIn channel f)) frame channel v
-
 -- The attributes of a channel in a frame of a file.
-unfoldable pub attributesOf : List ℕ → ℕ → ℕ → Described
-attributesOf s frame channel = describedIn frame channel (verdict s)
+unfoldable pub attributesOf : List ℕ → ℕ → ℕ → Answer Attributes
+attributesOf s frame channel = asked (λ f. answered (attributesIn channel f)) frame channel (verdict s)
 
 -- ---- samples
 
 -- The place and value of a sample: its octets are the w octets from its place on.
-unfoldable pub sampleIn : List ℕ → ℕ → ℕ → Frame → Sampled
+unfoldable pub sampleIn : List ℕ → ℕ → ℕ → Frame → FoundSample
 sampleIn s channel n f =
     let c = channelIn channel (f .channels) in
     let place = placeOf channel n f in
-    Sample place (valueOf (c .kind) (c .null) (f .little) (take (widthIn c) (drop place s)))
-
--- The sample that a question answers, by the verdict on the file.
-unfoldable pub sampledIn : List ℕ → ℕ → ℕ → ℕ → Verdict → Sampled
-sampledIn s frame channel n v = askedSample Sampled.Refused (sampleIn s channel n) frame channel n v
+    foundSample place (valueOf (c .kind) (c .null) (f .little) (take (widthIn c) (drop place s)))
 
 -- A sample of a file, by frame, channel and number.
-unfoldable pub sampleOf : List ℕ → ℕ → ℕ → ℕ → Sampled
-sampleOf s frame channel n = sampledIn s frame channel n (verdict s)
+unfoldable pub sampleOf : List ℕ → ℕ → ℕ → ℕ → Answer FoundSample
+sampleOf s frame channel n = askedSample (sampleIn s channel n) frame channel n (verdict s)
 
 -- ---- what the answers are made of
 
--- The channel that a question names, as the pass keeps it, by the verdict on the file.
-unfoldable pub seenIn : ℕ → ℕ → Verdict → LookedUp
-seenIn frame channel v = asked LookedUp.Refused (λ f. LookedUp.Channel (viewOf channel f)) frame channel v
-
--- The same for a file.
-unfoldable pub seenOf : List ℕ → ℕ → ℕ → LookedUp
-seenOf s frame channel = seenIn frame channel (verdict s)
+-- The channel that a question names, as the pass keeps it.
+unfoldable pub seenOf : List ℕ → ℕ → ℕ → Answer View
+seenOf s frame channel = asked (λ f. answered (viewOf channel f)) frame channel (verdict s)
 
 -- The place of the sample that a question names, with its channel as the pass keeps it.
-unfoldable pub placedIn : ℕ → ℕ → ℕ → Verdict → Placed
-placedIn frame channel n v = askedSample Placed.Refused (λ f. At (placeOf channel n f) (viewOf channel f)) frame channel n v
-
--- The same for a file.
-unfoldable pub placedOf : List ℕ → ℕ → ℕ → ℕ → Placed
-placedOf s frame channel n = placedIn frame channel n (verdict s)
+unfoldable pub placedOf : List ℕ → ℕ → ℕ → ℕ → Answer FoundPlace
+placedOf s frame channel n = askedSample (λ f. foundPlace (placeOf channel n f) (viewOf channel f)) frame channel n (verdict s)
 
 -- The attributes of a channel that is seen.
 unfoldable pub attributesSeen : View → Attributes

@@ -6,8 +6,8 @@
 // Read first: in crate pass specs/Verdict.antt (the file), then specs/Answer.antt (the questions).
 ghost use mathlib.Core.Path.{_≡_};
 ghost use Prim.Native.Nat.{_^_, _<_};
-ghost use Rattle.pass.specs.Verdict.{checkOf};
-ghost use Rattle.reader.specs.Answer.{attributesSeen, attributesOf, placeSeen, placedOf, sampleOf, seenOf};
+ghost use Rattle.pass.specs.Verdict.{checkedSays, checkOf};
+ghost use Rattle.reader.specs.Answer.{describedSays, sampledSays, lookedUpSays, placedSays, attributesSeen, attributesOf, placeSeen, placedOf, sampleOf, seenOf};
 use heads::Refusal;
 use pass::Asked;
 use pass::Checked;
@@ -46,7 +46,7 @@ pub enum Sampled {
 
 // Checks a file: the number of its frames, or its refusal.
 pub fn check(s: &[u8]) -> Checked
-    ensures { λ r. ⌜ r ≡ checkOf (now (s .entry)) ⌝ }
+    ensures { λ r. ⌜ checkedSays r ≡ checkOf (now (s .entry)) ⌝ }
 {
     let pass = pass::scan_file(
         s,
@@ -67,7 +67,7 @@ pub enum LookedUp {
 
 // The frame and channel that a question names: the file's refusal, then 20, then 21.
 pub fn look_up(s: &[u8], frame: u32, channel: u32) -> LookedUp
-    ensures { λ r. ⌜ r ≡ seenOf (now (s .entry)) frame channel ⌝ }
+    ensures { λ r. ⌜ lookedUpSays r ≡ seenOf (now (s .entry)) frame channel ⌝ }
 {
     let pass = pass::scan_file(s, Asked { frame, channel });
     let checked = pass.checked;
@@ -128,7 +128,7 @@ fn attributes_seen(v: View) -> Attributes
 
 // The attributes of a channel in a frame.
 pub fn describe(s: &[u8], frame: u32, channel: u32) -> Described
-    ensures { λ r. ⌜ r ≡ attributesOf (now (s .entry)) frame channel ⌝ }
+    ensures { λ r. ⌜ describedSays r ≡ attributesOf (now (s .entry)) frame channel ⌝ }
 {
     match look_up(s, frame, channel) {
         LookedUp::Channel(v) => Described::Attributes(attributes_seen(v)),
@@ -156,7 +156,7 @@ fn place_seen(v: View, number: u64) -> usize
 
 // The place of a sample and its channel: the file's refusal, then 20, 21, 22.
 pub fn place(s: &[u8], frame: u32, channel: u32, number: u64) -> Placed
-    ensures { λ r. ⌜ r ≡ placedOf (now (s .entry)) frame channel number ⌝ }
+    ensures { λ r. ⌜ placedSays r ≡ placedOf (now (s .entry)) frame channel number ⌝ }
 {
     match look_up(s, frame, channel) {
         LookedUp::Refused(x) => Placed::Refused(x),
@@ -176,7 +176,7 @@ pub fn place(s: &[u8], frame: u32, channel: u32, number: u64) -> Placed
 
 // The place and value of a sample.
 pub fn sample(s: &[u8], frame: u32, channel: u32, number: u64) -> Sampled
-    ensures { λ r. ⌜ r ≡ sampleOf (now (s .entry)) frame channel number ⌝ }
+    ensures { λ r. ⌜ sampledSays r ≡ sampleOf (now (s .entry)) frame channel number ⌝ }
 {
     match place(s, frame, channel, number) {
         Placed::Refused(x) => Sampled::Refused(x),

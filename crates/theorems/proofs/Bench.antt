@@ -6,11 +6,13 @@ use Prim.Native.String.{String}
 use lib.IntN.{pos, negsuc}
 use lib.ListN.{length}
 use Rattle.octets.specs.Number.{bigFrom, littleOf, numberOf, twos, signedOf}
+use Rattle.values.specs.declared.Value.{Value}
 use Rattle.values.specs.declared.Value.the-variants.{Whole}
 use Rattle.values.specs.Sample.{widthOf, plainOf, isNull, valueOf}
 use Rattle.items.specs.declared.Item.{Item}
+use Rattle.heads.specs.Answer.{Answer, answered, refusedAs}
 use Rattle.heads.specs.Head.{channelOf, lengthOf, unknownContext, rootOnly, primitiveHead, groupLength, groupHead, headOf}
-use Rattle.items.specs.Walk.{Items, item, finished, fault, refusal, itemOf, nextIn, nextOf, follow, walk, itemsFrom, itemsOf}
+use Rattle.items.specs.Walk.{Items, item, finished, fault, itemOf, nextIn, nextOf, follow, walk, itemsFrom, itemsOf}
 use Rattle.definitions.specs.Define.{tagged, scaleOf, defined}
 use Rattle.settings.specs.declared.Settings.{Settings}
 use Rattle.settings.specs.Settings.{allApplied}
@@ -18,15 +20,11 @@ use Rattle.layout.specs.Frame.{channelIn, offsetBits, blockOctets, sequenceOcte
 use Rattle.stores.specs.Number.{be}
 use Rattle.stores.specs.Length.{holding, shortest}
 use Rattle.laid.specs.Laid.{block, sequence, laidFrom, laid}
-use Rattle.pass.specs.declared.Checked.{Checked}
-use Rattle.pass.specs.declared.Checked.the-variants.{Frames}
-use Rattle.reader.specs.declared.Described.{Described}
-use Rattle.reader.specs.declared.Sampled.{Sampled}
-use Rattle.reader.specs.declared.Sampled.the-variants.{Sample}
+use Rattle.reader.specs.declared.Attributes.{Attributes}
 use Rattle.framing.specs.Framing.{channelsOf, sequencesOf, pointerFits, pointerAfter, framedAs}
 use Rattle.effects.specs.Effects.{orderEffect, countEffect, sequencesEffect, startEffect, compressedEffect, allEffect, oneEffect, rootEffect, plainEffect, memberEffect, groupEffect, effectOf}
 use Rattle.pass.specs.Verdict.{State, firstState, Outcome, goes, refuses, oneChanged, withFrame, carried, placeAt, afterItem, interpret, verdict, checkedAs, checkOf}
-use Rattle.reader.specs.Answer.{attributesIn, describedIn, attributesOf, sampleIn, sampledIn, sampleOf}
+use Rattle.reader.specs.Answer.{FoundSample, foundSample, attributesIn, attributesOf, sampleIn, sampleOf}
 use Rattle.groups.specs.Item.{item as itemOctets, numberItem, unsignedOf}
 use Rattle.groups.specs.Head.{sequencesItem, headItems}
 use Rattle.groups.specs.Group.{channelOctets, scaleItem, nullItem, groupItems, groupOctets, groupsOctets}
@@ -66,14 +64,14 @@ recordAtEnd s channel = channelIn channel (standsAfter s firstState (itemsOf s) 
 pub data Fact : Type 0 where
   groups : List ℕ → Fact
   settings : ℕ → Settings → Fact
-  attributes : ℕ → ℕ → Described → Fact
-  sample : ℕ → ℕ → ℕ → Sampled → Fact
+  attributes : ℕ → ℕ → Answer Attributes → Fact
+  sample : ℕ → ℕ → ℕ → Answer FoundSample → Fact
   rewritten : ℕ → List ℕ → Fact
 
 -- A file, the answer of the check, the line that the program writes, and what else is said of it.
 pub record Case : Type 0 where
   pub input : List ℕ
-  pub checked : Checked
+  pub checked : Answer ℕ
   pub line : List ℕ
   pub facts : List Fact
 
@@ -105,7 +103,7 @@ unfolding bigFrom littleOf numberOf twos signedOf widthOf plainOf isNull valueOf
     allEffect oneEffect plainEffect memberEffect groupEffect effectOf
     channelsOf sequencesOf pointerFits pointerAfter framedAs
     oneChanged withFrame carried placeAt afterItem interpret verdict checkedAs checkOf
-    offsetBits attributesIn describedIn attributesOf sampleIn sampledIn sampleOf
+    offsetBits attributesIn attributesOf sampleIn sampleOf
     reported sampleBits tabulate recordedFrame recording
     be holding shortest block sequence laidFrom laid
     itemOctets numberItem unsignedOf channelOctets scaleItem nullItem groupItems groupOctets groupsOctets
@@ -117,12 +115,12 @@ computed cs = map caseOf cs
 
 -- A refused file: the number and the place of the refusal, and the line.
 abbrev refusedAt : List ℕ → ℕ → ℕ → String → Case
-refusedAt s number place line = record { input = s; checked = Checked.Refused (refusal number place); line = ascii line; facts = [] }
+refusedAt s number place line = record { input = s; checked = refusedAs number place; line = ascii line; facts = [] }
 
 -- The attributes of a channel by the frame's channels and sequences and by its data type and sample width; all else is as by default.
-abbrev typed : ℕ → ℕ → ℕ → ℕ → Described
+abbrev typed : ℕ → ℕ → ℕ → ℕ → Answer Attributes
 typed channels sequences kind width =
-    Described.Attributes (record {
+    answered (record {
       start = pos 0;
       channels = channels;
       sequences = sequences;
@@ -135,6 +133,10 @@ typed channels sequences kind width =
       offset = record { width = width; bits = 0 };
       null = record { width = 0; bits = 0 };
     })
+
+-- A sample at a place.
+abbrev at : ℕ → Value → Answer FoundSample
+at place value = answered (foundSample place value)
 
 -- The settings of a channel by its data type; all else is as by default.
 abbrev settingsBy : ℕ → Settings
@@ -172,7 +174,7 @@ cases =
     -- P1
     record {
       input = [];
-      checked = Frames 0;
+      checked = answered 0;
       line = ascii "frames 0\n";
       facts = rewritten 0 [] ∷ [];
     }
@@ -181,43 +183,43 @@ cases =
       input =
           0x01 ∷ 0x01 ∷ 0x01 ∷ 0x04 ∷ 0x01 ∷ 0x02 ∷ 0x05 ∷ 0x01 ∷ 0x02 ∷ 0x3F ∷ 0x01 ∷ 0x03 ∷ 0x04 ∷ 0x01 ∷ 0x01
           ∷ 0x1E ∷ 0x06 ∷ 0x01 ∷ 0x00 ∷ 0x02 ∷ 0x00 ∷ 0xFF ∷ 0xFF ∷ [];
-      checked = Frames 1;
+      checked = answered 1;
       line = ascii "frames 1\n";
       facts =
-          sample 0 0 0 (Sample 17 (Whole (pos 1)))
-          ∷ sample 0 0 1 (Sample 19 (Whole (pos 2)))
-          ∷ sample 0 1 0 (Sample 21 (Whole (negsuc 0)))
+          sample 0 0 0 (at 17 (Whole (pos 1)))
+          ∷ sample 0 0 1 (at 19 (Whole (pos 2)))
+          ∷ sample 0 1 0 (at 21 (Whole (negsuc 0)))
           ∷ rewritten 113 canonical2
           ∷ [];
     }
     -- P3
     ∷ record {
       input = 0x1E ∷ 0x00 ∷ [];
-      checked = Frames 1;
+      checked = answered 1;
       line = ascii "frames 1\n";
       facts = attributes 0 0 (typed 1 0 0 2) ∷ [];
     }
     -- P4
     ∷ record {
       input = 0x05 ∷ 0x01 ∷ 0x02 ∷ 0x3F ∷ 0x00 ∷ 0x03 ∷ 0x0A ∷ 0x01 ∷ 0x03 ∷ 0x0A ∷ 0x01 ∷ 0x05 ∷ 0x1E ∷ 0x02 ∷ 0x07 ∷ 0x08 ∷ [];
-      checked = Frames 1;
+      checked = answered 1;
       line = ascii "frames 1\n";
       facts =
           attributes 0 0 (typed 2 1 5 1)
           ∷ attributes 0 1 (typed 2 1 5 1)
-          ∷ sample 0 0 0 (Sample 14 (Whole (pos 7)))
-          ∷ sample 0 1 0 (Sample 15 (Whole (pos 8)))
+          ∷ sample 0 0 0 (at 14 (Whole (pos 7)))
+          ∷ sample 0 1 0 (at 15 (Whole (pos 8)))
           ∷ [];
     }
     -- P5
     ∷ record {
       input = 0x3F ∷ 0x00 ∷ 0x03 ∷ 0x0A ∷ 0x01 ∷ 0x03 ∷ 0x1E ∷ 0x02 ∷ 0x00 ∷ 0x09 ∷ [];
-      checked = Frames 1;
+      checked = answered 1;
       line = ascii "frames 1\n";
       facts =
           attributes 0 0 (typed 1 1 0 2)
-          ∷ sample 0 0 0 (Sample 8 (Whole (pos 9)))
-          ∷ sample 0 0 1 (Sampled.Refused (refusal 22 0))
+          ∷ sample 0 0 0 (at 8 (Whole (pos 9)))
+          ∷ sample 0 0 1 (refusedAs 22 0)
           ∷ [];
     }
     -- P6
@@ -233,7 +235,7 @@ cases =
     -- P11
     ∷ record {
       input = 0x05 ∷ 0x02 ∷ 0x01 ∷ 0x00 ∷ 0x3F ∷ 0x81 ∷ 0x7F ∷ 0x03 ∷ 0x0A ∷ 0x01 ∷ 0x03 ∷ [];
-      checked = Frames 0;
+      checked = answered 0;
       line = ascii "frames 0\n";
       facts = groups (255 ∷ []) ∷ settings 255 (settingsBy 3) ∷ [];
     }

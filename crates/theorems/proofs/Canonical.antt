@@ -22,15 +22,14 @@ use lib.Seq.{take-append-seam, drop-append-seam}
 use Rattle.octets.proofs.Pick.{both-false}
 use Rattle.heads.specs.declared.Refusal.{Refusal}
 use Rattle.heads.specs.Refusals.{noRoom}
-use Rattle.items.specs.Walk.{refusal}
+use Rattle.heads.specs.Answer.{Answer, answered, refusedAs, mapAnswer, leftBy}
 use Rattle.layout.specs.Frame.{Frame}
 use Rattle.standing.specs.Standing.{octetsLimit}
 use Rattle.pass.specs.Verdict.{Verdict, accepted, refused, verdict, checkOf}
 use Rattle.reader.proofs.Ordered.{accepted-few}
-use Rattle.canonical.specs.declared.Written.{Written}
 use Rattle.canonical.specs.Recording.{Recorded, recordedFrame, recording}
 use Rattle.canonical.specs.Canonical.{canonical}
-use Rattle.canonical.specs.Write.{fits, writtenIn, leftIn, writtenOf, leftOf}
+use Rattle.canonical.specs.Write.{fits, outputIn, writtenOf, leftOf}
 use Rattle.canonical.proofs.ReadBack.{Reads, read-back}
 use Rattle.canonical.proofs.Accepted.{accepted-recorded}
 use Rattle.theorems.proofs.Questions.{check-accepted, refused-answers}
@@ -120,22 +119,30 @@ pub record WrittenOut (s d : List ℕ) (m : ℕ) : Type 0 where
 
 -- What the writer does with an accepted file whose frames are fs.
 pub record Writes (s d : List ℕ) (fs : List Frame) : Type 0 where
-  pub short : (writtenOf s d ≡ Written.Refused (refusal noRoom 0)) ↔ TooLong (canonical (recording fs)) d
-  pub late : (r : Refusal) → writtenOf s d ≡ Written.Refused r → r ≡ refusal noRoom 0
-  pub octets : (m : ℕ) → (writtenOf s d ≡ Written.Octets m) ↔ ((length (canonical (recording fs)) ≡ m) × (m ≤ length d) × (m ≤ octetsLimit))
+  pub short : (writtenOf s d ≡ refusedAs noRoom 0) ↔ TooLong (canonical (recording fs)) d
+  pub late : (number place : ℕ) → writtenOf s d ≡ refusedAs number place → (number ≡ noRoom) × (place ≡ 0)
+  pub octets : (m : ℕ) → (writtenOf s d ≡ answered m) ↔ ((length (canonical (recording fs)) ≡ m) × (m ≤ length d) × (m ≤ octetsLimit))
 
 module _ (s d : List ℕ) (fs : List Frame) (e : verdict s ≡ accepted fs) where
   -- Its canonical file.
   abbrev file : List ℕ
   file = canonical (recording fs)
 
-  written-fits : Fitting file d → (writtenOf s d ≡ Written.Octets (length file)) × (leftOf s d ≡ file ++ drop (length file) d)
-  unfolding writtenOf writtenIn leftOf leftIn
-  written-fits h = (ap (writtenIn d) e ∙ rw (fits-yes file d h), ap (leftIn d) e ∙ rw (fits-yes file d h))
+  output-fits : Fitting file d → outputIn d (verdict s) ≡ answered file
+  unfolding outputIn
+  output-fits h = ap (outputIn d) e ∙ rw (fits-yes file d h)
 
-  written-short : TooLong file d → (writtenOf s d ≡ Written.Refused (refusal noRoom 0)) × (leftOf s d ≡ d)
-  unfolding writtenOf writtenIn leftOf leftIn
-  written-short h = (ap (writtenIn d) e ∙ rw (fits-no file d h), ap (leftIn d) e ∙ rw (fits-no file d h))
+  output-short : TooLong file d → outputIn d (verdict s) ≡ refusedAs noRoom 0
+  unfolding outputIn
+  output-short h = ap (outputIn d) e ∙ rw (fits-no file d h)
+
+  written-fits : Fitting file d → (writtenOf s d ≡ answered (length file)) × (leftOf s d ≡ file ++ drop (length file) d)
+  unfolding writtenOf leftOf leftBy
+  written-fits h = (ap (mapAnswer length) (output-fits h), ap (λ (x : Answer (List ℕ)). leftBy x d) (output-fits h))
+
+  written-short : TooLong file d → (writtenOf s d ≡ refusedAs noRoom 0) × (leftOf s d ≡ d)
+  unfolding writtenOf leftOf leftBy
+  written-short h = (ap (mapAnswer length) (output-short h), ap (λ (x : Answer (List ℕ)). leftBy x d) (output-short h))
 
   pub writes : Writes s d fs
   writes = by (one-of file d)
@@ -145,18 +152,18 @@ module _ (s d : List ℕ) (fs : List Frame) (e : verdict s ≡ accepted fs) wher
           let w = written-fits t .0 in
           record {
             short = (λ h. let z : _≡_ {A = ℕ} 0 1 = cc in let n : ⊥ = omega arith in absurd n, λ h. absurd (not-both file d t h));
-            late = λ r h. let z : _≡_ {A = ℕ} 0 1 = cc in let n : ⊥ = omega arith in absurd n;
-            octets = λ m. (λ h. let k : length file ≡ m = cc in (k, omega arith, omega arith), λ h. w ∙ ap Written.Octets (h .0));
+            late = λ number place h. let z : _≡_ {A = ℕ} 0 1 = cc in let n : ⊥ = omega arith in absurd n;
+            octets = λ m. (λ h. let k : length file ≡ m = cc in (k, omega arith, omega arith), λ h. w ∙ ap answered (h .0));
           }
       by (inr t) =
           let w = written-short t .0 in
           record {
             short = (λ h. t, λ h. w);
-            late = λ r h. cc;
+            late = λ number place h. (cc, cc);
             octets = λ m. (λ h. let z : _≡_ {A = ℕ} 0 1 = cc in let n : ⊥ = omega arith in absurd n, λ h. absurd (not-both file d (omega arith) t));
           }
 
-  out : (m : ℕ) → writtenOf s d ≡ Written.Octets m → WrittenOut s d m
+  out : (m : ℕ) → writtenOf s d ≡ answered m → WrittenOut s d m
   out m h =
       let w = writes .octets m .0 h in
       let l = written-fits (omega arith) .1 in
@@ -170,39 +177,39 @@ module _ (s d : List ℕ) (fs : List Frame) (e : verdict s ≡ accepted fs) wher
         rest = rw (← w .0, l) (drop-append-seam file (drop (length file) d));
       }
 
-  kept : (r : Refusal) → writtenOf s d ≡ Written.Refused r → leftOf s d ≡ d
-  kept r h = written-short (writes .short .0 (h ∙ ap Written.Refused (writes .late r h))) .1
+  kept : (number place : ℕ) → writtenOf s d ≡ refusedAs number place → leftOf s d ≡ d
+  kept number place h = let l = writes .late number place h in written-short (writes .short .0 (h ∙ (λ i. refusedAs (l .0 i) (l .1 i)))) .1
 
 -- The file itself is refused.
 module _ (s d : List ℕ) (r : Refusal) (e : verdict s ≡ refused r) where
-  none-out : (m : ℕ) → writtenOf s d ≡ Written.Octets m → ⊥
+  none-out : (m : ℕ) → writtenOf s d ≡ answered m → ⊥
   none-out m h = let k = refused-answers s r e .written d in let z : _≡_ {A = ℕ} 0 1 = cc in omega arith
 
   all-kept : leftOf s d ≡ d
-  unfolding leftOf leftIn
-  all-kept = ap (leftIn d) e
+  unfolding leftOf leftBy outputIn
+  all-kept = ap (λ (v : Verdict). leftBy (outputIn d v) d) e
 
-pub written-out : (s d : List ℕ) (m : ℕ) → writtenOf s d ≡ Written.Octets m → WrittenOut s d m
+pub written-out : (s d : List ℕ) (m : ℕ) → writtenOf s d ≡ answered m → WrittenOut s d m
 written-out s d m h = by (verdict s) refl
   where
     by : (v : Verdict) → verdict s ≡ v → WrittenOut s d m
     by (accepted fs) e = out s d fs e m h
     by (refused r) e = absurd (none-out s d r e m h)
 
-pub refusal-leaves : (s d : List ℕ) (r : Refusal) → writtenOf s d ≡ Written.Refused r → leftOf s d ≡ d
-refusal-leaves s d r h = by (verdict s) refl
+pub refusal-leaves : (s d : List ℕ) (number place : ℕ) → writtenOf s d ≡ refusedAs number place → leftOf s d ≡ d
+refusal-leaves s d number place h = by (verdict s) refl
   where
     by : (v : Verdict) → verdict s ≡ v → leftOf s d ≡ d
-    by (accepted fs) e = kept s d fs e r h
+    by (accepted fs) e = kept s d fs e number place h
     by (refused q) e = all-kept s d q e
 
 -- ---- over buffers
 
 -- The canonical file in the buffer, and what is behind it.
-pub written-file : (s d : List ℕ) (m : ℕ) → writtenOf s d ≡ Written.Octets m → (take m (leftOf s d) ≡ canonical (recordingOf s)) × (drop m (leftOf s d) ≡ drop m d)
+pub written-file : (s d : List ℕ) (m : ℕ) → writtenOf s d ≡ answered m → (take m (leftOf s d) ≡ canonical (recordingOf s)) × (drop m (leftOf s d) ≡ drop m d)
 written-file s d m h = let w = written-out s d m h in (w .file ∙ ap canonical (sym (recording-is s (w .frames) (w .is))), w .rest)
 
-written-read : (s d : List ℕ) (m : ℕ) → AllOctets s → writtenOf s d ≡ Written.Octets m → Reads (take m (leftOf s d)) (recordingOf s)
+written-read : (s d : List ℕ) (m : ℕ) → AllOctets s → writtenOf s d ≡ answered m → Reads (take m (leftOf s d)) (recordingOf s)
 written-read s d m octets h =
     let w = written-out s d m h in
     rw (w .file, recording-is s (w .frames) (w .is)) (canonical-read s octets (w .frames) (w .is) (omega (arith, w .long, w .small)))
@@ -214,27 +221,25 @@ pub record ReadAgain (s x : List ℕ) : Type 0 where
   pub written : (d : List ℕ) → writtenOf x d ≡ writtenOf s d
   pub left : (d : List ℕ) → leftOf x d ≡ leftOf s d
 
-same-written-in : (fs gs : List Frame) → recording fs ≡ recording gs → (d : List ℕ) → writtenIn d (accepted fs) ≡ writtenIn d (accepted gs)
-unfolding writtenIn
-same-written-in fs gs q d = rw q
-
-same-left-in : (fs gs : List Frame) → recording fs ≡ recording gs → (d : List ℕ) → leftIn d (accepted fs) ≡ leftIn d (accepted gs)
-unfolding leftIn
-same-left-in fs gs q d = rw q
+-- What is written is the recording's.
+same-output : (fs gs : List Frame) → recording fs ≡ recording gs → (d : List ℕ) → outputIn d (accepted fs) ≡ outputIn d (accepted gs)
+unfolding outputIn
+same-output fs gs q d = rw q
 
 read-again : (s x : List ℕ) (fs : List Frame) → verdict s ≡ accepted fs → Reads x (recordingOf s) → ReadAgain s x
 unfolding writtenOf leftOf
 read-again s x fs e r =
     let q : recording (r .frames) ≡ recording fs = r .recorded ∙ recording-is s fs e in
     let n : length (r .frames) ≡ length fs = sym (recording-long (r .frames)) ∙ ap length q ∙ recording-long fs in
+    let same : (d : List ℕ) → outputIn d (verdict x) ≡ outputIn d (verdict s) = λ d. ap (outputIn d) (r .is) ∙ same-output (r .frames) fs q d ∙ ap (outputIn d) (sym e) in
     record {
       recorded = r;
       check = check-accepted x (length fs) .1 (r .frames, r .is, n) ∙ sym (check-accepted s (length fs) .1 (fs, e, refl));
-      written = λ d. ap (writtenIn d) (r .is) ∙ same-written-in (r .frames) fs q d ∙ ap (writtenIn d) (sym e);
-      left = λ d. ap (leftIn d) (r .is) ∙ same-left-in (r .frames) fs q d ∙ ap (leftIn d) (sym e);
+      written = λ d. ap (mapAnswer length) (same d);
+      left = λ d. ap (λ (y : Answer (List ℕ)). leftBy y d) (same d);
     }
 
-pub written-again : (s : List ℕ) → AllOctets s → (d : List ℕ) (m : ℕ) → writtenOf s d ≡ Written.Octets m → ReadAgain s (take m (leftOf s d))
+pub written-again : (s : List ℕ) → AllOctets s → (d : List ℕ) (m : ℕ) → writtenOf s d ≡ answered m → ReadAgain s (take m (leftOf s d))
 written-again s octets d m h =
     let w = written-out s d m h in
     read-again s (take m (leftOf s d)) (w .frames) (w .is) (written-read s d m octets h)
@@ -242,7 +247,7 @@ written-again s octets d m h =
 same-files : (s t : List ℕ) (fs gs : List Frame) → verdict s ≡ accepted fs → verdict t ≡ accepted gs → recordingOf s ≡ recordingOf t → canonical (recording fs) ≡ canonical (recording gs)
 same-files s t fs gs e g p = ap canonical (sym (recording-is s fs e) ∙ p ∙ recording-is t gs g)
 
-pub same-written : (s t d g : List ℕ) (m n : ℕ) → AllOctets s → AllOctets t → writtenOf s d ≡ Written.Octets m → writtenOf t g ≡ Written.Octets n → ((m ≡ n) × (take m (leftOf s d) ≡ take n (leftOf t g))) ↔ (recordingOf s ≡ recordingOf t)
+pub same-written : (s t d g : List ℕ) (m n : ℕ) → AllOctets s → AllOctets t → writtenOf s d ≡ answered m → writtenOf t g ≡ answered n → ((m ≡ n) × (take m (leftOf s d) ≡ take n (leftOf t g))) ↔ (recordingOf s ≡ recordingOf t)
 same-written s t d g m n os ot h k = (recordings, files)
   where
     recordings : (m ≡ n) × (take m (leftOf s d) ≡ take n (leftOf t g)) → recordingOf s ≡ recordingOf t

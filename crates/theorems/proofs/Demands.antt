@@ -10,14 +10,12 @@ use mathlib.Core.List.{List}
 use lib.ListN.{length, take, drop}
 use Rattle.heads.specs.declared.Refusal.{Refusal}
 use Rattle.heads.specs.Refusals.{longFile}
-use Rattle.items.specs.Walk.{refusal, itemsOf}
+use Rattle.heads.specs.Answer.{answered, refusedAs}
+use Rattle.items.specs.Walk.{itemsOf}
 use Rattle.layout.specs.Frame.{Frame}
-use Rattle.pass.specs.declared.Checked.{Checked}
-use Rattle.reader.specs.declared.Described.{Described}
 use Rattle.standing.specs.Standing.{octetsLimit}
 use Rattle.pass.specs.Verdict.{firstState, accepted, refused, interpret, verdict, checkOf}
 use Rattle.reader.specs.Answer.{attributesIn, attributesOf}
-use Rattle.canonical.specs.declared.Written.{Written}
 use Rattle.canonical.specs.Canonical.{canonical}
 use Rattle.canonical.specs.Write.{writtenOf, leftOf}
 use Rattle.reader.proofs.Ordered.{endOf}
@@ -33,8 +31,8 @@ use Rattle.theorems.proofs.Canonical.{recordingOf, AllOctets, Writes, R
 -- octet of the output buffer."
 pub record DemandOne (s : List ℕ) : Type 0 where
   -- 15 comes first: exactly when the file is too long, and always at place 0.
-  pub limit : (checkOf s ≡ Checked.Refused (refusal longFile 0)) ↔ (octetsLimit < length s)
-  pub limitPlace : (r : Refusal) → checkOf s ≡ Checked.Refused r → r .number ≡ longFile → r ≡ refusal longFile 0
+  pub limit : (checkOf s ≡ refusedAs longFile 0) ↔ (octetsLimit < length s)
+  pub limitPlace : (place : ℕ) → checkOf s ≡ refusedAs longFile place → place ≡ 0
   -- Else the items decide, in file order. When 1 to 14 are given, and where, is the definition `interpret` itself.
   pub items : length s ≤ octetsLimit → verdict s ≡ interpret s firstState (itemsOf s)
   -- The file is accepted or refused.
@@ -46,7 +44,7 @@ pub record DemandOne (s : List ℕ) : Type 0 where
   pub sample : (fs : List Frame) → verdict s ≡ accepted fs → (i c n : ℕ) → SampleAnswered s fs i c n
   pub written : (fs : List Frame) → verdict s ≡ accepted fs → (d : List ℕ) → Writes s d fs
   -- A refusal changes no octet of the buffer.
-  pub left : (d : List ℕ) (r : Refusal) → writtenOf s d ≡ Written.Refused r → leftOf s d ≡ d
+  pub left : (d : List ℕ) (number place : ℕ) → writtenOf s d ≡ refusedAs number place → leftOf s d ≡ d
 
 pub demand-one : (s : List ℕ) → DemandOne s
 demand-one s =
@@ -68,14 +66,14 @@ demand-one s =
 -- one document 01 lays down. Reading a canonical file gives the same recording again."
 pub record DemandTwo (s : List ℕ) : Type 0 where
   -- The check counts the frames of the verdict.
-  pub count : (n : ℕ) → (checkOf s ≡ Checked.Frames n) ↔ ((fs : List Frame) × (verdict s ≡ accepted fs) × (length fs ≡ n))
+  pub count : (n : ℕ) → (checkOf s ≡ answered n) ↔ ((fs : List Frame) × (verdict s ≡ accepted fs) × (length fs ≡ n))
   -- The attributes, the start pointer among them, and the place and value of a sample are those of its frame.
-  pub attributes : (fs : List Frame) → verdict s ≡ accepted fs → (i c : ℕ) → i < length fs → c < length (frameNumber fs i .channels) → attributesOf s i c ≡ Described.Attributes (attributesIn c (frameNumber fs i))
+  pub attributes : (fs : List Frame) → verdict s ≡ accepted fs → (i c : ℕ) → i < length fs → c < length (frameNumber fs i .channels) → attributesOf s i c ≡ answered (attributesIn c (frameNumber fs i))
   pub sample : (fs : List Frame) → verdict s ≡ accepted fs → (a : NamedSample s) → InWaveform s fs a
   -- The canonical file stands at the start of the buffer, and octets past it keep what they held.
-  pub written : (d : List ℕ) (m : ℕ) → writtenOf s d ≡ Written.Octets m → (take m (leftOf s d) ≡ canonical (recordingOf s)) × (drop m (leftOf s d) ≡ drop m d)
+  pub written : (d : List ℕ) (m : ℕ) → writtenOf s d ≡ answered m → (take m (leftOf s d) ≡ canonical (recordingOf s)) × (drop m (leftOf s d) ≡ drop m d)
   -- Read, it has as many frames and holds the same recording; written out again, it is as the first file.
-  pub again : AllOctets s → (d : List ℕ) (m : ℕ) → writtenOf s d ≡ Written.Octets m → ReadAgain s (take m (leftOf s d))
+  pub again : AllOctets s → (d : List ℕ) (m : ℕ) → writtenOf s d ≡ answered m → ReadAgain s (take m (leftOf s d))
 
 pub demand-two : (s : List ℕ) → DemandTwo s
 demand-two s =
@@ -111,7 +109,7 @@ pub record SamplesPlaced (s : List ℕ) (fs : List Frame) : Type 0 where
 pub record DemandThree : Type 0 where
   pub places : (s : List ℕ) (fs : List Frame) → verdict s ≡ accepted fs → SamplesPlaced s fs
   -- Files s and t are written to buffers that held d and g; m and n octets are their canonical files.
-  pub same : (s t d g : List ℕ) (m n : ℕ) → AllOctets s → AllOctets t → writtenOf s d ≡ Written.Octets m → writtenOf t g ≡ Written.Octets n → ((m ≡ n) × (take m (leftOf s d) ≡ take n (leftOf t g))) ↔ (recordingOf s ≡ recordingOf t)
+  pub same : (s t d g : List ℕ) (m n : ℕ) → AllOctets s → AllOctets t → writtenOf s d ≡ answered m → writtenOf t g ≡ answered n → ((m ≡ n) × (take m (leftOf s d) ≡ take n (leftOf t g))) ↔ (recordingOf s ≡ recordingOf t)
 
 pub demand-three : DemandThree
 demand-three =

@@ -19,9 +19,9 @@ use Rattle.settings.specs.declared.Settings.{Settings}
 use Rattle.layout.specs.Frame.{Frame, widthIn, sequenceOctets, channelIn, samplesOf, offsetOf, placeOf}
 use Rattle.laid.specs.Laid.{Named, Covered, sampleIn}
 use Rattle.laid.proofs.Places.{offset-inside, offset-apart, offset-covers}
-use Rattle.reader.specs.declared.Sampled.the-variants.{Sample}
+use Rattle.heads.specs.Answer.{answered}
 use Rattle.pass.specs.Verdict.{accepted, verdict}
-use Rattle.reader.specs.Answer.{sampleOf, sampleIn as answerIn}
+use Rattle.reader.specs.Answer.{FoundSample, foundSample, sampleOf, sampleIn as answerIn}
 use Rattle.reader.proofs.Ordered.{endOf, accepted-lies, accepted-ordered}
 use Rattle.theorems.proofs.Questions.{frameNumber, sample-answered}
 
@@ -58,7 +58,7 @@ pub record NamedSample (s : List ℕ) : Type 0 where
   pub name : Name
   pub place : ℕ
   pub value : Value
-  pub answer : sampleOf s (name .frame) (name .channel) (name .number) ≡ Sample place value
+  pub answer : sampleOf s (name .frame) (name .channel) (name .number) ≡ answered (foundSample place value)
 
 -- Octet p of the file is one of the sample's.
 pub record Belongs (s : List ℕ) (fs : List Frame) (a : NamedSample s) (p : ℕ) : Type 0 where
@@ -125,7 +125,7 @@ module _ (s : List ℕ) (fs : List Frame) (e : verdict s ≡ accepted fs) where
   pub sample-exists : (x : Name) → Exists fs x → (a : NamedSample s) × (a .name ≡ x)
   unfolding samplesOf answerIn
   sample-exists x h =
-      let r = sample-answered s fs e (x .frame) (x .channel) (x .number) .there _ _ .1 (h .frame, h .sample .channel, h .sample .number, refl) in
+      let r = sample-answered s fs e (x .frame) (x .channel) (x .number) .there _ .1 (h .frame, h .sample .channel, h .sample .number, refl) in
       (record { name = x; place = _; value = _; answer = r }, refl)
 
   -- The sample's offset ends by the end of the sequences, and so of the waveform.
@@ -143,10 +143,10 @@ module _ (s : List ℕ) (fs : List Frame) (e : verdict s ≡ accepted fs) where
       let c = namedSettings fs x in
       let order = namedFrame fs x .little in
       let place = placeOf (x .channel) (x .number) (namedFrame fs x) in
-      let r = sample-answered s fs e (x .frame) (x .channel) (x .number) .there (a .place) (a .value) .0 (a .answer) in
+      let r = sample-answered s fs e (x .frame) (x .channel) (x .number) .there (foundSample (a .place) (a .value)) .0 (a .answer) in
       let h : Exists fs x = record { frame = r .0; sample = record { channel = r .1; number = r .2 } } in
-      let p : a .place ≡ place = cc in
-      let v : a .value ≡ valueOf (c .kind) (c .null) order (take (namedWidth fs x) (drop place s)) = cc in
+      let p : a .place ≡ place = sym (ap (λ (y : FoundSample). y .place) (r .3)) in
+      let v : a .value ≡ valueOf (c .kind) (c .null) order (take (namedWidth fs x) (drop place s)) = sym (ap (λ (y : FoundSample). y .value) (r .3)) in
       record {
         exists = h;
         placed = p;

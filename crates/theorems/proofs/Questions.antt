@@ -16,22 +16,19 @@ use borrow.Author.Tests.{ltb-true, ltb-false, lt-ltb, le-ltb}
 use lib.Dec.{ltb}
 use lib.ListN.{length, getD}
 use Rattle.octets.specs.Pick.{pick}
-use Rattle.values.specs.declared.Value.{Value}
 use Rattle.heads.specs.declared.Refusal.{Refusal}
 use Rattle.heads.specs.Refusals.{longFile, noFrame, noChannel, noSample}
+use Rattle.heads.specs.Answer.{Answer, answered, refusedAs, refusedBy, mapAnswer}
 use Rattle.items.specs.Walk.{refusal, itemsOf}
 use Rattle.layout.specs.Frame.{Frame, samplesOf}
-use Rattle.pass.specs.declared.Checked.{Checked}
 use Rattle.reader.specs.declared.Attributes.{Attributes}
-use Rattle.reader.specs.declared.Described.{Described}
-use Rattle.reader.specs.declared.Sampled.{Sampled}
 use Rattle.standing.specs.Standing.{octetsLimit}
 use Rattle.pass.specs.Verdict.{firstState, Verdict, accepted, refused, interpret, verdict, checkedAs, checkOf}
 use Rattle.reader.proofs.Never.{only-limit}
-use Rattle.canonical.specs.declared.Written.{Written}
-use Rattle.canonical.specs.Write.{writtenIn, writtenOf}
+use Rattle.reader.proofs.Order.{asked-refused}
+use Rattle.canonical.specs.Write.{outputIn, writtenOf}
 use Rattle.pass.specs.Scan.{zeroFrame}
-use Rattle.reader.specs.Answer.{attributesIn, describedIn, attributesOf, sampleIn, sampledIn, sampleOf}
+use Rattle.reader.specs.Answer.{FoundSample, asked, askedSample, attributesIn, attributesOf, sampleIn, sampleOf}
 
 -- ---- three tests
 
@@ -97,24 +94,27 @@ module _ {A : Type 0} (number : A → ℕ) (x p q r : A) (numbered : Numbered nu
 
 -- ---- the check
 
-check-by : (v : Verdict) (n : ℕ) → checkedAs v ≡ Checked.Frames n → (fs : List Frame) × (v ≡ accepted fs) × (length fs ≡ n)
+check-by : (v : Verdict) (n : ℕ) → checkedAs v ≡ answered n → (fs : List Frame) × (v ≡ accepted fs) × (length fs ≡ n)
 unfolding checkedAs
 check-by (accepted fs) n e = (fs, refl, cc)
 check-by (refused r) n e = let z : _≡_ {A = ℕ} 0 1 = cc in let w : ⊥ = omega arith in absurd w
 
 -- The check counts the frames of an accepted file, and of no other.
-pub check-accepted : (s : List ℕ) (n : ℕ) → (checkOf s ≡ Checked.Frames n) ↔ ((fs : List Frame) × (verdict s ≡ accepted fs) × (length fs ≡ n))
+pub check-accepted : (s : List ℕ) (n : ℕ) → (checkOf s ≡ answered n) ↔ ((fs : List Frame) × (verdict s ≡ accepted fs) × (length fs ≡ n))
 unfolding checkOf checkedAs
-check-accepted s n = (check-by (verdict s) n, λ h. ap checkedAs (h .1) ∙ ap Checked.Frames (h .2))
+check-accepted s n = (check-by (verdict s) n, λ h. ap checkedAs (h .1) ∙ ap answered (h .2))
 
-refused-by : (v : Verdict) (r : Refusal) → checkedAs v ≡ Checked.Refused r → v ≡ refused r
+refused-by : (v : Verdict) (number place : ℕ) → checkedAs v ≡ refusedAs number place → v ≡ refused (refusal number place)
 unfolding checkedAs
-refused-by (accepted fs) r e = let z : _≡_ {A = ℕ} 0 1 = cc in let w : ⊥ = omega arith in absurd w
-refused-by (refused q) r e = let f : q ≡ r = cc in ap refused f
+refused-by (accepted fs) number place e = let z : _≡_ {A = ℕ} 0 1 = cc in let w : ⊥ = omega arith in absurd w
+refused-by (refused q) number place e =
+    let n : q .number ≡ number = cc in
+    let p : q .place ≡ place = cc in
+    λ i. refused (refusal (n i) (p i))
 
-pub check-refused : (s : List ℕ) (r : Refusal) → (checkOf s ≡ Checked.Refused r) ↔ (verdict s ≡ refused r)
+pub check-refused : (s : List ℕ) (number place : ℕ) → (checkOf s ≡ refusedAs number place) ↔ (verdict s ≡ refused (refusal number place))
 unfolding checkOf checkedAs
-check-refused s r = (refused-by (verdict s) r, ap checkedAs)
+check-refused s number place = (refused-by (verdict s) number place, ap checkedAs)
 
 pub accepted-or-refused : (s : List ℕ) → ((fs : List Frame) × (verdict s ≡ accepted fs)) ⊎ ((r : Refusal) × (verdict s ≡ refused r))
 accepted-or-refused s = by (verdict s) refl
@@ -132,42 +132,38 @@ pub limit-passed : (s : List ℕ) → length s ≤ octetsLimit → verdict s ≡
 unfolding verdict
 limit-passed s h = rw (le-ltb octetsLimit (length s) h)
 
-pub limit-exactly : (s : List ℕ) → (checkOf s ≡ Checked.Refused (refusal longFile 0)) ↔ (octetsLimit < length s)
+pub limit-exactly : (s : List ℕ) → (checkOf s ≡ refusedAs longFile 0) ↔ (octetsLimit < length s)
 limit-exactly s =
-    (λ q. only-limit s (refusal longFile 0) (check-refused s (refusal longFile 0) .0 q) refl, λ h. check-refused s (refusal longFile 0) .1 (limit-first s h))
+    (λ q. only-limit s (refusal longFile 0) (check-refused s longFile 0 .0 q) refl, λ h. check-refused s longFile 0 .1 (limit-first s h))
 
-pub limit-place : (s : List ℕ) (r : Refusal) → checkOf s ≡ Checked.Refused r → r .number ≡ longFile → r ≡ refusal longFile 0
-limit-place s r q h = let a = limit-exactly s .1 (only-limit s r (check-refused s r .0 q) h) in cc
+pub limit-place : (s : List ℕ) (place : ℕ) → checkOf s ≡ refusedAs longFile place → place ≡ 0
+limit-place s place q = let a = limit-exactly s .1 (only-limit s (refusal longFile place) (check-refused s longFile place .0 q) refl) in cc
 
 -- ---- a refused file
 
 -- Every question and the writer answer the refusal r.
 pub record AnsweredBy (s : List ℕ) (r : Refusal) : Type 0 where
-  pub check : checkOf s ≡ Checked.Refused r
-  pub attributes : (i c : ℕ) → attributesOf s i c ≡ Described.Refused r
-  pub sample : (i c n : ℕ) → sampleOf s i c n ≡ Sampled.Refused r
-  pub written : (d : List ℕ) → writtenOf s d ≡ Written.Refused r
+  pub check : checkOf s ≡ refusedBy r
+  pub attributes : (i c : ℕ) → attributesOf s i c ≡ refusedBy r
+  pub sample : (i c n : ℕ) → sampleOf s i c n ≡ refusedBy r
+  pub written : (d : List ℕ) → writtenOf s d ≡ refusedBy r
 
 pub refused-answers : (s : List ℕ) (r : Refusal) → verdict s ≡ refused r → AnsweredBy s r
-unfolding attributesOf describedIn sampleOf sampledIn writtenOf writtenIn
+unfolding attributesOf sampleOf writtenOf outputIn
 refused-answers s r e =
     record {
-      check = check-refused s r .1 e;
-      attributes = λ i c. ap (describedIn i c) e;
-      sample = λ i c n. ap (sampledIn s i c n) e;
-      written = λ d. ap (writtenIn d) e;
+      check = check-refused s (r .number) (r .place) .1 e;
+      attributes = λ i c. asked-refused i c _ e;
+      sample = λ i c n. asked-refused i c _ e;
+      written = λ d. ap (λ (v : Verdict). mapAnswer length (outputIn d v)) e;
     }
 
 -- ---- an accepted file
 
 -- The number of an answer's refusal, and 0 for any other answer.
-abbrev describedNumber : Described → ℕ
-describedNumber (Described.Attributes a) = 0
-describedNumber (Described.Refused r) = r .number
-
-abbrev sampledNumber : Sampled → ℕ
-sampledNumber (Sampled.Sample place value) = 0
-sampledNumber (Sampled.Refused r) = r .number
+abbrev numberIn : {A : Type 0} → Answer A → ℕ
+numberIn (answered a) = 0
+numberIn (refusedAs number place) = number
 
 -- Frame i.
 abbrev pub frameNumber : List Frame → ℕ → Frame
@@ -175,32 +171,32 @@ frameNumber fs i = getD fs i zeroFrame
 
 -- The attributes, or the first of 20 and 21 that holds, at place 0.
 pub record AttributesAnswered (s : List ℕ) (fs : List Frame) (i c : ℕ) : Type 0 where
-  pub frame : (attributesOf s i c ≡ Described.Refused (refusal noFrame 0)) ↔ (length fs ≤ i)
-  pub channel : (attributesOf s i c ≡ Described.Refused (refusal noChannel 0)) ↔ ((i < length fs) × (length (frameNumber fs i .channels) ≤ c))
-  pub there : (a : Attributes) → (attributesOf s i c ≡ Described.Attributes a) ↔ ((i < length fs) × (c < length (frameNumber fs i .channels)) × (attributesIn c (frameNumber fs i) ≡ a))
-  pub late : (r : Refusal) → attributesOf s i c ≡ Described.Refused r → (r ≡ refusal noFrame 0) ⊎ (r ≡ refusal noChannel 0)
+  pub frame : (attributesOf s i c ≡ refusedAs noFrame 0) ↔ (length fs ≤ i)
+  pub channel : (attributesOf s i c ≡ refusedAs noChannel 0) ↔ ((i < length fs) × (length (frameNumber fs i .channels) ≤ c))
+  pub there : (a : Attributes) → (attributesOf s i c ≡ answered a) ↔ ((i < length fs) × (c < length (frameNumber fs i .channels)) × (attributesIn c (frameNumber fs i) ≡ a))
+  pub late : (number place : ℕ) → attributesOf s i c ≡ refusedAs number place → (place ≡ 0) × ((number ≡ noFrame) ⊎ (number ≡ noChannel))
 
 -- The sample, or the first of 20, 21 and 22 that holds, at place 0.
 pub record SampleAnswered (s : List ℕ) (fs : List Frame) (i c n : ℕ) : Type 0 where
-  pub frame : (sampleOf s i c n ≡ Sampled.Refused (refusal noFrame 0)) ↔ (length fs ≤ i)
-  pub channel : (sampleOf s i c n ≡ Sampled.Refused (refusal noChannel 0)) ↔ ((i < length fs) × (length (frameNumber fs i .channels) ≤ c))
-  pub sample : (sampleOf s i c n ≡ Sampled.Refused (refusal noSample 0)) ↔ ((i < length fs) × (c < length (frameNumber fs i .channels)) × (samplesOf c (frameNumber fs i) ≤ n))
-  pub there : (place : ℕ) (v : Value) → (sampleOf s i c n ≡ Sampled.Sample place v) ↔ ((i < length fs) × (c < length (frameNumber fs i .channels)) × (n < samplesOf c (frameNumber fs i)) × (sampleIn s c n (frameNumber fs i) ≡ Sampled.Sample place v))
-  pub late : (r : Refusal) → sampleOf s i c n ≡ Sampled.Refused r → (r ≡ refusal noFrame 0) ⊎ ((r ≡ refusal noChannel 0) ⊎ (r ≡ refusal noSample 0))
+  pub frame : (sampleOf s i c n ≡ refusedAs noFrame 0) ↔ (length fs ≤ i)
+  pub channel : (sampleOf s i c n ≡ refusedAs noChannel 0) ↔ ((i < length fs) × (length (frameNumber fs i .channels) ≤ c))
+  pub sample : (sampleOf s i c n ≡ refusedAs noSample 0) ↔ ((i < length fs) × (c < length (frameNumber fs i .channels)) × (samplesOf c (frameNumber fs i) ≤ n))
+  pub there : (x : FoundSample) → (sampleOf s i c n ≡ answered x) ↔ ((i < length fs) × (c < length (frameNumber fs i .channels)) × (n < samplesOf c (frameNumber fs i)) × (sampleIn s c n (frameNumber fs i) ≡ x))
+  pub late : (number place : ℕ) → sampleOf s i c n ≡ refusedAs number place → (place ≡ 0) × ((number ≡ noFrame) ⊎ ((number ≡ noChannel) ⊎ (number ≡ noSample)))
 
 module _ (s : List ℕ) (fs : List Frame) (e : verdict s ≡ accepted fs) (i c : ℕ) where
-  attributes-tested : Tested describedNumber (attributesOf s i c) (Described.Attributes (attributesIn c (frameNumber fs i))) (Described.Refused (refusal noFrame 0)) (Described.Refused (refusal noChannel 0)) (Described.Refused (refusal noSample 0)) i (length fs) c (length (frameNumber fs i .channels)) 0 1
-  unfolding attributesOf describedIn
+  attributes-tested : Tested numberIn (attributesOf s i c) (answered (attributesIn c (frameNumber fs i))) (refusedAs noFrame 0) (refusedAs noChannel 0) (refusedAs noSample 0) i (length fs) c (length (frameNumber fs i .channels)) 0 1
+  unfolding attributesOf
   attributes-tested =
-      rw (ap (describedIn i c) e) (tested describedNumber _ _ _ _ (omega arith) i (length fs) c (length (frameNumber fs i .channels)) 0 1)
+      rw (ap (asked (λ f. answered (attributesIn c f)) i c) e) (tested numberIn _ _ _ _ (omega arith) i (length fs) c (length (frameNumber fs i .channels)) 0 1)
 
-  attributes-late : (r : Refusal) → attributesOf s i c ≡ Described.Refused r → (r ≡ refusal noFrame 0) ⊎ (r ≡ refusal noChannel 0)
-  attributes-late r q = by-which (attributes-tested .one)
+  attributes-late : (number place : ℕ) → attributesOf s i c ≡ refusedAs number place → (place ≡ 0) × ((number ≡ noFrame) ⊎ (number ≡ noChannel))
+  attributes-late number place q = by-which (attributes-tested .one)
     where
-      by-which : (attributesOf s i c ≡ Described.Attributes (attributesIn c (frameNumber fs i))) ⊎ ((attributesOf s i c ≡ Described.Refused (refusal noFrame 0)) ⊎ ((attributesOf s i c ≡ Described.Refused (refusal noChannel 0)) ⊎ (attributesOf s i c ≡ Described.Refused (refusal noSample 0)))) → (r ≡ refusal noFrame 0) ⊎ (r ≡ refusal noChannel 0)
+      by-which : (attributesOf s i c ≡ answered (attributesIn c (frameNumber fs i))) ⊎ ((attributesOf s i c ≡ refusedAs noFrame 0) ⊎ ((attributesOf s i c ≡ refusedAs noChannel 0) ⊎ (attributesOf s i c ≡ refusedAs noSample 0))) → (place ≡ 0) × ((number ≡ noFrame) ⊎ (number ≡ noChannel))
       by-which (inl h) = let z : _≡_ {A = ℕ} 0 1 = cc in let w : ⊥ = omega arith in absurd w
-      by-which (inr (inl h)) = inl cc
-      by-which (inr (inr (inl h))) = inr cc
+      by-which (inr (inl h)) = (cc, inl cc)
+      by-which (inr (inr (inl h))) = (cc, inr cc)
       by-which (inr (inr (inr h))) = let z : ⊥ = omega (arith, attributes-tested .third .0 h) in absurd z
 
   pub attributes-answered : AttributesAnswered s fs i c
@@ -209,25 +205,24 @@ module _ (s : List ℕ) (fs : List Frame) (e : verdict s ≡ accepted fs) (i c :
       record {
         frame = t .first;
         channel = t .second;
-        there = λ a. (λ h. let g = t .there (Described.Attributes a) refl .0 h in (g .0, g .1, cc), λ h. t .there (Described.Attributes a) refl .1 (h .0, h .1, omega arith, ap Described.Attributes (h .2)));
+        there = λ a. (λ h. let g = t .there (answered a) refl .0 h in (g .0, g .1, cc), λ h. t .there (answered a) refl .1 (h .0, h .1, omega arith, ap answered (h .2)));
         late = attributes-late;
       }
 
   module _ (n : ℕ) where
-    sample-tested : Tested sampledNumber (sampleOf s i c n) (sampleIn s c n (frameNumber fs i)) (Sampled.Refused (refusal noFrame 0)) (Sampled.Refused (refusal noChannel 0)) (Sampled.Refused (refusal noSample 0)) i (length fs) c (length (frameNumber fs i .channels)) n (samplesOf c (frameNumber fs i))
-    unfolding sampleOf sampledIn sampleIn
+    sample-tested : Tested numberIn (sampleOf s i c n) (answered (sampleIn s c n (frameNumber fs i))) (refusedAs noFrame 0) (refusedAs noChannel 0) (refusedAs noSample 0) i (length fs) c (length (frameNumber fs i .channels)) n (samplesOf c (frameNumber fs i))
+    unfolding sampleOf
     sample-tested =
-        rw (ap (sampledIn s i c n) e) (tested sampledNumber _ _ _ _ (omega arith) i (length fs) c (length (frameNumber fs i .channels)) n (samplesOf c (frameNumber fs i)))
+        rw (ap (askedSample (sampleIn s c n) i c n) e) (tested numberIn _ _ _ _ (omega arith) i (length fs) c (length (frameNumber fs i .channels)) n (samplesOf c (frameNumber fs i)))
 
-    sample-late : (r : Refusal) → sampleOf s i c n ≡ Sampled.Refused r → (r ≡ refusal noFrame 0) ⊎ ((r ≡ refusal noChannel 0) ⊎ (r ≡ refusal noSample 0))
-    unfolding sampleIn
-    sample-late r q = by-which (sample-tested .one)
+    sample-late : (number place : ℕ) → sampleOf s i c n ≡ refusedAs number place → (place ≡ 0) × ((number ≡ noFrame) ⊎ ((number ≡ noChannel) ⊎ (number ≡ noSample)))
+    sample-late number place q = by-which (sample-tested .one)
       where
-        by-which : (sampleOf s i c n ≡ sampleIn s c n (frameNumber fs i)) ⊎ ((sampleOf s i c n ≡ Sampled.Refused (refusal noFrame 0)) ⊎ ((sampleOf s i c n ≡ Sampled.Refused (refusal noChannel 0)) ⊎ (sampleOf s i c n ≡ Sampled.Refused (refusal noSample 0)))) → (r ≡ refusal noFrame 0) ⊎ ((r ≡ refusal noChannel 0) ⊎ (r ≡ refusal noSample 0))
+        by-which : (sampleOf s i c n ≡ answered (sampleIn s c n (frameNumber fs i))) ⊎ ((sampleOf s i c n ≡ refusedAs noFrame 0) ⊎ ((sampleOf s i c n ≡ refusedAs noChannel 0) ⊎ (sampleOf s i c n ≡ refusedAs noSample 0))) → (place ≡ 0) × ((number ≡ noFrame) ⊎ ((number ≡ noChannel) ⊎ (number ≡ noSample)))
         by-which (inl h) = let z : _≡_ {A = ℕ} 0 1 = cc in let w : ⊥ = omega arith in absurd w
-        by-which (inr (inl h)) = inl cc
-        by-which (inr (inr (inl h))) = inr (inl cc)
-        by-which (inr (inr (inr h))) = inr (inr cc)
+        by-which (inr (inl h)) = (cc, inl cc)
+        by-which (inr (inr (inl h))) = (cc, inr (inl cc))
+        by-which (inr (inr (inr h))) = (cc, inr (inr cc))
 
     pub sample-answered : SampleAnswered s fs i c n
     sample-answered =
@@ -236,6 +231,6 @@ module _ (s : List ℕ) (fs : List Frame) (e : verdict s ≡ accepted fs) (i c :
           frame = t .first;
           channel = t .second;
           sample = t .third;
-          there = λ place v. t .there (Sampled.Sample place v) refl;
+          there = λ x. (λ h. let g = t .there (answered x) refl .0 h in (g .0, g .1, g .2, cc), λ h. t .there (answered x) refl .1 (h .0, h .1, h .2, ap answered (h .3)));
           late = sample-late;
         }

@@ -5,7 +5,11 @@ use native.Mathlib.Nat.{mul-le-mul}
 use native.Mathlib.Omega.{arith}
 use lib.Seq.{sets}
 use Rattle.bulk.specs.Walked.{Wide}
+use lib.ListN.{length}
+use Rattle.heads.specs.Answer.{answered, mapAnswer}
+use Rattle.reader.specs.Answer.{placedSays}
 use Rattle.reader.proofs.Answers.{placed-at}
+use Rattle.bulk.proofs.Walks.{length-bits}
 use Rattle.bulk.proofs.Reading.{block-some, rest-low, kind-seen, width-wide, in-blocks, seen-bits, read-samples, read-refused, kept, filled}
 use borrow.Author.Needs.{needs}
 use Rattle.bulk.proofs.samples.Statement.{statement}
@@ -27,7 +31,7 @@ width-requires : tie.Need-width-requires
 width-requires c κs = search needs
 
 rem-r : tie.Need-rem-r
-rem-r c = block-some (placed-at _ _ _ _ (c .before .before .before .before .before .before .place .ensures) (c .before .before .before .before .at .given .1))
+rem-r c = block-some (placed-at _ _ _ _ (ap placedSays (sym (c .before .before .before .before .at .given .1)) ∙ c .before .before .before .before .before .before .place .ensures))
 
 cast-fitting : tie.Need-cast-fitting
 cast-fitting c = search needs
@@ -39,36 +43,38 @@ mul-fitting c =
     omega (arith, mul-le-mul p q)
 
 sub-fitting : tie.Need-sub-fitting
-sub-fitting c = omega (arith, (placed-at _ _ _ _ (c .before .before .before .before .before .before .before .place .ensures) (c .before .before .before .before .before .at .given .1)) .number)
+sub-fitting c = omega (arith, (placed-at _ _ _ _ (ap placedSays (sym (c .before .before .before .before .before .at .given .1)) ∙ c .before .before .before .before .before .before .before .place .ensures)) .number)
 
 fitting-requires : tie.Need-fitting-requires
 fitting-requires c κs = search needs
 
 mul-fill : tie.Need-mul-fill
-mul-fill c = omega (arith, rest-low (placed-at _ _ _ _ (c .before .before .before .before .before .before .before .before .place .ensures) (c .before .before .before .before .before .before .at .given .1)) _ (c .before .before .width .ensures))
+mul-fill c = omega (arith, rest-low (placed-at _ _ _ _ (ap placedSays (sym (c .before .before .before .before .before .before .at .given .1)) ∙ c .before .before .before .before .before .before .before .before .place .ensures)) _ (c .before .before .width .ensures))
 
 sub-fill : tie.Need-sub-fill
-sub-fill c = rest-low (placed-at _ _ _ _ (c .before .before .before .before .before .before .before .before .place .ensures) (c .before .before .before .before .before .before .at .given .1)) _ (c .before .before .width .ensures)
+sub-fill c = rest-low (placed-at _ _ _ _ (ap placedSays (sym (c .before .before .before .before .before .before .at .given .1)) ∙ c .before .before .before .before .before .before .before .before .place .ensures)) _ (c .before .before .width .ensures)
 
 fill-requires : tie.Need-fill-requires
 fill-requires c κs =
-    let m = placed-at _ _ _ _ (c .before .before .before .before .before .before .before .before .before .place .ensures) (c .before .before .before .before .before .before .before .at .given .1) in
+    let m = placed-at _ _ _ _ (ap placedSays (sym (c .before .before .before .before .before .before .before .at .given .1)) ∙ c .before .before .before .before .before .before .before .before .before .place .ensures) in
     let wide = subst Wide (sym (c .before .before .before .width .ensures)) (width-wide _ (kind-seen (m .channelAt) (λ i. c .before .before .before .before .before .before .before .before .before .before .before .shared-slice-known .given i .fits))) in
     (wide, (in-blocks m _ (c .before .before .before .width .ensures) _ (omega (arith, c .before .fitting .ensures)), omega (arith, c .before .fitting .ensures)))
 
 returns : tie.Need-returns
 returns c =
-    let e = read-refused _ _ _ _ _ (c .before .before .before .place .ensures) (c .before .x .given .1) in
-    (e, kept _ _ _ _ _ e)
+    let e = read-refused _ _ _ _ _ (ap placedSays (sym (c .before .x .given .1)) ∙ c .before .before .before .place .ensures) in
+    (ap (mapAnswer length) e, kept _ e)
 
 same-length : tie.Need-same-length
 same-length c = search needs
 
 returns-2 : tie.Need-returns-2
 returns-2 c =
-    let m = placed-at _ _ _ _ (c .before .before .before .before .before .before .before .before .before .before .before .before .place .ensures) (c .before .before .before .before .before .before .before .before .before .before .at .given .1) in
+    let m = placed-at _ _ _ _ (ap placedSays (sym (c .before .before .before .before .before .before .before .before .before .before .at .given .1)) ∙ c .before .before .before .before .before .before .before .before .before .before .before .before .place .ensures) in
     let e = read-samples _ _ _ _ _ m (c .before .before .before .before .fitting .ensures) in
-    (e, filled _ _ _ _ _ e (omega (arith, c .before .before .before .before .fitting .ensures)) (c .before .before .fill .ensures ∙ ap (sets _ 0) (seen-bits m _ (c .before .before .before .before .before .before .width .ensures) _)))
+    let n = length-bits _ _ _ in
+    let stored = c .before .before .fill .ensures ∙ ap (sets _ 0) (seen-bits m _ (c .before .before .before .before .before .before .width .ensures) _) in
+    (ap answered (sym n) ∙ ap (mapAnswer length) e, filled _ e (omega (arith, c .before .before .before .before .fitting .ensures, n)) stored)
 
 pub samples-spec : {M : Type 1} → statement M
 samples-spec =

@@ -1,5 +1,7 @@
 -- By the answer of the question.
-use Rattle.mfer.proofs.Says.{attributes-found, attributes-refuse}
+use mathlib.Core.Path.{sym, ap, _∙_}
+use Rattle.reader.specs.Answer.{describedSays}
+use Rattle.mfer.specs.Answers.{outputs, handedOut, attributesValues, attributesOut}
 use borrow.Author.Needs.{needs}
 use Rattle.mfer.proofs.mfer_attributes.Statement.{statement}
 use Rattle.mfer.proofs.mfer_attributes.Tie as tie
@@ -23,10 +25,12 @@ cast-result : tie.Need-cast-result
 cast-result c = search needs
 
 returns : tie.Need-returns
-returns c = attributes-found _ _ _ (c .before .before .before .before .before .describe .ensures) (c .before .before .before .a .given .1) (c .before .numbers-of .ensures) (c .bits-of .ensures)
+unfolding handedOut
+returns c = (λ i. outputs 0 0 (attributesValues (c .before .numbers-of .ensures i) (c .bits-of .ensures i))) ∙ ap attributesOut (ap describedSays (sym (c .before .before .before .a .given .1)) ∙ c .before .before .before .before .before .describe .ensures)
 
 returns-2 : tie.Need-returns-2
-returns-2 c = attributes-refuse _ _ _ (c .before .before .before .before .before .before .describe .ensures) (c .before .before .before .before .x .given .1)
+unfolding handedOut
+returns-2 c = ap attributesOut (ap describedSays (sym (c .before .before .before .before .x .given .1)) ∙ c .before .before .before .before .before .before .describe .ensures)
 
 pub mfer-attributes-spec : {M : Type 1} → statement M
 mfer-attributes-spec =

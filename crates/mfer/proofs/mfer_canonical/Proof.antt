@@ -1,5 +1,7 @@
 -- By the answer of the writer.
-use Rattle.mfer.proofs.Says.{canonical-written, canonical-refused}
+use mathlib.Core.Path.{sym, ap, _∙_}
+use Rattle.canonical.specs.Write.{writtenSays}
+use Rattle.mfer.specs.Answers.{handedOut, countOut}
 use borrow.Author.Needs.{needs}
 use Rattle.mfer.proofs.mfer_canonical.Statement.{statement}
 use Rattle.mfer.proofs.mfer_canonical.Tie as tie
@@ -20,13 +22,19 @@ same-length : tie.Need-same-length
 same-length c = search needs
 
 returns : tie.Need-returns
-returns c = (canonical-written _ _ (c .before .before .before .before .before .write-canonical .ensures .answers) (c .before .n .given .1), c .before .before .before .before .before .write-canonical .ensures .leaves)
+unfolding handedOut
+returns c =
+    let w = c .before .before .before .before .before .write-canonical .ensures in
+    record { octets = w .octets; answers = ap countOut (ap writtenSays (sym (c .before .n .given .1)) ∙ w .answers); leaves = w .leaves }
 
 same-length-2 : tie.Need-same-length-2
 same-length-2 c = search needs
 
 returns-2 : tie.Need-returns-2
-returns-2 c = (canonical-refused _ _ (c .before .before .before .before .before .before .write-canonical .ensures .answers) (c .before .before .x .given .1), c .before .before .before .before .before .before .write-canonical .ensures .leaves)
+unfolding handedOut
+returns-2 c =
+    let w = c .before .before .before .before .before .before .write-canonical .ensures in
+    record { octets = w .octets; answers = ap countOut (ap writtenSays (sym (c .before .before .x .given .1)) ∙ w .answers); leaves = w .leaves }
 
 pub mfer-canonical-spec : {M : Type 1} → statement M
 mfer-canonical-spec =

@@ -1,5 +1,7 @@
 -- By the answer of the check.
-use Rattle.mfer.proofs.Says.{check-counts, check-refuses}
+use mathlib.Core.Path.{sym, ap, _∙_}
+use Rattle.pass.specs.Verdict.{checkedSays}
+use Rattle.mfer.specs.Answers.{handedOut, countOut}
 use borrow.Author.Needs.{needs}
 use Rattle.mfer.proofs.mfer_check.Statement.{statement}
 use Rattle.mfer.proofs.mfer_check.Tie as tie
@@ -20,10 +22,12 @@ cast-result : tie.Need-cast-result
 cast-result c = search needs
 
 returns : tie.Need-returns
-returns c = check-counts _ (c .before .before .before .check .ensures) (c .before .n .given .1)
+unfolding handedOut
+returns c = ap countOut (ap checkedSays (sym (c .before .n .given .1)) ∙ c .before .before .before .check .ensures)
 
 returns-2 : tie.Need-returns-2
-returns-2 c = check-refuses _ (c .before .before .before .before .check .ensures) (c .before .before .x .given .1)
+unfolding handedOut
+returns-2 c = ap countOut (ap checkedSays (sym (c .before .before .x .given .1)) ∙ c .before .before .before .before .check .ensures)
 
 pub mfer-check-spec : {M : Type 1} → statement M
 mfer-check-spec =

@@ -1,5 +1,6 @@
 -- By the place that was found; the bits and the value are those of the octets there.
-use mathlib.Core.Path.{_∙_}
+use mathlib.Core.Path.{sym, ap, _∙_}
+use Rattle.reader.specs.Answer.{placedSays}
 use mir.Syntax.{w64}
 use mir.Val.{SFits}
 use mir.Facts.{toZ-ofZ}
@@ -42,10 +43,10 @@ in64 : (c : tie.After-number) → SFits w64 (c .before .whole-of .result)
 in64 c = search needs
 
 returns : tie.Need-returns
-returns c = sample-found _ _ _ _ (c .before .before .before .before .before .before .before .before .before .before .before .place .ensures) (c .before .before .before .before .before .before .before .before .before .at .given .1) (c .before .before .before .before .before .width .ensures) (c .before .before .before .before .part .ensures) (c .before .before .before .sample-value .ensures) (c .before .before .kind-of .ensures) (toZ-ofZ (in64 c) ∙ c .before .whole-of .ensures) (c .number .ensures)
+returns c = sample-found _ _ _ _ (ap placedSays (sym (c .before .before .before .before .before .before .before .before .before .at .given .1)) ∙ c .before .before .before .before .before .before .before .before .before .before .before .place .ensures) (c .before .before .before .before .before .width .ensures) (c .before .before .before .before .part .ensures) (c .before .before .before .sample-value .ensures) (c .before .before .kind-of .ensures) (toZ-ofZ (in64 c) ∙ c .before .whole-of .ensures) (c .number .ensures)
 
 returns-2 : tie.Need-returns-2
-returns-2 c = sample-refuses _ _ _ _ (c .before .before .before .before .place .ensures) (c .before .before .x .given .1)
+returns-2 c = sample-refuses _ _ _ _ (ap placedSays (sym (c .before .before .x .given .1)) ∙ c .before .before .before .before .place .ensures)
 
 pub mfer-sample-spec : {M : Type 1} → statement M
 mfer-sample-spec =

@@ -1,5 +1,7 @@
 -- By the answer of the reading.
-use Rattle.mfer.proofs.Says.{samples-read, samples-refuse}
+use mathlib.Core.Path.{sym, ap, _∙_}
+use Rattle.bulk.specs.Samples.{readSays}
+use Rattle.mfer.specs.Answers.{handedOut, countOut}
 use borrow.Author.Needs.{needs}
 use Rattle.mfer.proofs.mfer_samples.Statement.{statement}
 use Rattle.mfer.proofs.mfer_samples.Tie as tie
@@ -20,13 +22,15 @@ same-length : tie.Need-same-length
 same-length c = search needs
 
 returns : tie.Need-returns
-returns c = (samples-read _ _ _ _ _ (c .before .before .before .before .before .samples .ensures .0) (c .before .n .given .1), c .before .before .before .before .before .samples .ensures .1)
+unfolding handedOut
+returns c = (ap countOut (ap readSays (sym (c .before .n .given .1)) ∙ c .before .before .before .before .before .samples .ensures .0), c .before .before .before .before .before .samples .ensures .1)
 
 same-length-2 : tie.Need-same-length-2
 same-length-2 c = search needs
 
 returns-2 : tie.Need-returns-2
-returns-2 c = (samples-refuse _ _ _ _ _ (c .before .before .before .before .before .before .samples .ensures .0) (c .before .before .x .given .1), c .before .before .before .before .before .before .samples .ensures .1)
+unfolding handedOut
+returns-2 c = (ap countOut (ap readSays (sym (c .before .before .x .given .1)) ∙ c .before .before .before .before .before .before .samples .ensures .0), c .before .before .before .before .before .before .samples .ensures .1)
 
 pub mfer-samples-spec : {M : Type 1} → statement M
 mfer-samples-spec =

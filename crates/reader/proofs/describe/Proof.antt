@@ -1,7 +1,8 @@
 -- By the answer of the look-up.
-use mathlib.Core.Path.{ap, _∙_}
-use Rattle.reader.specs.declared.Described.{Described}
-use Rattle.reader.proofs.Answers.{located, described-found, described-refused}
+use mathlib.Core.Path.{sym, ap, _∙_}
+use Rattle.heads.specs.Answer.{answered, mapAnswer}
+use Rattle.reader.specs.Answer.{lookedUpSays, attributesSeen}
+use Rattle.reader.proofs.Answers.{described-is}
 use borrow.Author.Needs.{needs}
 use Rattle.reader.proofs.describe.Statement.{statement}
 use Rattle.reader.proofs.describe.Tie as tie
@@ -19,10 +20,14 @@ enum-known-x : tie.Need-enum-known-x
 enum-known-x c = search needs
 
 returns : tie.Need-returns
-returns c = ap Described.Attributes (c .attributes-seen .ensures) ∙ described-found _ _ _ _ (located _ _ _ _ (c .before .before .before .before .look-up .ensures) (c .before .before .v .given .1))
+returns c =
+    let seen = ap lookedUpSays (sym (c .before .before .v .given .1)) ∙ c .before .before .before .before .look-up .ensures in
+    ap answered (c .attributes-seen .ensures) ∙ ap (mapAnswer attributesSeen) seen ∙ described-is _ _ _
 
 returns-2 : tie.Need-returns-2
-returns-2 c = described-refused _ _ _ _ (c .before .before .before .look-up .ensures) (c .before .x .given .1)
+returns-2 c =
+    let seen = ap lookedUpSays (sym (c .before .x .given .1)) ∙ c .before .before .before .look-up .ensures in
+    ap (mapAnswer attributesSeen) seen ∙ described-is _ _ _
 
 pub describe-spec : {M : Type 1} → statement M
 describe-spec =
