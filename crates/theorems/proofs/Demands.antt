@@ -15,13 +15,14 @@ use Rattle.items.specs.Walk.{itemsOf}
 use Rattle.layout.specs.Frame.{Frame}
 use Rattle.standing.specs.Standing.{octetsLimit}
 use Rattle.pass.specs.Verdict.{firstState, accepted, refused, interpret, verdict, checkOf}
-use Rattle.reader.specs.Answer.{attributesIn, attributesOf}
+use Rattle.reader.specs.Answer.{attributesIn, attributesOf, sampleIn, sampleOf}
 use Rattle.canonical.specs.Canonical.{canonical}
 use Rattle.canonical.specs.Write.{writtenOf, leftOf}
 use Rattle.reader.proofs.Ordered.{endOf}
-use Rattle.theorems.proofs.Questions.{frameNumber, AnsweredBy, AttributesAnswered, SampleAnswered, check-accepted, accepted-or-refused, limit-exactly, limit-place, limit-passed, refused-answers, attributes-answered, sample-answered}
+use Rattle.theorems.proofs.Questions.{frameNumber, ByChannel, BySample, check-accepted, accepted-or-refused, limit-exactly, limit-place, limit-passed, attributes-answered, sample-answered}
 use Rattle.theorems.proofs.Places.{Name, Exists, NamedSample, Belongs, InWaveform, Owned, sample-exists, sample-inside, samples-apart, octet-owned}
 use Rattle.theorems.proofs.Waveforms.{PartOfFile, waveform-part, waveforms-apart}
+use Rattle.theorems.proofs.EntryPoints.{AnsweredBy, refused-answers}
 use Rattle.theorems.proofs.Canonical.{recordingOf, AllOctets, Writes, ReadAgain, writes, refusal-leaves, written-file, written-again, same-written}
 
 -- ---- demand 1
@@ -40,8 +41,8 @@ pub record DemandOne (s : List ℕ) : Type 0 where
   -- On a refused file every question and the writer answer its refusal.
   pub refusedFile : (r : Refusal) → verdict s ≡ refused r → AnsweredBy s r
   -- On an accepted file 20, 21, 22 and 23 are answered at place 0, each exactly when its condition holds and none ahead of it does.
-  pub attributes : (fs : List Frame) → verdict s ≡ accepted fs → (i c : ℕ) → AttributesAnswered s fs i c
-  pub sample : (fs : List Frame) → verdict s ≡ accepted fs → (i c n : ℕ) → SampleAnswered s fs i c n
+  pub attributes : (fs : List Frame) → verdict s ≡ accepted fs → (i c : ℕ) → ByChannel (attributesOf s i c) (attributesIn c) fs i c
+  pub sample : (fs : List Frame) → verdict s ≡ accepted fs → (i c n : ℕ) → BySample (sampleOf s i c n) (sampleIn s c n) fs i c n
   pub written : (fs : List Frame) → verdict s ≡ accepted fs → (d : List ℕ) → Writes s d fs
   -- A refusal changes no octet of the buffer.
   pub left : (d : List ℕ) (number place : ℕ) → writtenOf s d ≡ refusedAs number place → leftOf s d ≡ d
