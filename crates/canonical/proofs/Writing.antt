@@ -71,7 +71,7 @@ use Rattle.frames.specs.Parts.{samplesTurned, frameParts, frameGiven}
 use Rattle.frames.proofs.Given.{frame-put}
 use Rattle.canonical.specs.Recording.{Recorded, recordedFrame, recording}
 use Rattle.canonical.specs.Canonical.{waveformOf, frameOctets, framesOctets, canonical}
-use Rattle.canonical.specs.Write.{framesIn, canonicalOf, fits, outputIn, writtenOf, leftOf, Ready}
+use Rattle.canonical.specs.Write.{framesIn, canonicalOf, fits, outputIn, writtenOf, leftOf, Ready, Wrote}
 use Rattle.heads.specs.Answer.{Answer, answered, refusedAs, refusedBy, mapAnswer, leftBy}
 use Rattle.canonical.proofs.Octets.{waveform-big, waveform-little, frames-long, canonical-long, canonical-none, octets-reported}
 use Rattle.canonical.proofs.Recordings.{waveform-long}
@@ -479,3 +479,7 @@ module _ (s d : List ℕ) (q : Asked) (r : Scan) (e : r ≡ scanOf q s) where
           let b : fits c d ≡ true = simp (long-is, le-leb (r .size + 3) (length d) m, le-leb (r .size + 3) octetsLimit l) in
           let t = told-taken (answered c) (rw b) in
           (ap answered (p .next ∙ zero-add (length c)) ∙ t .0, p .stored ∙ sets-front c d (omega (arith, long-is)) ∙ t .1)
+
+-- The answer and the buffer, of a file whose octets the slice's rule gives.
+pub promised : {s d e : List ℕ} {a : Answer ℕ} → ((i : ℕ) → getD s i 0 < 256) → (a ≡ writtenOf s d) × (e ≡ leftOf s d) → Wrote s d a e
+promised octets p = record { octets = λ i h. octets i; answers = p .0; leaves = p .1 }

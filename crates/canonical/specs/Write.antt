@@ -8,6 +8,7 @@ use lib.ListN.{length}
 use Rattle.octets.specs.Pick.{pick, both}
 use Rattle.heads.specs.Refusals.{noRoom}
 use Rattle.heads.specs.Answer.{Answer, answered, refusedAs, refusedBy, mapAnswer, leftBy}
+use Rattle.stores.specs.Number.{Octets}
 use Rattle.layout.specs.Frame.{Frame}
 use Rattle.standing.specs.Standing.{octetsLimit}
 use Rattle.pass.specs.Scan.{sizes}
@@ -48,6 +49,12 @@ writtenOf s buffer = mapAnswer length (outputIn buffer (verdict s))
 -- The buffer afterwards: a refusal changes no octet of it; on success the canonical file stands at its start, and octets past it keep what they held.
 unfoldable pub leftOf : List ℕ → List ℕ → List ℕ
 leftOf s buffer = leftBy (outputIn buffer (verdict s)) buffer
+
+-- A call of the writer: the file s and what the buffer held, and then the answer and the buffer as the call leaves it. A file is octets.
+pub record Wrote (s buffer : List ℕ) (answer : Answer ℕ) (left : List ℕ) : Type 0 where
+  pub octets : Octets s
+  pub answers : answer ≡ writtenOf s buffer
+  pub leaves : left ≡ leftOf s buffer
 
 -- A file that is accepted and has frames, and a buffer that its canonical file fits into.
 pub record Ready (s buffer : List ℕ) : Type 0 where

@@ -6,12 +6,11 @@
 // Read first: specs/Recording.antt (what a recording is), specs/Canonical.antt (its octets; a frame's head and groups are in crate groups),
 // specs/Write.antt (the writer's answer).
 // Refusal comes first: the size is known from one pass over the file before the first octet is stored. A frame is stored by crate frames.
-ghost use mathlib.Core.Path.{_≡_};
 ghost use mathlib.Core.List.{_∷_, []};
 ghost use Prim.Native.Nat.{_≤_};
 ghost use lib.ListN.{length};
 ghost use Rattle.stores.specs.Storing.{Put};
-ghost use Rattle.canonical.specs.Write.{canonicalOf, Ready, writtenSays, writtenOf, leftOf};
+ghost use Rattle.canonical.specs.Write.{canonicalOf, Ready, writtenSays, Wrote};
 use effects::Effect;
 use framing::Framed;
 use heads::Refusal;
@@ -119,7 +118,7 @@ fn write_frames(s: &[u8], out: &mut [u8]) -> usize
 
 // Writes the canonical file of a file into the front of a buffer.
 pub fn write_canonical(s: &[u8], out: &mut [u8]) -> Written
-    ensures { λ r. ⌜ (writtenSays r ≡ writtenOf (now (s .entry)) (now (out .entry))) × (now (out .exit) ≡ leftOf (now (s .entry)) (now (out .entry))) ⌝ }
+    ensures { λ r. ⌜ Wrote (now (s .entry)) (now (out .entry)) (writtenSays r) (now (out .exit)) ⌝ }
 {
     let pass = pass::scan_file(
         s,

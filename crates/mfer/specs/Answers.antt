@@ -1,5 +1,6 @@
 -- What the exported functions hand out: a refusal's number as the result, 0 where there is none, and every output set in every case. At a
 -- refusal `place` is the refusal's, and every other output is 0.
+use mathlib.Core.Path.{_≡_}
 use mathlib.Core.List.{List, [], _∷_}
 use Prim.Native.Nat.{ℕ}
 use lib.IntN.{ℤ, pos}
@@ -8,8 +9,10 @@ use Rattle.values.specs.declared.Value.{Value}
 use Rattle.values.specs.declared.Value.the-variants.{Whole, Status, Single, Double, NotNumber, Null}
 use Rattle.values.specs.Sample.{kindOf}
 use Rattle.heads.specs.Answer.{Answer, answered, refusedAs}
+use Rattle.stores.specs.Number.{Octets}
 use Rattle.reader.specs.declared.Attributes.{Attributes}
 use Rattle.reader.specs.Answer.{FoundSample}
+use Rattle.canonical.specs.Write.{writtenOf, leftOf}
 
 -- The result, the place in the file, and the other outputs.
 pub record Outputs (A : Type 0) : Type 0 where
@@ -30,6 +33,12 @@ handedOut place values zeros (refusedAs number at) = outputs number at zeros
 -- A count, and no place.
 abbrev pub countOut : Answer ℕ → Outputs ℕ
 countOut a = handedOut (λ n. 0) (λ n. n) 0 a
+
+-- A call of mfer_canonical: the file s and what the buffer held, and then what is handed out and the buffer as the call leaves it. A file is octets.
+pub record CanonicalOut (s buffer : List ℕ) (out : Outputs ℕ) (left : List ℕ) : Type 0 where
+  pub octets : Octets s
+  pub answers : out ≡ countOut (writtenOf s buffer)
+  pub leaves : left ≡ leftOf s buffer
 
 -- ---- mfer_attributes
 

@@ -9,8 +9,7 @@ ghost use Rattle.heads.specs.Answer.{mapAnswer, leftBy};
 ghost use Rattle.pass.specs.Verdict.{checkOf};
 ghost use Rattle.reader.specs.Answer.{attributesOf, sampleOf};
 ghost use Rattle.bulk.specs.Samples.{bitsOf, readOf};
-ghost use Rattle.canonical.specs.Write.{writtenOf, leftOf};
-ghost use Rattle.mfer.specs.Answers.{outputs, countOut, numbersOf, bitPairOf, attributesValues, attributesOut, wholeOf, sampleValues, sampleOut};
+ghost use Rattle.mfer.specs.Answers.{outputs, countOut, CanonicalOut, numbersOf, bitPairOf, attributesValues, attributesOut, wholeOf, sampleValues, sampleOut};
 ghost use lib.ListN.{length};
 use bulk::Read;
 use canonical::Written;
@@ -208,8 +207,7 @@ pub extern "C" fn mfer_canonical(
     written: &mut u64,
     place: &mut u64,
 ) -> u32
-    ensures { λ r. ⌜ outputs r (now (place .exit)) (now (written .exit)) ≡ countOut (writtenOf (now (file .entry)) (now (out .entry))) ⌝ }
-    ensures { λ _. ⌜ now (out .exit) ≡ leftOf (now (file .entry)) (now (out .entry)) ⌝ }
+    ensures { λ r. ⌜ CanonicalOut (now (file .entry)) (now (out .entry)) (outputs r (now (place .exit)) (now (written .exit))) (now (out .exit)) ⌝ }
 {
     match canonical::write_canonical(file, out) {
         Written::Octets(n) => {

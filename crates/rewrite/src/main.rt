@@ -7,6 +7,7 @@ use heads::Refusal;
 use libc::STDERR_FILENO;
 use libc::STDIN_FILENO;
 use libc::STDOUT_FILENO;
+use pass::Checked;
 
 // The octets of a file at most.
 const LIMIT: usize = 60_000;
@@ -18,12 +19,14 @@ fn say_octets(out: &[u8], n: usize) {
     io::write_all(STDOUT_FILENO, octets::part(out, 0, n));
 }
 
+fn say_line(line: &[u8; 64], n: usize) {
+    say_octets(line, n);
+}
+
 fn say_refused(x: Refusal) {
-    io::write_all(STDOUT_FILENO, b"refused ");
-    io::print_decimal(STDOUT_FILENO, x.number as u64);
-    io::write_all(STDOUT_FILENO, b" at ");
-    io::print_decimal(STDOUT_FILENO, x.place as u64);
-    io::write_all(STDOUT_FILENO, b"\n");
+    let mut line = [0u8; 64];
+    let k = line::put_line(Checked::Refused(x), &mut line);
+    say_line(&line, k);
 }
 
 // One octet more than the limit is read, to see that a file is longer.

@@ -2,7 +2,9 @@
 use mathlib.Core.Path.{_≡_, refl}
 use mathlib.Core.List.{List, [], _∷_, map}
 use Prim.Native.Nat.{ℕ}
+use Prim.Native.String.{String}
 use lib.IntN.{pos, negsuc}
+use lib.ListN.{length}
 use Rattle.octets.specs.Number.{bigFrom, littleOf, numberOf, twos, signedOf}
 use Rattle.values.specs.declared.Value.{Value}
 use Rattle.values.specs.declared.Value.the-variants.{Whole}
@@ -12,15 +14,16 @@ use Rattle.heads.specs.Answer.{Answer, answered, refusedAs}
 use Rattle.heads.specs.Head.{channelOf, lengthOf, unknownContext, rootOnly, primitiveHead, groupLength, groupHead, headOf}
 use Rattle.items.specs.Walk.{Items, item, finished, fault, itemOf, nextIn, nextOf, follow, walk, itemsFrom, itemsOf}
 use Rattle.definitions.specs.Define.{tagged, scaleOf, defined}
+use Rattle.settings.specs.declared.Settings.{Settings}
 use Rattle.settings.specs.Settings.{allApplied}
-use Rattle.layout.specs.Frame.{offsetBits, blockOctets, sequenceOctets, octetsBelow, widthAgrees, channelAgrees, allAgree, samplesOf, offsetOf, placeOf, reported}
+use Rattle.layout.specs.Frame.{channelIn, offsetBits, blockOctets, sequenceOctets, octetsBelow, widthAgrees, channelAgrees, allAgree, samplesOf, offsetOf, placeOf, reported}
 use Rattle.stores.specs.Number.{be}
 use Rattle.stores.specs.Length.{holding, shortest}
 use Rattle.laid.specs.Laid.{block, sequence, laidFrom, laid}
 use Rattle.reader.specs.declared.Attributes.{Attributes}
 use Rattle.framing.specs.Framing.{channelsOf, sequencesOf, pointerFits, pointerAfter, framedAs}
 use Rattle.effects.specs.Effects.{orderEffect, countEffect, sequencesEffect, startEffect, compressedEffect, allEffect, oneEffect, rootEffect, plainEffect, memberEffect, groupEffect, effectOf}
-use Rattle.pass.specs.Verdict.{oneChanged, withFrame, carried, placeAt, afterItem, interpret, verdict, checkedAs, checkOf}
+use Rattle.pass.specs.Verdict.{State, firstState, Outcome, goes, refuses, oneChanged, withFrame, carried, placeAt, afterItem, interpret, verdict, checkedAs, checkOf}
 use Rattle.reader.specs.Answer.{FoundSample, foundSample, attributesIn, attributesOf, sampleIn, sampleOf}
 use Rattle.groups.specs.Item.{item as itemOctets, numberItem, unsignedOf}
 use Rattle.groups.specs.Head.{sequencesItem, headItems}
@@ -28,6 +31,7 @@ use Rattle.groups.specs.Group.{channelOctets, scaleItem, nullItem, groupItems, 
 use Rattle.canonical.specs.Recording.{sampleBits, tabulate, recordedFrame, recording}
 use Rattle.canonical.specs.Canonical.{waveformOf, frameOctets, framesOctets, canonical}
 use Rattle.canonical.specs.Write.{framesIn, canonicalOf}
+use Rattle.line.specs.Line.{decimalIn, decimalOf, ascii, lineOf}
 
 -- ---- what is said of a file
 
@@ -40,30 +44,54 @@ named (item (Item.Mark place) more) = named more
 named finished = []
 named (fault r) = []
 
--- A question and its answer: the channels that groups name; the attributes by frame and channel; a sample by frame, channel and number; the
--- canonical file.
+-- What an item leads to; a refused one changes nothing.
+abbrev pub ledTo : State → Outcome → State
+ledTo x (goes y) = y
+ledTo x (refuses number) = x
+
+-- What stands after items that are carried out one after another.
+unfoldable pub standsAfter : List ℕ → State → Items → State
+standsAfter s x (item i more) = standsAfter s (ledTo x (carried s x (effectOf s (x .standing) i))) more
+standsAfter s x finished = x
+standsAfter s x (fault r) = x
+
+-- A channel's record at the end of a file.
+abbrev pub recordAtEnd : List ℕ → ℕ → Settings
+recordAtEnd s channel = channelIn channel (standsAfter s firstState (itemsOf s) .channels)
+
+-- A question and its answer: the channels that groups name; a channel's record at the file's end; the attributes by frame and channel; a
+-- sample by frame, channel and number; the canonical file, its length first.
 pub data Fact : Type 0 where
   groups : List ℕ → Fact
+  settings : ℕ → Settings → Fact
   attributes : ℕ → ℕ → Answer Attributes → Fact
   sample : ℕ → ℕ → ℕ → Answer FoundSample → Fact
-  rewritten : List ℕ → Fact
+  rewritten : ℕ → List ℕ → Fact
 
--- A file, the answer of the check, and what else is said of it.
+-- A file, the answer of the check, the line that the program writes, and what else is said of it.
 pub record Case : Type 0 where
   pub input : List ℕ
   pub checked : Answer ℕ
+  pub line : List ℕ
   pub facts : List Fact
 
 -- The question with the answer that the definitions give for the file s.
 abbrev pub factOf : List ℕ → Fact → Fact
 factOf s (groups x) = groups (named (itemsOf s))
+factOf s (settings channel x) = settings channel (recordAtEnd s channel)
 factOf s (attributes frame channel x) = attributes frame channel (attributesOf s frame channel)
 factOf s (sample frame channel n x) = sample frame channel n (sampleOf s frame channel n)
-factOf s (rewritten x) = rewritten (canonicalOf s)
+factOf s (rewritten n x) = rewritten (length (canonicalOf s)) (canonicalOf s)
 
 -- The file with the answers that the definitions give.
 abbrev pub caseOf : Case → Case
-caseOf c = record { input = c .input; checked = checkOf (c .input); facts = map (factOf (c .input)) (c .facts) }
+caseOf c =
+    record {
+      input = c .input;
+      checked = checkOf (c .input);
+      line = lineOf (checkOf (c .input));
+      facts = map (factOf (c .input)) (c .facts);
+    }
 
 -- A table with the answers that the definitions give; it unfolds all of them.
 unfoldable pub computed : List Case → List Case
@@ -80,14 +108,14 @@ unfolding bigFrom littleOf numberOf twos signedOf widthOf plainOf isNull valueOf
     be holding shortest block sequence laidFrom laid
     itemOctets numberItem unsignedOf channelOctets scaleItem nullItem groupItems groupOctets groupsOctets
     sequencesItem headItems waveformOf frameOctets framesOctets canonical
-    named framesIn canonicalOf
+    named standsAfter framesIn canonicalOf decimalIn decimalOf lineOf
 computed cs = map caseOf cs
 
 -- ---- the files
 
--- A refused file: the number and the place of the refusal.
-abbrev refusedAt : List ℕ → ℕ → ℕ → Case
-refusedAt s number place = record { input = s; checked = refusedAs number place; facts = [] }
+-- A refused file: the number and the place of the refusal, and the line.
+abbrev refusedAt : List ℕ → ℕ → ℕ → String → Case
+refusedAt s number place line = record { input = s; checked = refusedAs number place; line = ascii line; facts = [] }
 
 -- The attributes of a channel by the frame's channels and sequences and by its data type and sample width; all else is as by default.
 abbrev typed : ℕ → ℕ → ℕ → ℕ → Answer Attributes
@@ -109,6 +137,20 @@ typed channels sequences kind width =
 -- A sample at a place.
 abbrev at : ℕ → Value → Answer FoundSample
 at place value = answered (foundSample place value)
+
+-- The settings of a channel by its data type; all else is as by default.
+abbrev settingsBy : ℕ → Settings
+settingsBy kind =
+    record {
+      block = 1;
+      class = 0;
+      lead = 0;
+      kind = kind;
+      interval = record { unit = 0; exponent = pos 0; mantissa = pos 1000 };
+      resolution = record { unit = 0; exponent = negsuc 5; mantissa = pos 1 };
+      offset = record { width = 0; bits = 0 };
+      null = record { width = 0; bits = 0 };
+    }
 
 -- P2's canonical file, 113 octets.
 abbrev pub canonical2 : List ℕ
@@ -133,7 +175,8 @@ cases =
     record {
       input = [];
       checked = answered 0;
-      facts = rewritten [] ∷ [];
+      line = ascii "frames 0\n";
+      facts = rewritten 0 [] ∷ [];
     }
     -- P2
     ∷ record {
@@ -141,23 +184,26 @@ cases =
           0x01 ∷ 0x01 ∷ 0x01 ∷ 0x04 ∷ 0x01 ∷ 0x02 ∷ 0x05 ∷ 0x01 ∷ 0x02 ∷ 0x3F ∷ 0x01 ∷ 0x03 ∷ 0x04 ∷ 0x01 ∷ 0x01
           ∷ 0x1E ∷ 0x06 ∷ 0x01 ∷ 0x00 ∷ 0x02 ∷ 0x00 ∷ 0xFF ∷ 0xFF ∷ [];
       checked = answered 1;
+      line = ascii "frames 1\n";
       facts =
           sample 0 0 0 (at 17 (Whole (pos 1)))
           ∷ sample 0 0 1 (at 19 (Whole (pos 2)))
           ∷ sample 0 1 0 (at 21 (Whole (negsuc 0)))
-          ∷ rewritten canonical2
+          ∷ rewritten 113 canonical2
           ∷ [];
     }
     -- P3
     ∷ record {
       input = 0x1E ∷ 0x00 ∷ [];
       checked = answered 1;
+      line = ascii "frames 1\n";
       facts = attributes 0 0 (typed 1 0 0 2) ∷ [];
     }
     -- P4
     ∷ record {
       input = 0x05 ∷ 0x01 ∷ 0x02 ∷ 0x3F ∷ 0x00 ∷ 0x03 ∷ 0x0A ∷ 0x01 ∷ 0x03 ∷ 0x0A ∷ 0x01 ∷ 0x05 ∷ 0x1E ∷ 0x02 ∷ 0x07 ∷ 0x08 ∷ [];
       checked = answered 1;
+      line = ascii "frames 1\n";
       facts =
           attributes 0 0 (typed 2 1 5 1)
           ∷ attributes 0 1 (typed 2 1 5 1)
@@ -169,6 +215,7 @@ cases =
     ∷ record {
       input = 0x3F ∷ 0x00 ∷ 0x03 ∷ 0x0A ∷ 0x01 ∷ 0x03 ∷ 0x1E ∷ 0x02 ∷ 0x00 ∷ 0x09 ∷ [];
       checked = answered 1;
+      line = ascii "frames 1\n";
       facts =
           attributes 0 0 (typed 1 1 0 2)
           ∷ sample 0 0 0 (at 8 (Whole (pos 9)))
@@ -176,20 +223,21 @@ cases =
           ∷ [];
     }
     -- P6
-    ∷ refusedAt (0x05 ∷ 0x01 ∷ 0x02 ∷ 0x3F ∷ 0x02 ∷ 0x00 ∷ []) 8 3
+    ∷ refusedAt (0x05 ∷ 0x01 ∷ 0x02 ∷ 0x3F ∷ 0x02 ∷ 0x00 ∷ []) 8 3 "refused 8 at 3\n"
     -- P7
-    ∷ refusedAt (0x0A ∷ 0x80 ∷ []) 2 0
+    ∷ refusedAt (0x0A ∷ 0x80 ∷ []) 2 0 "refused 2 at 0\n"
     -- P8
-    ∷ refusedAt (0x3F ∷ 0x00 ∷ 0x80 ∷ []) 10 0
+    ∷ refusedAt (0x3F ∷ 0x00 ∷ 0x80 ∷ []) 10 0 "refused 10 at 0\n"
     -- P9
-    ∷ refusedAt (0x06 ∷ 0x01 ∷ 0x02 ∷ 0x1E ∷ 0x02 ∷ 0x00 ∷ 0x05 ∷ []) 14 3
+    ∷ refusedAt (0x06 ∷ 0x01 ∷ 0x02 ∷ 0x1E ∷ 0x02 ∷ 0x00 ∷ 0x05 ∷ []) 14 3 "refused 14 at 3\n"
     -- P10
-    ∷ refusedAt (0x0D ∷ 0x01 ∷ 0x01 ∷ 0x1E ∷ 0x02 ∷ 0x00 ∷ 0x05 ∷ []) 12 3
+    ∷ refusedAt (0x0D ∷ 0x01 ∷ 0x01 ∷ 0x1E ∷ 0x02 ∷ 0x00 ∷ 0x05 ∷ []) 12 3 "refused 12 at 3\n"
     -- P11
     ∷ record {
       input = 0x05 ∷ 0x02 ∷ 0x01 ∷ 0x00 ∷ 0x3F ∷ 0x81 ∷ 0x7F ∷ 0x03 ∷ 0x0A ∷ 0x01 ∷ 0x03 ∷ [];
       checked = answered 0;
-      facts = groups (255 ∷ []) ∷ [];
+      line = ascii "frames 0\n";
+      facts = groups (255 ∷ []) ∷ settings 255 (settingsBy 3) ∷ [];
     }
     ∷ []
 

@@ -32,7 +32,8 @@ use Rattle.canonical.specs.Canonical.{canonical}
 use Rattle.canonical.specs.Write.{fits, outputIn, writtenOf, leftOf}
 use Rattle.canonical.proofs.ReadBack.{Reads, read-back}
 use Rattle.canonical.proofs.Accepted.{accepted-recorded}
-use Rattle.theorems.proofs.Questions.{check-accepted, refused-answers}
+use Rattle.theorems.proofs.Questions.{check-accepted}
+use Rattle.theorems.proofs.EntryPoints.{refused-answers}
 
 -- The recording that a verdict gives; a refused file has none.
 unfoldable pub recordingIn : Verdict → List Recorded

@@ -15,11 +15,14 @@ use Rattle.items.specs.Walk.{itemsOf}
 use Rattle.layout.specs.Frame.{Frame}
 use Rattle.standing.specs.Standing.{octetsLimit}
 use Rattle.pass.specs.Verdict.{firstState, accepted, refused, interpret, verdict, checkOf}
-use Rattle.reader.specs.Answer.{attributesIn, attributesOf}
+use Rattle.reader.specs.Answer.{attributesIn, attributesOf, sampleIn, sampleOf}
 use Rattle.canonical.specs.Canonical.{canonical}
 use Rattle.canonical.specs.Write.{writtenOf, leftOf}
-use Rattle.theorems.proofs.Questions.{frameAt, AnsweredBy, AttributesAnswered, SampleAnswered, check-accepted, accepted-or-refused, limit-exactly, limit-place, limit-passed, refused-answers, attributes-answered, sample-answered}
-use Rattle.theorems.proofs.Places.{Name, Exists, NamedSample, Belongs, Inside, Owned, sample-exists, sample-inside, samples-apart, octet-owned}
+use Rattle.reader.proofs.Ordered.{endOf}
+use Rattle.theorems.proofs.Questions.{frameNumber, ByChannel, BySample, check-accepted, accepted-or-refused, limit-exactly, limit-place, limit-passed, attributes-answered, sample-answered}
+use Rattle.theorems.proofs.Places.{Name, Exists, NamedSample, Belongs, InWaveform, Owned, sample-exists, sample-inside, samples-apart, octet-owned}
+use Rattle.theorems.proofs.Waveforms.{PartOfFile, waveform-part, waveforms-apart}
+use Rattle.theorems.proofs.EntryPoints.{AnsweredBy, refused-answers}
 use Rattle.theorems.proofs.Canonical.{recordingOf, AllOctets, Writes, ReadAgain, writes, refusal-leaves, written-file, written-again, same-written}
 
 -- ---- demand 1
@@ -38,8 +41,8 @@ pub record DemandOne (s : List ℕ) : Type 0 where
   -- On a refused file every question and the writer answer its refusal.
   pub refusedFile : (r : Refusal) → verdict s ≡ refused r → AnsweredBy s r
   -- On an accepted file 20, 21, 22 and 23 are answered at place 0, each exactly when its condition holds and none ahead of it does.
-  pub attributes : (fs : List Frame) → verdict s ≡ accepted fs → (i c : ℕ) → AttributesAnswered s fs i c
-  pub sample : (fs : List Frame) → verdict s ≡ accepted fs → (i c n : ℕ) → SampleAnswered s fs i c n
+  pub attributes : (fs : List Frame) → verdict s ≡ accepted fs → (i c : ℕ) → ByChannel (attributesOf s i c) (attributesIn c) fs i c
+  pub sample : (fs : List Frame) → verdict s ≡ accepted fs → (i c n : ℕ) → BySample (sampleOf s i c n) (sampleIn s c n) fs i c n
   pub written : (fs : List Frame) → verdict s ≡ accepted fs → (d : List ℕ) → Writes s d fs
   -- A refusal changes no octet of the buffer.
   pub left : (d : List ℕ) (number place : ℕ) → writtenOf s d ≡ refusedAs number place → leftOf s d ≡ d
@@ -66,8 +69,8 @@ pub record DemandTwo (s : List ℕ) : Type 0 where
   -- The check counts the frames of the verdict.
   pub count : (n : ℕ) → (checkOf s ≡ answered n) ↔ ((fs : List Frame) × (verdict s ≡ accepted fs) × (length fs ≡ n))
   -- The attributes, the start pointer among them, and the place and value of a sample are those of its frame.
-  pub attributes : (fs : List Frame) → verdict s ≡ accepted fs → (i c : ℕ) → i < length fs → c < length (frameAt fs i .channels) → attributesOf s i c ≡ answered (attributesIn c (frameAt fs i))
-  pub sample : (fs : List Frame) → verdict s ≡ accepted fs → (a : NamedSample s) → Inside s fs a
+  pub attributes : (fs : List Frame) → verdict s ≡ accepted fs → (i c : ℕ) → i < length fs → c < length (frameNumber fs i .channels) → attributesOf s i c ≡ answered (attributesIn c (frameNumber fs i))
+  pub sample : (fs : List Frame) → verdict s ≡ accepted fs → (a : NamedSample s) → InWaveform s fs a
   -- The canonical file stands at the start of the buffer, and octets past it keep what they held.
   pub written : (d : List ℕ) (m : ℕ) → writtenOf s d ≡ answered m → (take m (leftOf s d) ≡ canonical (recordingOf s)) × (drop m (leftOf s d) ≡ drop m d)
   -- Read, it has as many frames and holds the same recording; written out again, it is as the first file.
@@ -86,15 +89,18 @@ demand-two s =
 -- ---- demand 3
 
 -- The samples of an accepted file, whose frames are fs.
-pub record Placed (s : List ℕ) (fs : List Frame) : Type 0 where
+pub record SamplesPlaced (s : List ℕ) (fs : List Frame) : Type 0 where
+  -- Each frame's waveform is a part of the file, and frame follows on frame without overlap.
+  pub waveform : (i : ℕ) → i < length fs → PartOfFile s (frameNumber fs i)
+  pub ordered : (i j : ℕ) → i < j → j < length fs → endOf (frameNumber fs i) ≤ frameNumber fs j .place
   -- Each name that the file has is a sample's.
   pub named : (x : Name) → Exists fs x → (a : NamedSample s) × (a .name ≡ x)
   -- Its octets, from the place that the reader answers, lie inside its own frame's waveform.
-  pub inside : (a : NamedSample s) → Inside s fs a
+  pub inside : (a : NamedSample s) → InWaveform s fs a
   -- Two samples with different names share no octet.
   pub apart : (a b : NamedSample s) → (a .name ≡ b .name → ⊥) → (p : ℕ) → Belongs s fs a p → Belongs s fs b p → ⊥
   -- Each octet of a waveform is one sample's, or surplus, and never both.
-  pub owned : (i o : ℕ) → i < length fs → o < length (frameAt fs i .waveform) → Owned s fs (frameAt fs i) o
+  pub owned : (i o : ℕ) → i < length fs → o < length (frameNumber fs i .waveform) → Owned s fs (frameNumber fs i) o
 
 -- "Whatever an accepted file holds, and whichever of its samples is named by frame, channel and number, the sample's octets, from the place
 -- that the reader answers, lie inside its own frame's waveform. Two of the file's samples with different names, in one frame or in two,
@@ -102,13 +108,21 @@ pub record Placed (s : List ℕ) (fs : List Frame) : Type 0 where
 -- accepted files are both written out, whatever the output buffers held before, the canonical files left there are equal, in length and in
 -- every octet, exactly when the recordings are equal, down to each attribute and each bit of each sample."
 pub record DemandThree : Type 0 where
-  pub places : (s : List ℕ) (fs : List Frame) → verdict s ≡ accepted fs → Placed s fs
+  pub places : (s : List ℕ) (fs : List Frame) → verdict s ≡ accepted fs → SamplesPlaced s fs
   -- Files s and t are written to buffers that held d and g; m and n octets are their canonical files.
   pub same : (s t d g : List ℕ) (m n : ℕ) → AllOctets s → AllOctets t → writtenOf s d ≡ answered m → writtenOf t g ≡ answered n → ((m ≡ n) × (take m (leftOf s d) ≡ take n (leftOf t g))) ↔ (recordingOf s ≡ recordingOf t)
 
 pub demand-three : DemandThree
 demand-three =
     record {
-      places = λ s fs e. record { named = sample-exists s fs e; inside = sample-inside s fs e; apart = samples-apart s fs e; owned = octet-owned s fs e };
+      places = λ s fs e.
+          record {
+            waveform = waveform-part s fs e;
+            ordered = waveforms-apart s fs e;
+            named = sample-exists s fs e;
+            inside = sample-inside s fs e;
+            apart = samples-apart s fs e;
+            owned = octet-owned s fs e;
+          };
       same = same-written;
     }

@@ -23,7 +23,7 @@ use Rattle.heads.specs.Answer.{answered}
 use Rattle.pass.specs.Verdict.{accepted, verdict}
 use Rattle.reader.specs.Answer.{FoundSample, foundSample, sampleOf, sampleIn as answerIn}
 use Rattle.reader.proofs.Ordered.{endOf, accepted-lies, accepted-ordered}
-use Rattle.theorems.proofs.Questions.{frameAt, sample-answered}
+use Rattle.theorems.proofs.Questions.{frameNumber, sample-answered}
 
 -- ---- names
 
@@ -34,24 +34,24 @@ pub record Name : Type 0 where
   pub number : ℕ
 
 -- The frame of a name, and the settings of its channel there.
-abbrev pub frameOf : List Frame → Name → Frame
-frameOf fs x = frameAt fs (x .frame)
+abbrev pub namedFrame : List Frame → Name → Frame
+namedFrame fs x = frameNumber fs (x .frame)
 
-abbrev pub settingsOf : List Frame → Name → Settings
-settingsOf fs x = channelIn (x .channel) (frameOf fs x .channels)
+abbrev pub namedSettings : List Frame → Name → Settings
+namedSettings fs x = channelIn (x .channel) (namedFrame fs x .channels)
 
 -- Octets of a sample of this name.
-abbrev pub widthOf : List Frame → Name → ℕ
-widthOf fs x = widthIn (settingsOf fs x)
+abbrev pub namedWidth : List Frame → Name → ℕ
+namedWidth fs x = widthIn (namedSettings fs x)
 
 -- The octets of a sample of this name in its frame's waveform.
-abbrev pub octetsOf : List Frame → Name → List ℕ
-octetsOf fs x = sampleIn (frameOf fs x .channels) (frameOf fs x .waveform) (x .channel) (x .number)
+abbrev pub namedOctets : List Frame → Name → List ℕ
+namedOctets fs x = sampleIn (namedFrame fs x .channels) (namedFrame fs x .waveform) (x .channel) (x .number)
 
 -- The frames have a sample of this name.
 pub record Exists (fs : List Frame) (x : Name) : Type 0 where
   pub frame : x .frame < length fs
-  pub sample : Named (frameOf fs x .channels) (frameOf fs x .sequences) (x .channel) (x .number)
+  pub sample : Named (namedFrame fs x .channels) (namedFrame fs x .sequences) (x .channel) (x .number)
 
 -- A named sample of a file: the reader answers its place and its value.
 pub record NamedSample (s : List ℕ) : Type 0 where
@@ -63,17 +63,17 @@ pub record NamedSample (s : List ℕ) : Type 0 where
 -- Octet p of the file is one of the sample's.
 pub record Belongs (s : List ℕ) (fs : List Frame) (a : NamedSample s) (p : ℕ) : Type 0 where
   pub index : ℕ
-  pub inside : index < widthOf fs (a .name)
+  pub inside : index < namedWidth fs (a .name)
   pub place : a .place + index ≡ p
 
 -- The sample is one of its frame's; its octets lie in that frame's waveform, from the place on, and its value is theirs.
-pub record Inside (s : List ℕ) (fs : List Frame) (a : NamedSample s) : Type 0 where
+pub record InWaveform (s : List ℕ) (fs : List Frame) (a : NamedSample s) : Type 0 where
   pub exists : Exists fs (a .name)
-  pub placed : a .place ≡ placeOf (a .name .channel) (a .name .number) (frameOf fs (a .name))
-  pub low : frameOf fs (a .name) .place ≤ a .place
-  pub high : a .place + widthOf fs (a .name) ≤ endOf (frameOf fs (a .name))
-  pub octets : take (widthOf fs (a .name)) (drop (a .place) s) ≡ octetsOf fs (a .name)
-  pub value : a .value ≡ valueOf (settingsOf fs (a .name) .kind) (settingsOf fs (a .name) .null) (frameOf fs (a .name) .little) (octetsOf fs (a .name))
+  pub placed : a .place ≡ placeOf (a .name .channel) (a .name .number) (namedFrame fs (a .name))
+  pub low : namedFrame fs (a .name) .place ≤ a .place
+  pub high : a .place + namedWidth fs (a .name) ≤ endOf (namedFrame fs (a .name))
+  pub octets : take (namedWidth fs (a .name)) (drop (a .place) s) ≡ namedOctets fs (a .name)
+  pub value : a .value ≡ valueOf (namedSettings fs (a .name) .kind) (namedSettings fs (a .name) .null) (namedFrame fs (a .name) .little) (namedOctets fs (a .name))
 
 -- Octet p of the file is one of a sample's, and of no other's.
 pub record OneSample (s : List ℕ) (fs : List Frame) (p : ℕ) : Type 0 where
@@ -129,24 +129,24 @@ module _ (s : List ℕ) (fs : List Frame) (e : verdict s ≡ accepted fs) where
       (record { name = x; place = _; value = _; answer = r }, refl)
 
   -- The sample's offset ends by the end of the sequences, and so of the waveform.
-  offset-fits : (x : Name) → Exists fs x → offsetOf (frameOf fs x .channels) (x .channel) (x .number) + widthOf fs x ≤ length (frameOf fs x .waveform)
+  offset-fits : (x : Name) → Exists fs x → offsetOf (namedFrame fs x .channels) (x .channel) (x .number) + namedWidth fs x ≤ length (namedFrame fs x .waveform)
   offset-fits x h = omega (arith, offset-inside (h .sample), accepted-lies s fs e (x .frame) (h .frame) .fits)
 
-  octets-there : (x : Name) → Exists fs x → take (widthOf fs x) (drop (placeOf (x .channel) (x .number) (frameOf fs x)) s) ≡ octetsOf fs x
+  octets-there : (x : Name) → Exists fs x → take (namedWidth fs x) (drop (placeOf (x .channel) (x .number) (namedFrame fs x)) s) ≡ namedOctets fs x
   unfolding placeOf
-  octets-there x h = part-there s (frameOf fs x .waveform) _ _ _ (accepted-lies s fs e (x .frame) (h .frame) .octets) (offset-fits x h)
+  octets-there x h = part-there s (namedFrame fs x .waveform) _ _ _ (accepted-lies s fs e (x .frame) (h .frame) .octets) (offset-fits x h)
 
-  pub sample-inside : (a : NamedSample s) → Inside s fs a
+  pub sample-inside : (a : NamedSample s) → InWaveform s fs a
   unfolding samplesOf answerIn placeOf
   sample-inside a =
       let x = a .name in
-      let c = settingsOf fs x in
-      let order = frameOf fs x .little in
-      let place = placeOf (x .channel) (x .number) (frameOf fs x) in
+      let c = namedSettings fs x in
+      let order = namedFrame fs x .little in
+      let place = placeOf (x .channel) (x .number) (namedFrame fs x) in
       let r = sample-answered s fs e (x .frame) (x .channel) (x .number) .there (foundSample (a .place) (a .value)) .0 (a .answer) in
       let h : Exists fs x = record { frame = r .0; sample = record { channel = r .1; number = r .2 } } in
       let p : a .place ≡ place = sym (ap (λ (y : FoundSample). y .place) (r .3)) in
-      let v : a .value ≡ valueOf (c .kind) (c .null) order (take (widthOf fs x) (drop place s)) = sym (ap (λ (y : FoundSample). y .value) (r .3)) in
+      let v : a .value ≡ valueOf (c .kind) (c .null) order (take (namedWidth fs x) (drop place s)) = sym (ap (λ (y : FoundSample). y .value) (r .3)) in
       record {
         exists = h;
         placed = p;
@@ -159,7 +159,7 @@ module _ (s : List ℕ) (fs : List Frame) (e : verdict s ≡ accepted fs) where
   -- ---- two samples
 
   -- A sample with octet p, where p is in the waveform of frame i, is one of that frame.
-  frame-same : (a : NamedSample s) (i p : ℕ) → i < length fs → Belongs s fs a p → frameAt fs i .place ≤ p → p < endOf (frameAt fs i) → a .name .frame ≡ i
+  frame-same : (a : NamedSample s) (i p : ℕ) → i < length fs → Belongs s fs a p → frameNumber fs i .place ≤ p → p < endOf (frameNumber fs i) → a .name .frame ≡ i
   frame-same a i p h b low high = by (decLt (a .name .frame) i) (decLt i (a .name .frame))
     where
       by : Dec (a .name .frame < i) → Dec (i < a .name .frame) → a .name .frame ≡ i
@@ -172,14 +172,14 @@ module _ (s : List ℕ) (fs : List Frame) (e : verdict s ≡ accepted fs) where
       let x = sample-inside a in
       let y = sample-inside b in
       let f : a .name .frame ≡ b .name .frame = frame-same a (b .name .frame) p (y .exists .frame) k (omega arith) (omega arith) in
-      apart-in (frameOf fs (b .name)) _ _ _ _ (k .index) (l .index) p (rw f at (x .exists .sample)) (y .exists .sample)
+      apart-in (namedFrame fs (b .name)) _ _ _ _ (k .index) (l .index) p (rw f at (x .exists .sample)) (y .exists .sample)
       (λ q. differ (name-same (a .name) (b .name) f (q .0) (q .1))) (rw f at (k .inside)) (l .inside)
       (ap (λ (z : ℕ). z + k .index) (sym (rw f at (x .placed))) ∙ k .place) (ap (λ (z : ℕ). z + l .index) (sym (y .placed)) ∙ l .place)
 
   -- ---- every octet
 
   -- The sample that covers an octet of a frame's sequences.
-  covered : (i o : ℕ) → i < length fs → Covered (frameAt fs i .channels) (frameAt fs i .sequences) o → (a : NamedSample s) × Belongs s fs a (frameAt fs i .place + o)
+  covered : (i o : ℕ) → i < length fs → Covered (frameNumber fs i .channels) (frameNumber fs i .sequences) o → (a : NamedSample s) × Belongs s fs a (frameNumber fs i .place + o)
   unfolding placeOf
   covered i o h c =
       let x : Name = record { frame = i; channel = c .channel; number = c .n } in
@@ -188,30 +188,30 @@ module _ (s : List ℕ) (fs : List Frame) (e : verdict s ≡ accepted fs) where
       (b .0, record { index = c .i; inside = rw (b .1) (c .inside); place = omega (arith, placed, c .place) })
 
   -- A sample's octets are ahead of the surplus of its frame.
-  before-surplus : (a : NamedSample s) (p : ℕ) → Belongs s fs a p → p < frameOf fs (a .name) .place + frameOf fs (a .name) .sequences * sequenceOctets (frameOf fs (a .name) .channels)
+  before-surplus : (a : NamedSample s) (p : ℕ) → Belongs s fs a p → p < namedFrame fs (a .name) .place + namedFrame fs (a .name) .sequences * sequenceOctets (namedFrame fs (a .name) .channels)
   unfolding placeOf
   before-surplus a p b = let k = sample-inside a in omega (arith, offset-inside (k .exists .sample))
 
-  module _ (i o : ℕ) (h : i < length fs) (l : o < length (frameAt fs i .waveform)) where
+  module _ (i o : ℕ) (h : i < length fs) (l : o < length (frameNumber fs i .waveform)) where
     -- The sample of an octet of the sequences, and no other.
-    one-sample : o < frameAt fs i .sequences * sequenceOctets (frameAt fs i .channels) → OneSample s fs (frameAt fs i .place + o)
+    one-sample : o < frameNumber fs i .sequences * sequenceOctets (frameNumber fs i .channels) → OneSample s fs (frameNumber fs i .place + o)
     one-sample k =
-        let c = covered i o h (offset-covers (frameAt fs i .channels) (frameAt fs i .sequences) o k) in
+        let c = covered i o h (offset-covers (frameNumber fs i .channels) (frameNumber fs i .sequences) o k) in
         record { sample = c .0; belongs = c .1; only = λ b m. by b m (c .0) (c .1) (name-decided (b .name) (c .0 .name)) }
       where
-        by : (b : NamedSample s) → Belongs s fs b (frameAt fs i .place + o) → (a : NamedSample s) → Belongs s fs a (frameAt fs i .place + o) → Dec (b .name ≡ a .name) → b .name ≡ a .name
+        by : (b : NamedSample s) → Belongs s fs b (frameNumber fs i .place + o) → (a : NamedSample s) → Belongs s fs a (frameNumber fs i .place + o) → Dec (b .name ≡ a .name) → b .name ≡ a .name
         by b m a n (yes q) = q
-        by b m a n (no q) = absurd (samples-apart b a q (frameAt fs i .place + o) m n)
+        by b m a n (no q) = absurd (samples-apart b a q (frameNumber fs i .place + o) m n)
 
     -- No sample has an octet of the surplus.
-    no-sample : frameAt fs i .sequences * sequenceOctets (frameAt fs i .channels) ≤ o → (b : NamedSample s) → Belongs s fs b (frameAt fs i .place + o) → ⊥
+    no-sample : frameNumber fs i .sequences * sequenceOctets (frameNumber fs i .channels) ≤ o → (b : NamedSample s) → Belongs s fs b (frameNumber fs i .place + o) → ⊥
     no-sample k b m =
-        let f = frame-same b i (frameAt fs i .place + o) h m (omega arith) (omega arith) in
-        omega (arith, rw f at (before-surplus b (frameAt fs i .place + o) m))
+        let f = frame-same b i (frameNumber fs i .place + o) h m (omega arith) (omega arith) in
+        omega (arith, rw f at (before-surplus b (frameNumber fs i .place + o) m))
 
-    pub octet-owned : Owned s fs (frameAt fs i) o
-    octet-owned = by (decLt o (frameAt fs i .sequences * sequenceOctets (frameAt fs i .channels)))
+    pub octet-owned : Owned s fs (frameNumber fs i) o
+    octet-owned = by (decLt o (frameNumber fs i .sequences * sequenceOctets (frameNumber fs i .channels)))
       where
-        by : Dec (o < frameAt fs i .sequences * sequenceOctets (frameAt fs i .channels)) → Owned s fs (frameAt fs i) o
+        by : Dec (o < frameNumber fs i .sequences * sequenceOctets (frameNumber fs i .channels)) → Owned s fs (frameNumber fs i) o
         by (yes k) = inl (k, one-sample k)
         by (no k) = inr (omega arith, no-sample (omega arith))

@@ -2,11 +2,12 @@
 --     tested             three tests met in order: the first that fails decides
 --     check-accepted, check-refused, accepted-or-refused    the check's answer is the verdict's
 --     limit-exactly, limit-place, limit-passed    15 comes first
---     refused-answers    on a refused file every question and the writer answer that file's refusal
---     attributes-answered    on an accepted file 20, 21, or the attributes
---     sample-answered    on an accepted file 20, 21, 22, or the sample
+--     ByChannel, by-channel    on an accepted file a question that names a channel answers 20, 21, or what is asked for
+--     BySample, by-sample      one that names a sample answers 20, 21, 22, or what is asked for
+--     attributes-answered, channel-answered, sample-answered, place-answered, samples-answered    so each question
+--     same-place         the questions for a place and for a sample answer the same place
 -- Assumes nothing.
-use Prim.Native.Nat.{ℕ, _≤_, _<_}
+use Prim.Native.Nat.{ℕ, _-_, _≤_, _<_, min}
 use mathlib.Core.Path.{_≡_, refl, ap, _∙_}
 use mathlib.Core.Logic.{_↔_, _⊎_, inl, inr}
 use mathlib.Core.List.{List}
@@ -18,17 +19,16 @@ use lib.ListN.{length, getD}
 use Rattle.octets.specs.Pick.{pick}
 use Rattle.heads.specs.declared.Refusal.{Refusal}
 use Rattle.heads.specs.Refusals.{longFile, noFrame, noChannel, noSample}
-use Rattle.heads.specs.Answer.{Answer, answered, refusedAs, refusedBy, mapAnswer}
+use Rattle.heads.specs.Answer.{Answer, answered, refusedAs, mapAnswer}
 use Rattle.items.specs.Walk.{refusal, itemsOf}
-use Rattle.layout.specs.Frame.{Frame, samplesOf}
-use Rattle.reader.specs.declared.Attributes.{Attributes}
+use Rattle.layout.specs.Frame.{Frame, samplesOf, placeOf}
 use Rattle.standing.specs.Standing.{octetsLimit}
 use Rattle.pass.specs.Verdict.{firstState, Verdict, accepted, refused, interpret, verdict, checkedAs, checkOf}
 use Rattle.reader.proofs.Never.{only-limit}
-use Rattle.reader.proofs.Order.{asked-refused}
-use Rattle.canonical.specs.Write.{outputIn, writtenOf}
-use Rattle.pass.specs.Scan.{zeroFrame}
-use Rattle.reader.specs.Answer.{FoundSample, asked, askedSample, attributesIn, attributesOf, sampleIn, sampleOf}
+use Rattle.reader.proofs.Order.{sample-both}
+use Rattle.pass.specs.Scan.{zeroFrame, viewOf}
+use Rattle.reader.specs.Answer.{FoundSample, FoundPlace, foundPlace, asked, askedSample, attributesIn, attributesOf, sampleIn, sampleOf, seenOf, placedOf}
+use Rattle.bulk.specs.Samples.{bitsAt, bitsFrom, readOf}
 
 -- ---- three tests
 
@@ -139,26 +139,7 @@ limit-exactly s =
 pub limit-place : (s : List ℕ) (place : ℕ) → checkOf s ≡ refusedAs longFile place → place ≡ 0
 limit-place s place q = let a = limit-exactly s .1 (only-limit s (refusal longFile place) (check-refused s longFile place .0 q) refl) in cc
 
--- ---- a refused file
-
--- Every question and the writer answer the refusal r.
-pub record AnsweredBy (s : List ℕ) (r : Refusal) : Type 0 where
-  pub check : checkOf s ≡ refusedBy r
-  pub attributes : (i c : ℕ) → attributesOf s i c ≡ refusedBy r
-  pub sample : (i c n : ℕ) → sampleOf s i c n ≡ refusedBy r
-  pub written : (d : List ℕ) → writtenOf s d ≡ refusedBy r
-
-pub refused-answers : (s : List ℕ) (r : Refusal) → verdict s ≡ refused r → AnsweredBy s r
-unfolding attributesOf sampleOf writtenOf outputIn
-refused-answers s r e =
-    record {
-      check = check-refused s (r .number) (r .place) .1 e;
-      attributes = λ i c. asked-refused i c _ e;
-      sample = λ i c n. asked-refused i c _ e;
-      written = λ d. ap (λ (v : Verdict). mapAnswer length (outputIn d v)) e;
-    }
-
--- ---- an accepted file
+-- ---- a question on an accepted file
 
 -- The number of an answer's refusal, and 0 for any other answer.
 abbrev numberIn : {A : Type 0} → Answer A → ℕ
@@ -166,71 +147,104 @@ numberIn (answered a) = 0
 numberIn (refusedAs number place) = number
 
 -- Frame i.
-abbrev pub frameAt : List Frame → ℕ → Frame
-frameAt fs i = getD fs i zeroFrame
+abbrev pub frameNumber : List Frame → ℕ → Frame
+frameNumber fs i = getD fs i zeroFrame
 
--- The attributes, or the first of 20 and 21 that holds, at place 0.
-pub record AttributesAnswered (s : List ℕ) (fs : List Frame) (i c : ℕ) : Type 0 where
-  pub frame : (attributesOf s i c ≡ refusedAs noFrame 0) ↔ (length fs ≤ i)
-  pub channel : (attributesOf s i c ≡ refusedAs noChannel 0) ↔ ((i < length fs) × (length (frameAt fs i .channels) ≤ c))
-  pub there : (a : Attributes) → (attributesOf s i c ≡ answered a) ↔ ((i < length fs) × (c < length (frameAt fs i .channels)) × (attributesIn c (frameAt fs i) ≡ a))
-  pub late : (number place : ℕ) → attributesOf s i c ≡ refusedAs number place → (place ≡ 0) × ((number ≡ noFrame) ⊎ (number ≡ noChannel))
+-- A question that names frame i and channel c answers y: what g says of the frame, or the first of 20 and 21 that holds, at place 0.
+pub record ByChannel {A : Type 0} (y : Answer A) (g : Frame → A) (fs : List Frame) (i c : ℕ) : Type 0 where
+  pub frame : (y ≡ refusedAs noFrame 0) ↔ (length fs ≤ i)
+  pub channel : (y ≡ refusedAs noChannel 0) ↔ ((i < length fs) × (length (frameNumber fs i .channels) ≤ c))
+  pub there : (a : A) → (y ≡ answered a) ↔ ((i < length fs) × (c < length (frameNumber fs i .channels)) × (g (frameNumber fs i) ≡ a))
+  pub late : (number place : ℕ) → y ≡ refusedAs number place → (place ≡ 0) × ((number ≡ noFrame) ⊎ (number ≡ noChannel))
 
--- The sample, or the first of 20, 21 and 22 that holds, at place 0.
-pub record SampleAnswered (s : List ℕ) (fs : List Frame) (i c n : ℕ) : Type 0 where
-  pub frame : (sampleOf s i c n ≡ refusedAs noFrame 0) ↔ (length fs ≤ i)
-  pub channel : (sampleOf s i c n ≡ refusedAs noChannel 0) ↔ ((i < length fs) × (length (frameAt fs i .channels) ≤ c))
-  pub sample : (sampleOf s i c n ≡ refusedAs noSample 0) ↔ ((i < length fs) × (c < length (frameAt fs i .channels)) × (samplesOf c (frameAt fs i) ≤ n))
-  pub there : (x : FoundSample) → (sampleOf s i c n ≡ answered x) ↔ ((i < length fs) × (c < length (frameAt fs i .channels)) × (n < samplesOf c (frameAt fs i)) × (sampleIn s c n (frameAt fs i) ≡ x))
-  pub late : (number place : ℕ) → sampleOf s i c n ≡ refusedAs number place → (place ≡ 0) × ((number ≡ noFrame) ⊎ ((number ≡ noChannel) ⊎ (number ≡ noSample)))
+-- Where it names sample n too, 22 comes after them.
+pub record BySample {A : Type 0} (y : Answer A) (g : Frame → A) (fs : List Frame) (i c n : ℕ) : Type 0 where
+  pub frame : (y ≡ refusedAs noFrame 0) ↔ (length fs ≤ i)
+  pub channel : (y ≡ refusedAs noChannel 0) ↔ ((i < length fs) × (length (frameNumber fs i .channels) ≤ c))
+  pub sample : (y ≡ refusedAs noSample 0) ↔ ((i < length fs) × (c < length (frameNumber fs i .channels)) × (samplesOf c (frameNumber fs i) ≤ n))
+  pub there : (a : A) → (y ≡ answered a) ↔ ((i < length fs) × (c < length (frameNumber fs i .channels)) × (n < samplesOf c (frameNumber fs i)) × (g (frameNumber fs i) ≡ a))
+  pub late : (number place : ℕ) → y ≡ refusedAs number place → (place ≡ 0) × ((number ≡ noFrame) ⊎ ((number ≡ noChannel) ⊎ (number ≡ noSample)))
 
-module _ (s : List ℕ) (fs : List Frame) (e : verdict s ≡ accepted fs) (i c : ℕ) where
-  attributes-tested : Tested numberIn (attributesOf s i c) (answered (attributesIn c (frameAt fs i))) (refusedAs noFrame 0) (refusedAs noChannel 0) (refusedAs noSample 0) i (length fs) c (length (frameAt fs i .channels)) 0 1
-  unfolding attributesOf
-  attributes-tested =
-      rw (ap (asked (λ f. answered (attributesIn c f)) i c) e) (tested numberIn _ _ _ _ (omega arith) i (length fs) c (length (frameAt fs i .channels)) 0 1)
+module _ {A : Type 0} (g : Frame → A) (v : Verdict) (fs : List Frame) (e : v ≡ accepted fs) (i c : ℕ) where
+  -- The three tests of a question that names sample m, where the channel has n.
+  abbrev TestedBy : Answer A → ℕ → ℕ → Type 0
+  TestedBy y m n =
+      Tested numberIn y (answered (g (frameNumber fs i))) (refusedAs noFrame 0) (refusedAs noChannel 0) (refusedAs noSample 0)
+      i (length fs) c (length (frameNumber fs i .channels)) m n
 
-  attributes-late : (number place : ℕ) → attributesOf s i c ≡ refusedAs number place → (place ≡ 0) × ((number ≡ noFrame) ⊎ (number ≡ noChannel))
-  attributes-late number place q = by-which (attributes-tested .one)
+  -- What the answer is one of.
+  abbrev OneOfFour : Answer A → Type 0
+  OneOfFour y = (y ≡ answered (g (frameNumber fs i))) ⊎ ((y ≡ refusedAs noFrame 0) ⊎ ((y ≡ refusedAs noChannel 0) ⊎ (y ≡ refusedAs noSample 0)))
+
+  late-by : (y : Answer A) (number place : ℕ) → y ≡ refusedAs number place → OneOfFour y → (place ≡ 0) × ((number ≡ noFrame) ⊎ ((number ≡ noChannel) ⊎ (number ≡ noSample)))
+  late-by y number place q (inl h) = let z : _≡_ {A = ℕ} 0 1 = cc in let w : ⊥ = omega arith in absurd w
+  late-by y number place q (inr (inl h)) = (cc, inl cc)
+  late-by y number place q (inr (inr (inl h))) = (cc, inr (inl cc))
+  late-by y number place q (inr (inr (inr h))) = (cc, inr (inr cc))
+
+  channel-tested : TestedBy (asked (λ f. answered (g f)) i c v) 0 1
+  channel-tested = rw e (tested numberIn _ _ _ _ (omega arith) i (length fs) c (length (frameNumber fs i .channels)) 0 1)
+
+  channel-late : (number place : ℕ) → asked (λ f. answered (g f)) i c v ≡ refusedAs number place → (place ≡ 0) × ((number ≡ noFrame) ⊎ (number ≡ noChannel))
+  channel-late number place q = by (late-by _ number place q (channel-tested .one))
     where
-      by-which : (attributesOf s i c ≡ answered (attributesIn c (frameAt fs i))) ⊎ ((attributesOf s i c ≡ refusedAs noFrame 0) ⊎ ((attributesOf s i c ≡ refusedAs noChannel 0) ⊎ (attributesOf s i c ≡ refusedAs noSample 0))) → (place ≡ 0) × ((number ≡ noFrame) ⊎ (number ≡ noChannel))
-      by-which (inl h) = let z : _≡_ {A = ℕ} 0 1 = cc in let w : ⊥ = omega arith in absurd w
-      by-which (inr (inl h)) = (cc, inl cc)
-      by-which (inr (inr (inl h))) = (cc, inr cc)
-      by-which (inr (inr (inr h))) = let z : ⊥ = omega (arith, attributes-tested .third .0 h) in absurd z
+      by : (place ≡ 0) × ((number ≡ noFrame) ⊎ ((number ≡ noChannel) ⊎ (number ≡ noSample))) → (place ≡ 0) × ((number ≡ noFrame) ⊎ (number ≡ noChannel))
+      by (z, inl h) = (z, inl h)
+      by (z, inr (inl h)) = (z, inr h)
+      by (z, inr (inr h)) = let w : ⊥ = omega (arith, channel-tested .third .0 (q ∙ (λ j. refusedAs (h j) (z j)))) in absurd w
 
-  pub attributes-answered : AttributesAnswered s fs i c
-  attributes-answered =
-      let t = attributes-tested in
+  pub by-channel : ByChannel (asked (λ f. answered (g f)) i c v) g fs i c
+  by-channel =
+      let t = channel-tested in
       record {
         frame = t .first;
         channel = t .second;
-        there = λ a. (λ h. let g = t .there (answered a) refl .0 h in (g .0, g .1, cc), λ h. t .there (answered a) refl .1 (h .0, h .1, omega arith, ap answered (h .2)));
-        late = attributes-late;
+        there = λ a. (λ h. let k = t .there (answered a) refl .0 h in (k .0, k .1, cc), λ h. t .there (answered a) refl .1 (h .0, h .1, omega arith, ap answered (h .2)));
+        late = channel-late;
       }
 
   module _ (n : ℕ) where
-    sample-tested : Tested numberIn (sampleOf s i c n) (answered (sampleIn s c n (frameAt fs i))) (refusedAs noFrame 0) (refusedAs noChannel 0) (refusedAs noSample 0) i (length fs) c (length (frameAt fs i .channels)) n (samplesOf c (frameAt fs i))
-    unfolding sampleOf
+    sample-tested : TestedBy (askedSample g i c n v) n (samplesOf c (frameNumber fs i))
     sample-tested =
-        rw (ap (askedSample (sampleIn s c n) i c n) e) (tested numberIn _ _ _ _ (omega arith) i (length fs) c (length (frameAt fs i .channels)) n (samplesOf c (frameAt fs i)))
+        rw e (tested numberIn _ _ _ _ (omega arith) i (length fs) c (length (frameNumber fs i .channels)) n (samplesOf c (frameNumber fs i)))
 
-    sample-late : (number place : ℕ) → sampleOf s i c n ≡ refusedAs number place → (place ≡ 0) × ((number ≡ noFrame) ⊎ ((number ≡ noChannel) ⊎ (number ≡ noSample)))
-    sample-late number place q = by-which (sample-tested .one)
-      where
-        by-which : (sampleOf s i c n ≡ answered (sampleIn s c n (frameAt fs i))) ⊎ ((sampleOf s i c n ≡ refusedAs noFrame 0) ⊎ ((sampleOf s i c n ≡ refusedAs noChannel 0) ⊎ (sampleOf s i c n ≡ refusedAs noSample 0))) → (place ≡ 0) × ((number ≡ noFrame) ⊎ ((number ≡ noChannel) ⊎ (number ≡ noSample)))
-        by-which (inl h) = let z : _≡_ {A = ℕ} 0 1 = cc in let w : ⊥ = omega arith in absurd w
-        by-which (inr (inl h)) = (cc, inl cc)
-        by-which (inr (inr (inl h))) = (cc, inr (inl cc))
-        by-which (inr (inr (inr h))) = (cc, inr (inr cc))
-
-    pub sample-answered : SampleAnswered s fs i c n
-    sample-answered =
+    pub by-sample : BySample (askedSample g i c n v) g fs i c n
+    by-sample =
         let t = sample-tested in
         record {
           frame = t .first;
           channel = t .second;
           sample = t .third;
-          there = λ x. (λ h. let g = t .there (answered x) refl .0 h in (g .0, g .1, g .2, cc), λ h. t .there (answered x) refl .1 (h .0, h .1, h .2, ap answered (h .3)));
-          late = sample-late;
+          there = λ a. (λ h. let k = t .there (answered a) refl .0 h in (k .0, k .1, k .2, cc), λ h. t .there (answered a) refl .1 (h .0, h .1, h .2, ap answered (h .3)));
+          late = λ number place q. late-by _ number place q (t .one);
         }
+
+-- ---- the questions
+
+module _ (s : List ℕ) (fs : List Frame) (e : verdict s ≡ accepted fs) (i c : ℕ) where
+  pub attributes-answered : ByChannel (attributesOf s i c) (attributesIn c) fs i c
+  unfolding attributesOf
+  attributes-answered = by-channel (attributesIn c) (verdict s) fs e i c
+
+  pub channel-answered : ByChannel (seenOf s i c) (viewOf c) fs i c
+  unfolding seenOf
+  channel-answered = by-channel (viewOf c) (verdict s) fs e i c
+
+  module _ (n : ℕ) where
+    pub sample-answered : BySample (sampleOf s i c n) (sampleIn s c n) fs i c n
+    unfolding sampleOf
+    sample-answered = by-sample (sampleIn s c n) (verdict s) fs e i c n
+
+    pub place-answered : BySample (placedOf s i c n) (λ f. foundPlace (placeOf c n f) (viewOf c f)) fs i c n
+    unfolding placedOf
+    place-answered = by-sample (λ f. foundPlace (placeOf c n f) (viewOf c f)) (verdict s) fs e i c n
+
+    pub samples-answered : (room : ℕ) → BySample (readOf s i c n room) (λ f. bitsFrom (bitsAt s c f) n (min room (samplesOf c f - n))) fs i c n
+    unfolding readOf
+    samples-answered room = by-sample (λ f. bitsFrom (bitsAt s c f) n (min room (samplesOf c f - n))) (verdict s) fs e i c n
+
+-- The questions for a place and for a sample answer the same place, or the same refusal.
+pub same-place : (s : List ℕ) (i c n : ℕ) → mapAnswer (λ x. x .place) (placedOf s i c n) ≡ mapAnswer (λ x. x .place) (sampleOf s i c n)
+unfolding placedOf sampleOf sampleIn
+same-place s i c n =
+    sample-both (λ x y. mapAnswer (λ (z : FoundPlace). z .place) x ≡ mapAnswer (λ (z : FoundSample). z .place) y) (λ number place. refl) i c _ _ n (verdict s) (λ fs e h k l. refl)

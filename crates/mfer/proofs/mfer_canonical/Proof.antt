@@ -23,14 +23,18 @@ same-length c = search needs
 
 returns : tie.Need-returns
 unfolding handedOut
-returns c = (ap countOut (ap writtenSays (sym (c .before .n .given .1)) ∙ c .before .before .before .before .before .write-canonical .ensures .0), c .before .before .before .before .before .write-canonical .ensures .1)
+returns c =
+    let w = c .before .before .before .before .before .write-canonical .ensures in
+    record { octets = w .octets; answers = ap countOut (ap writtenSays (sym (c .before .n .given .1)) ∙ w .answers); leaves = w .leaves }
 
 same-length-2 : tie.Need-same-length-2
 same-length-2 c = search needs
 
 returns-2 : tie.Need-returns-2
 unfolding handedOut
-returns-2 c = (ap countOut (ap writtenSays (sym (c .before .before .x .given .1)) ∙ c .before .before .before .before .before .before .write-canonical .ensures .0), c .before .before .before .before .before .before .write-canonical .ensures .1)
+returns-2 c =
+    let w = c .before .before .before .before .before .before .write-canonical .ensures in
+    record { octets = w .octets; answers = ap countOut (ap writtenSays (sym (c .before .before .x .given .1)) ∙ w .answers); leaves = w .leaves }
 
 pub mfer-canonical-spec : {M : Type 1} → statement M
 mfer-canonical-spec =

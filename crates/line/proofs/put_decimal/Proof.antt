@@ -1,10 +1,10 @@
--- `bench::put_decimal` meets its contract: the digits that are copied are the number's decimal.
+-- `line::put_decimal` meets its contract: the digits that are copied are the number's decimal.
 use borrow.Author.Needs.{needs}
 use native.Mathlib.Omega.{arith}
-use Rattle.bench.specs.Line.{decimalOf}
-use Rattle.bench.proofs.Laws.{fewest-digits}
-use Rattle.bench.proofs.put_decimal.Statement.{statement}
-use Rattle.bench.proofs.put_decimal.Tie as tie
+use Rattle.line.specs.Line.{decimalOf}
+use Rattle.line.proofs.Laws.{fewest-digits}
+use Rattle.line.proofs.put_decimal.Statement.{statement}
+use Rattle.line.proofs.put_decimal.Tie as tie
 
 decimal-requires : tie.Need-decimal-requires
 decimal-requires c κs = search needs

@@ -6,16 +6,14 @@ use native.Mathlib.Nat.{pow-suc, one-le-pow, mod-eq-of-lt}
 use native.Mathlib.Omega.{arith}
 use borrow.Author.Tests.{lt-ltb, le-ltb}
 use lib.Dec.{ltb}
-use lib.ListN.{length, take, drop, length-append}
-use lib.Seq.{take-append-seam}
-use Rattle.io.specs.Counts.{Counts}
+use lib.ListN.{length, length-append}
 use Rattle.io.specs.Digits.{digits, Fewest}
 use Rattle.stores.specs.Storing.{Putting, put-fits}
-use Rattle.stores.proofs.Stores.{sets-front, put-long, putting-then}
+use Rattle.stores.proofs.Stores.{sets-front, putting-then}
 use Rattle.octets.proofs.Pick.{pick-cases}
 use Rattle.heads.specs.declared.Refusal.{Refusal}
-use Rattle.heads.specs.Answer.{answered, refusedBy}
-use Rattle.bench.specs.Line.{decimalIn, decimalOf, frames, refused, at-place, line-end, lineOf}
+use Rattle.heads.specs.Answer.{Answer, answered, refusedBy, leftBy}
+use Rattle.line.specs.Line.{decimalIn, decimalOf, ascii, lineOf, Lined}
 
 -- A number has no more digits than are allowed.
 decimal-long : (allowed n : ℕ) → length (decimalIn allowed n) ≤ allowed
@@ -55,13 +53,12 @@ fewest-digits (suc allowed) (suc (suc j)) n h f =
     let more = fewest-digits allowed (suc j) (n / 10) (omega (arith, pow-suc 10 (suc allowed))) (t .1) in
     last-digit (suc j) n ∙ simp (le-ltb, more)
 
--- What is stored at the start of a buffer that has room for it.
-at-start : {d e vs : List ℕ} {r : ℕ} → length vs ≤ length d → Putting d 0 vs r e → Counts r e × (take r e ≡ vs)
-at-start {d} {e} {vs} {r} h p =
+-- The line, stored at the start of a buffer that has room for it.
+at-start : {d e : List ℕ} {r : ℕ} (a : Answer ℕ) → length (lineOf a) ≤ length d → Putting d 0 (lineOf a) r e → Lined a d r e
+unfolding leftBy
+at-start {d} a h p =
     let q = put-fits (omega arith) p in
-    let n : r ≡ length vs = omega (arith, q .next) in
-    let t : take r e ≡ vs = rw (n, q .stored, sets-front vs d h) (take-append-seam vs (drop (length vs) d)) in
-    ((omega (arith, put-long q), rw t n), t)
+    record { long = omega (arith, q .next); left = q .stored ∙ sets-front (lineOf a) d h }
 
 -- One text after another at the start of a buffer of 64 octets.
 more : {d e f us vs : List ℕ} {a r : ℕ} → 64 ≡ length d → length us + length vs ≤ 64
@@ -75,25 +72,25 @@ few n = decimal-long 20 n
 
 -- The line of a count, from the promises of its three parts.
 pub frames-line : {d e f g : List ℕ} {a b r : ℕ} (n : ℕ) → 64 ≡ length d
-    → Putting d 0 frames a e → Putting e a (decimalOf n) b f → Putting f b line-end r g → Counts r g × (take r g ≡ lineOf (answered n))
+    → Putting d 0 (ascii "frames ") a e → Putting e a (decimalOf n) b f → Putting f b (ascii "\n") r g → Lined (answered n) d r g
 unfolding lineOf
 frames-line n l p q t =
-    let x = length-append frames (decimalOf n) in
-    at-start (omega (arith, few n, x, length-append (frames ++ decimalOf n) line-end))
+    let x = length-append (ascii "frames ") (decimalOf n) in
+    at-start (answered n) (omega (arith, few n, x, length-append (ascii "frames " ++ decimalOf n) (ascii "\n")))
     (more l (omega (arith, few n, x)) (more l (omega (arith, few n)) p q) t)
 
 -- The line of a refusal, from the promises of its five parts.
 pub refused-line : {d e f g h i : List ℕ} {a b j k r : ℕ} (x : Refusal) → 64 ≡ length d
-    → Putting d 0 refused a e → Putting e a (decimalOf (x .number)) b f → Putting f b at-place j g
-    → Putting g j (decimalOf (x .place)) k h → Putting h k line-end r i → Counts r i × (take r i ≡ lineOf (refusedBy x))
+    → Putting d 0 (ascii "refused ") a e → Putting e a (decimalOf (x .number)) b f → Putting f b (ascii " at ") j g
+    → Putting g j (decimalOf (x .place)) k h → Putting h k (ascii "\n") r i → Lined (refusedBy x) d r i
 unfolding lineOf
 refused-line x l p q s t u =
     let n = decimalOf (x .number) in
     let m = decimalOf (x .place) in
     let v : length n ≤ 20 = few (x .number) in
     let w : length m ≤ 20 = few (x .place) in
-    let y = length-append refused n in
-    let z = length-append (refused ++ n) at-place in
-    let o = length-append (refused ++ n ++ at-place) m in
-    at-start (omega (arith, y, z, o, length-append (refused ++ n ++ at-place ++ m) line-end))
+    let y = length-append (ascii "refused ") n in
+    let z = length-append (ascii "refused " ++ n) (ascii " at ") in
+    let o = length-append (ascii "refused " ++ n ++ ascii " at ") m in
+    at-start (refusedBy x) (omega (arith, y, z, o, length-append (ascii "refused " ++ n ++ ascii " at " ++ m) (ascii "\n")))
     (more l (omega (arith, y, z, o)) (more l (omega (arith, y, z)) (more l (omega (arith, y)) (more l (omega arith) p q) s) t) u)

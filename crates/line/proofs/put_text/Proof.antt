@@ -1,8 +1,8 @@
--- `bench::put_text` meets its contract: all of the text is copied.
+-- `line::put_text` meets its contract: all of the text is copied.
 use borrow.Author.Needs.{needs}
 use lib.Seq.{take-length}
-use Rattle.bench.proofs.put_text.Statement.{statement}
-use Rattle.bench.proofs.put_text.Tie as tie
+use Rattle.line.proofs.put_text.Statement.{statement}
+use Rattle.line.proofs.put_text.Tie as tie
 
 copy-requires : tie.Need-copy-requires
 copy-requires c κs = search needs

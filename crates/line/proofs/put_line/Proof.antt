@@ -1,9 +1,9 @@
--- `bench::put_line` meets its contract: each part is stored after the one before it, and 64 octets hold the longest line.
+-- `line::put_line` meets its contract: each part is stored after the one before it, and 64 octets hold the longest line.
 use borrow.Author.Needs.{needs}
 use native.Mathlib.Omega.{arith}
-use Rattle.bench.proofs.Laws.{frames-line, refused-line}
-use Rattle.bench.proofs.put_line.Statement.{statement}
-use Rattle.bench.proofs.put_line.Tie as tie
+use Rattle.line.proofs.Laws.{frames-line, refused-line}
+use Rattle.line.proofs.put_line.Statement.{statement}
+use Rattle.line.proofs.put_line.Tie as tie
 
 enum-known-checked : tie.Need-enum-known-checked
 enum-known-checked c = search needs
@@ -58,19 +58,21 @@ put-text-requires-5 c κs = search needs
 
 returns : tie.Need-returns
 returns c =
-    let told = c .before .before .before .before .before .before .before .before .before .checked .given in
-    let word = c .before .before .before .before .before .put-text .ensures in
-    let count = c .before .before .before .put-decimal .ensures in
-    rw (told .1) (frames-line (told .0 .0) (omega arith) word count (c .put-text2 .ensures))
+    let at-count = c .before .before .before in
+    let at-word = at-count .before .before in
+    let told = at-word .before .before .before .before .checked .given in
+    rw (told .1) (frames-line (told .0 .0) (omega arith) (at-word .put-text .ensures) (at-count .put-decimal .ensures) (c .put-text2 .ensures))
 
 returns-2 : tie.Need-returns-2
 returns-2 c =
-    let told = c .before .before .before .before .before .before .before .before .before .before .before .before .before .before .before .checked2 .given in
-    let word = c .before .before .before .before .before .before .before .before .before .before .before .put-text3 .ensures in
-    let number = c .before .before .before .before .before .before .before .before .put-decimal2 .ensures in
-    let between = c .before .before .before .before .before .put-text4 .ensures in
-    let place = c .before .before .before .put-decimal3 .ensures in
-    rw (told .1) (refused-line (told .0 .0) (omega arith) word number between place (c .put-text5 .ensures))
+    let at-place = c .before .before .before in
+    let at-between = at-place .before .before in
+    let at-number = at-between .before .before .before in
+    let at-word = at-number .before .before .before in
+    let told = at-word .before .before .before .before .checked2 .given in
+    rw (told .1)
+    (refused-line (told .0 .0) (omega arith) (at-word .put-text3 .ensures) (at-number .put-decimal2 .ensures)
+    (at-between .put-text4 .ensures) (at-place .put-decimal3 .ensures) (c .put-text5 .ensures))
 
 pub put-line-spec : {M : Type 1} → statement M
 put-line-spec =

