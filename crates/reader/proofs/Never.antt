@@ -49,7 +49,7 @@ width-some (suc (suc (suc (suc (suc (suc (suc (suc zero)))))))) h = lit< tt
 width-some (suc (suc (suc (suc (suc (suc (suc (suc (suc k))))))))) h = let z : ⊥ = omega arith in absurd z
 
 -- Each value is in its range; this needs nothing of the octets.
-abbrev InRange : Change → Type 0
+abbrev pub InRange : Change → Type 0
 InRange c = inRange c ≡ true
 
 default-ranged : Each InRange defaultSettings
@@ -68,22 +68,22 @@ sequence-some [] e h = h
 sequence-some (c ∷ cs) e h = omega (arith, block-some c (e .0))
 
 -- What every item keeps.
-record Filled (s : List ℕ) (x : State) (c : Cursor) : Type 0 where
+pub record Filled (s : List ℕ) (x : State) (c : Cursor) : Type 0 where
   pub lying : Lying s x c
   pub table : Table InRange x
 
 module _ (s : List ℕ) where
-  filled-keeps : Keeps s (Filled s)
+  pub filled-keeps : Keeps s (Filled s)
   filled-keeps x c i d y p e f =
       record {
         lying = lying-keeps s x c i d y (p .lying) e f;
         table = table-step InRange s default-ranged (λ a little start len g z r. r) x i y (p .table) (meaning-steps s x i y f);
       }
 
-  filled-first : Filled s firstState firstCursor
+  pub filled-first : Filled s firstState firstCursor
   filled-first = record { lying = lying-first s; table = table-first InRange s default-ranged (λ a little start len g z r. r) }
 
-  octets-some : (x : State) (c : Cursor) → Filled s x c → 0 < sequenceOctets (frameChannels x)
+  pub octets-some : (x : State) (c : Cursor) → Filled s x c → 0 < sequenceOctets (frameChannels x)
   octets-some x c p =
       sequence-some (frameChannels x) (every-take (Each InRange) (channelsOf (x .standing .counted)) (x .channels) (p .table .table))
       (frame-channels s x c (p .lying) .0)

@@ -1,4 +1,8 @@
 pub mod Questions
+pub mod Due
+pub mod HeadRows
+pub mod ValueRows
+pub mod Exactly
 pub mod Places
 pub mod Canonical
 pub mod Demands

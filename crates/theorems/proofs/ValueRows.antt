@@ -1,0 +1,346 @@
+-- An item whose head is read is refused by the first of the rows behind those of the head. A tag of the table goes the way of its line: each line is
+-- looked at once, outside a group and inside one, and a tag without a line is stepped over.
+--     line-choice     a length, then a value, as every definition tests them
+--     lines-take      every line of the table
+--     plain-first, member-first, group-first, mark-first    every kind of item
+-- Assumes nothing.
+use Prim.Native.Nat.{ℕ, zero, suc, _-_, _*_, _≤_, _<_, zero-le}
+use mathlib.Core.Path.{_≡_, refl, sym, ap, _∙_, subst}
+use mathlib.Core.List.{List, [], _∷_, _++_, map}
+use mathlib.Core.Option.{Option, none, some}
+use mathlib.Core.Bool.{Bool, true, false, not}
+use native.Mathlib.Decide.{decLt, ℕ-discrete}
+use native.Mathlib.Omega.{arith}
+use borrow.Author.Tests.{lt-ltb, le-ltb, eq-eqb, ne-eqb, le-leb, lt-leb, leb-true, eqb-true, ltb-false, not-false}
+use lib.Dec.{ltb, leb, eqb}
+use lib.ListN.{length, getD, take, drop, length-drop}
+use lib.Seq.{take-all}
+use Rattle.octets.specs.Pick.{pick, both, either}
+use Rattle.octets.specs.Number.{numberOf, signedOf}
+use Rattle.octets.proofs.Pick.{pick-cases, both-false}
+use Rattle.heads.specs.declared.Refusal.{Refusal}
+use Rattle.heads.specs.Refusals.{unfitLength, unfitValue, compressed, channelNumber, manyFrames, sampleWidth, startRange, shortWaveform}
+use Rattle.heads.specs.Head.{rootOnly}
+use Rattle.items.specs.Walk.{refusal}
+use Rattle.settings.specs.declared.Settings.{Settings}
+use Rattle.settings.specs.declared.Change.{Change}
+use Rattle.settings.specs.Settings.{channelLimit, defaultSettings}
+use Rattle.definitions.specs.declared.Attribute.{Attribute}
+use Rattle.definitions.specs.declared.Tagged.{Tagged}
+use Rattle.definitions.specs.declared.Defined.{Defined}
+use Rattle.definitions.specs.Define.{tagged, scaleLength, bitsLength, lengthFits, scaleOf, changeOf, standingIn, inRange, defined}
+use Rattle.layout.specs.Frame.{sequenceOctets, allAgree}
+use Rattle.standing.specs.Standing.{octetsLimit, framesLimit}
+use Rattle.framing.specs.declared.Framed.{Framed}
+use Rattle.framing.specs.Framing.{sequencesOf, pointerFits, framedAs}
+use Rattle.effects.specs.declared.Effect.{Effect}
+use Rattle.effects.specs.Effects.{orderEffect, countEffect, sequencesEffect, startEffect, compressedEffect, allEffect, oneEffect, rootEffect, plainEffect, memberEffect, groupEffect}
+use Rattle.pass.specs.Verdict.{State, Outcome, goes, refuses, frameChannels, withFrame, carried}
+use Rattle.reader.proofs.Every.{Every}
+use Rattle.theorems.specs.Attributes.{Line, line, among, between, any, attributes, lineIn, lineOf}
+use Rattle.theorems.specs.Rows.{Row, isGroup, only, ignored, valueRows, frameRows}
+use Rattle.theorems.proofs.Due.{first}
+
+-- ---- tests that say the same
+
+leb-not : (a b : ℕ) → leb a b ≡ not (ltb b a)
+leb-not a b = by (decLt b a)
+  where
+    by : Dec (b < a) → leb a b ≡ not (ltb b a)
+    by (yes h) = rw (lt-ltb b a h, lt-leb a b h)
+    by (no h) = let k : a ≤ b = omega arith in rw (le-ltb b a k, le-leb a b k)
+
+one-not : (n : ℕ) → leb 1 n ≡ not (eqb n 0)
+one-not zero = refl
+one-not (suc n) = rw (le-leb 1 (suc n) (omega arith), ne-eqb (suc n) 0 (λ e. omega arith))
+
+from-zero : (high n : ℕ) → between 0 high n ≡ leb n high
+from-zero high n = rw (le-leb 0 n zero-le)
+
+zero-one : (n : ℕ) → among (0 ∷ 1 ∷ []) n ≡ leb n 1
+zero-one zero = refl
+zero-one (suc zero) = refl
+zero-one (suc (suc n)) =
+    rw (ne-eqb (suc (suc n)) 0 (λ e. omega arith), ne-eqb (suc (suc n)) 1 (λ e. omega arith), lt-leb (suc (suc n)) 1 (omega arith))
+
+either-false : (t : Bool) → either t false ≡ t
+either-false true = refl
+either-false false = refl
+
+width-same : (n : ℕ) → among (0 ∷ 1 ∷ 2 ∷ 4 ∷ 8 ∷ []) n ≡ bitsLength n
+width-same zero = refl
+width-same (suc zero) = refl
+width-same (suc (suc zero)) = refl
+width-same (suc (suc (suc n))) =
+    let m = suc (suc (suc n)) in
+    simp (ne-eqb m 0 (λ e. omega arith), ne-eqb m 1 (λ e. omega arith), ne-eqb m 2 (λ e. omega arith), lt-leb m 2 (omega arith), either-false)
+
+-- ---- a definition
+
+-- What a line gives at a place: 6 for the length, 7 for the value.
+abbrev lineAnswer : ℕ → Line → Bool → List ℕ → Option Refusal
+lineAnswer at l little v =
+    pick (not (l .lengths (length v))) (some (refusal unfitLength at))
+    (pick (both (not (eqb (length v) 0)) (not (l .values little v))) (some (refusal unfitValue at)) none)
+
+-- What an outcome gives at a place.
+abbrev pub stopped : ℕ → Outcome → Option Refusal
+stopped at (goes y) = none
+stopped at (refuses n) = some (refusal n at)
+
+-- A line has the lengths of an attribute, and of those lengths the values, as the tests have them.
+abbrev Lengths : Attribute → Line → Type 0
+Lengths a l = (n : ℕ) → l .lengths n ≡ lengthFits a n
+
+abbrev Values : Attribute → Line → Type 0
+Values a l = (little : Bool) (v : List ℕ) → lengthFits a (length v) ≡ true → l .values little v ≡ inRange (changeOf a little v)
+
+pick-not : {A : Type 0} (t : Bool) (a b : A) → pick t a b ≡ pick (not t) b a
+pick-not true a b = refl
+pick-not false a b = refl
+
+not-not : (t : Bool) → not (not t) ≡ t
+not-not true = refl
+not-not false = refl
+
+module _ (at : ℕ) (l : Line) (little : Bool) (v : List ℕ) {A : Type 0} (answer : A → Option Refusal)
+    (unfit bad : A) (six : answer unfit ≡ some (refusal unfitLength at)) (seven : answer bad ≡ some (refusal unfitValue at)) where
+  -- Refused for its length where t holds, back to what stands where it has none, refused for its value where b holds.
+  line-choice : (t b : Bool) (e f : A) → answer e ≡ none → answer f ≡ none → l .lengths (length v) ≡ not t → (t ≡ false → l .values little v ≡ not b) → answer (pick t unfit (pick (eqb (length v) 0) e (pick b bad f))) ≡ lineAnswer at l little v
+  line-choice true b e f p q n m = rw n six
+  line-choice false b e f p q n m = rw (n, m refl) (by (eqb (length v) 0) b)
+    where
+      by : (z b : Bool) → answer (pick z e (pick b bad f)) ≡ pick (both (not z) (not (not b))) (some (refusal unfitValue at)) none
+      by true b = p
+      by false true = seven
+      by false false = q
+
+-- ---- the lines of the table
+
+short-mantissa : (v : List ℕ) → scaleLength (length v) ≡ true → take 4 (drop 2 v) ≡ drop 2 v
+short-mantissa v h = take-all 4 (drop 2 v) (rw length-drop (by (eqb (length v) 0) (leb 3 (length v)) (leb (length v) 6) refl refl h))
+  where
+    by : (z a b : Bool) → eqb (length v) 0 ≡ z → leb (length v) 6 ≡ b → either z (both a b) ≡ true → length v - 2 ≤ 4
+    by true a b z e t = omega (arith, eqb-true (length v) 0 z)
+    by false true true z e t = omega (arith, leb-true (length v) 6 e)
+    by false true false z e t = let w : _≡_ {A = ℕ} 0 1 = cc in omega arith
+    by false false b z e t = let w : _≡_ {A = ℕ} 0 1 = cc in omega arith
+
+pick-either : {A : Type 0} (b c : Bool) (a f : A) → pick b a (pick c a f) ≡ pick (either b c) a f
+pick-either true c a f = refl
+pick-either false c a f = refl
+
+both-nots : (b c : Bool) → both (not b) (not c) ≡ not (either b c)
+both-nots true c = refl
+both-nots false c = refl
+
+-- A tag is none of the lines'.
+abbrev Apart : ℕ → List Line → Type 0
+Apart tag ls = (t : ℕ) → among (map (λ (l : Line). l .tag) ls) t ≡ true → eqb tag t ≡ false
+
+apart-more : (tag : ℕ) (l : Line) (ls : List Line) → eqb tag (l .tag) ≡ false → Apart tag ls → Apart tag (l ∷ ls)
+apart-more tag l ls e n t h = by (eqb t (l .tag)) refl h
+  where
+    by : (b : Bool) → eqb t (l .tag) ≡ b → either b (among (map (λ (l : Line). l .tag) ls) t) ≡ true → eqb tag t ≡ false
+    by true q m = rw (eqb-true t (l .tag) q) e
+    by false q m = n t m
+
+-- What holds of every line at its tag, and of a tag that has none, holds of every tag with its line.
+line-law : (P : ℕ → Line → Type 0) (ls : List Line) (tag : ℕ) → Every (λ l. P (l .tag) l) ls → (Apart tag ls → P tag (line tag (λ n. true) any)) → P tag (lineIn ls tag)
+unfolding lineIn
+line-law P [] tag e o = o (λ t h. let z : _≡_ {A = ℕ} 0 1 = cc in let w : ⊥ = omega arith in absurd w)
+line-law P (l ∷ ls) tag e o =
+    pick-cases (P tag) (eqb tag (l .tag)) (λ t. rw (eqb-true tag (l .tag) t) (e .0))
+    (λ t. line-law P ls tag (e .1) (λ n. o (apart-more tag l ls t n)))
+
+module _ (s : List ℕ) (x : State) (at : ℕ) (v : List ℕ) where
+  abbrev asked : Effect → Option Refusal
+  asked e = stopped at (carried s x e)
+
+  abbrev answer : Line → Option Refusal
+  answer l = lineAnswer at l (x .standing .little) v
+
+  -- A tag goes the way of a line, outside a group and inside one.
+  record Takes (tag : ℕ) (l : Line) : Type 0 where
+    plain : (start : ℕ) → asked (plainEffect (x .standing) tag start v (tagged tag)) ≡ answer l
+    member : rootOnly tag ≡ false → (channel : ℕ) → asked (memberEffect (x .standing) channel v (tagged tag)) ≡ answer l
+
+  -- An attribute of a channel, as a definition outside a group or inside one carries it.
+  module _ (a : Attribute) (l : Line) (tag : tagged (l .tag) ≡ Tagged.Defines a) (lengths : Lengths a l) (values : Values a l) where
+    defined-line : (f : Defined → Effect) → ((n : ℕ) → asked (f (Defined.Refused n)) ≡ some (refusal n at)) → ((c : Change) → asked (f (Defined.Changed c)) ≡ none) → (base : Settings) → asked (f (defined a (x .standing .little) base v)) ≡ answer l
+    unfolding defined
+    defined-line f stops leads base =
+        let little = x .standing .little in
+        let c = changeOf a little v in
+        rw (pick-not (inRange c) (Defined.Changed c) (Defined.Refused unfitValue))
+        (line-choice at l little v (λ d. asked (f d)) (Defined.Refused unfitLength) (Defined.Refused unfitValue) (stops unfitLength) (stops unfitValue)
+        (not (lengthFits a (length v))) (not (inRange c)) (Defined.Changed (standingIn a base)) (Defined.Changed c) (leads (standingIn a base)) (leads c)
+        (lengths (length v) ∙ sym (not-not (lengthFits a (length v))))
+        (λ t. values little v (not-false (lengthFits a (length v)) t) ∙ sym (not-not (inRange c))))
+
+    attribute-takes : Takes (l .tag) l
+    unfolding plainEffect memberEffect allEffect oneEffect carried
+    attribute-takes =
+        record {
+          plain = λ start. rw tag (defined-line allEffect (λ n. refl) (λ c. refl) defaultSettings);
+          member = λ f channel. rw tag (defined-line (oneEffect channel) (λ n. refl) (λ c. refl) (x .standing .root));
+        }
+
+  -- A tag that stands only outside groups.
+  root-takes : (l : Line) → rootOnly (l .tag) ≡ true → ((start : ℕ) → asked (plainEffect (x .standing) (l .tag) start v (tagged (l .tag))) ≡ answer l) → Takes (l .tag) l
+  root-takes l r e = record { plain = e; member = λ f channel. let z : _≡_ {A = ℕ} 0 1 = cc in let w : ⊥ = omega arith in absurd w }
+
+  root-choice : (l : Line) (t b : Bool) (e f : Effect) → asked e ≡ none → asked f ≡ none → l .lengths (length v) ≡ not t → (t ≡ false → l .values (x .standing .little) v ≡ not b) → asked (pick t (Effect.Refused unfitLength) (pick (eqb (length v) 0) e (pick b (Effect.Refused unfitValue) f))) ≡ answer l
+  unfolding carried
+  root-choice l = line-choice at l (x .standing .little) v asked (Effect.Refused unfitLength) (Effect.Refused unfitValue) refl refl
+
+  order-line : asked (orderEffect v) ≡ answer (lineOf 0x01)
+  unfolding orderEffect lineIn carried
+  order-line =
+      root-choice (lineOf 0x01) (ltb 1 (length v)) (ltb 1 (getD v 0 0)) (Effect.Order false) (Effect.Order (eqb (getD v 0 0) 1)) refl refl
+      (zero-one (length v) ∙ leb-not (length v) 1) (λ t. leb-not (getD v 0 0) 1)
+
+  abbrev number : ℕ
+  number = numberOf (x .standing .little) (take 4 v)
+
+  up-to-four : between 0 4 (length v) ≡ not (ltb 4 (length v))
+  up-to-four = from-zero 4 (length v) ∙ leb-not (length v) 4
+
+  whole : ltb 4 (length v) ≡ false → numberOf (x .standing .little) v ≡ number
+  whole t = rw (take-all 4 v (ltb-false 4 (length v) t))
+
+  count-line : asked (countEffect (x .standing .little) v) ≡ answer (lineOf 0x05)
+  unfolding countEffect lineIn carried
+  count-line =
+      rw (pick-either (eqb number 0) (ltb channelLimit number) (Effect.Refused unfitValue) (Effect.Count number))
+      (root-choice (lineOf 0x05) (ltb 4 (length v)) (either (eqb number 0) (ltb channelLimit number)) (Effect.Count 0) (Effect.Count number) refl refl
+      up-to-four (λ t. rw (whole t, one-not number, leb-not number channelLimit) (both-nots (eqb number 0) (ltb channelLimit number))))
+
+  sequences-line : asked (sequencesEffect (x .standing .little) v) ≡ answer (lineOf 0x06)
+  unfolding sequencesEffect lineIn carried
+  sequences-line =
+      root-choice (lineOf 0x06) (ltb 4 (length v)) (eqb number 0) (Effect.Sequences 0) (Effect.Sequences number) refl refl
+      up-to-four (λ t. rw (whole t, one-not number))
+
+  start-line : asked (startEffect (x .standing .little) (x .standing .continued) v) ≡ answer (lineOf 0x07)
+  unfolding startEffect lineIn carried
+  start-line =
+      root-choice (lineOf 0x07) (ltb 4 (length v)) false (Effect.Start (x .standing .continued)) (Effect.Start (signedOf (x .standing .little) (take 4 v))) refl refl
+      up-to-four (λ t. refl)
+
+  lines-take : Every (λ l. Takes (l .tag) l) attributes
+  unfolding tagged plainEffect rootEffect rootOnly lineIn scaleOf
+  lines-take =
+      (root-takes (lineOf 0x01) refl (λ start. order-line),
+      (attribute-takes Attribute.Block (lineOf 0x04) refl (from-zero 4) (λ little u h. rw (take-all 4 u (leb-true (length u) 4 h))),
+      (root-takes (lineOf 0x05) refl (λ start. count-line),
+      (root-takes (lineOf 0x06) refl (λ start. sequences-line),
+      (root-takes (lineOf 0x07) refl (λ start. start-line),
+      (attribute-takes Attribute.Class (lineOf 0x08) refl (from-zero 34) (λ little u h. refl),
+      (attribute-takes Attribute.Lead (lineOf 0x09) refl (from-zero 34) (λ little u h. refl),
+      (attribute-takes Attribute.Kind (lineOf 0x0A) refl zero-one (λ little u h. refl),
+      (attribute-takes Attribute.Interval (lineOf 0x0B) refl (λ n. refl) (λ little u h. rw (short-mantissa u h)),
+      (attribute-takes Attribute.Resolution (lineOf 0x0C) refl (λ n. refl) (λ little u h. rw (short-mantissa u h)),
+      (attribute-takes Attribute.Offset (lineOf 0x0D) refl width-same (λ little u h. refl),
+      (attribute-takes Attribute.Null (lineOf 0x12) refl width-same (λ little u h. refl),
+      tt))))))))))))
+
+  -- A tag that has no line, and is neither 0E nor 1E, is stepped over.
+  other-takes : (tag : ℕ) → Apart tag attributes → eqb tag 0x0E ≡ false → eqb tag 0x1E ≡ false → Takes tag (line tag (λ n. true) any)
+  unfolding tagged plainEffect memberEffect rootEffect carried
+  other-takes tag n c w =
+      let other : tagged tag ≡ Tagged.Other =
+          simp (n 0x04 refl, n 0x08 refl, n 0x09 refl, n 0x0A refl, n 0x0B refl, n 0x0C refl, n 0x0D refl, n 0x12 refl) in
+      let none-due : answer (line tag (λ n. true) any) ≡ none = rw (both-false (not (eqb (length v) 0))) in
+      record {
+        plain = λ start. rw other (simp (n 0x01 refl, n 0x05 refl, n 0x06 refl, n 0x07 refl, c, w) (sym none-due));
+        member = λ f channel. rw other (sym none-due);
+      }
+
+  tag-takes : (tag : ℕ) → eqb tag 0x0E ≡ false → eqb tag 0x1E ≡ false → Takes tag (lineOf tag)
+  tag-takes tag c w = line-law Takes attributes tag lines-take (λ n. other-takes tag n c w)
+
+-- ---- a waveform
+
+-- The two tests that a waveform meets ahead of 11, and that no file reaches (reader/proofs/Never.antt): a sequence has octets, and no waveform is
+-- longer than a file may be.
+pub record Framable (x : State) (long : ℕ) : Type 0 where
+  pub filled : 0 < sequenceOctets (frameChannels x)
+  pub small : long ≤ octetsLimit
+
+module _ (s : List ℕ) (x : State) (at start long : ℕ) where
+  framed-pick : (t : Bool) (n : ℕ) (r : Framed) (o : Option Refusal) → stopped at (withFrame s x start long r) ≡ o → stopped at (withFrame s x start long (pick t (Framed.Refused n) r)) ≡ pick t (some (refusal n at)) o
+  unfolding withFrame
+  framed-pick true n r o e = refl
+  framed-pick false n r o e = e
+
+  frame-first : Framable x long → stopped at (carried s x (Effect.Frame start long)) ≡ first (frameRows x at long)
+  unfolding carried framedAs frameRows withFrame
+  frame-first f =
+      let octets = sequenceOctets (frameChannels x) in
+      rw (ne-eqb octets 0 (λ q. omega arith), le-ltb octetsLimit long (omega arith))
+      (framed-pick (leb framesLimit (length (x .frames))) manyFrames _ _
+      (framed-pick (not (allAgree (frameChannels x))) sampleWidth _ _
+      (framed-pick (not (pointerFits (x .standing .start))) startRange _ _
+      (framed-pick (ltb long (sequencesOf (x .standing .sequences) long octets * octets)) shortWaveform _ none refl))))
+
+-- ---- every item
+
+-- The rows behind those of the head.
+abbrev pub behind : State → ℕ → Bool → ℕ → ℕ → List ℕ → List Row
+behind x at inside tag channel v = valueRows x at inside tag channel v ++ only (eqb tag 0x1E) (frameRows x at (length v))
+
+module _ (s : List ℕ) (x : State) (at channel : ℕ) (v : List ℕ) where
+  -- A tag without a line has neither 6 nor 7.
+  unlined : (inside : Bool) (tag : ℕ) → lineOf tag ≡ line tag (λ n. true) any → first (behind x at inside tag channel v) ≡ pick (both (eqb tag 0x0E) (not (eqb (length v) 0))) (some (refusal compressed at)) (pick (both (isGroup tag) (both (not (ignored x)) (leb (x .standing .counted) channel))) (some (refusal channelNumber at)) (first (only (eqb tag 0x1E) (frameRows x at (length v)))))
+  unfolding valueRows
+  unlined inside tag e = simp (e, both-false)
+
+  pub mark-first : (inside : Bool) → none ≡ first (behind x at inside 0x00 channel v)
+  unfolding lineIn
+  mark-first inside = sym (unlined inside 0x00 refl)
+
+  compressed-first : stopped at (carried s x (compressedEffect v)) ≡ first (behind x at false 0x0E channel v)
+  unfolding compressedEffect carried lineIn
+  compressed-first = by (eqb (length v) 0) ∙ sym (unlined false 0x0E refl)
+    where
+      by : (z : Bool) → stopped at (carried s x (pick z Effect.Pass (Effect.Refused compressed))) ≡ pick (not z) (some (refusal compressed at)) none
+      by true = refl
+      by false = refl
+
+  waveform-first : Framable x (length v) → (start : ℕ) → stopped at (carried s x (Effect.Frame start (length v))) ≡ first (behind x at false 0x1E channel v)
+  unfolding lineIn
+  waveform-first f start = frame-first s x at start (length v) f ∙ sym (unlined false 0x1E refl)
+
+  pub group-first : (inside : Bool) (tag : ℕ) → isGroup tag ≡ true → stopped at (carried s x (groupEffect (x .standing) channel)) ≡ first (behind x at inside tag channel v)
+  unfolding groupEffect carried lineIn
+  group-first inside tag g = rw (eqb-true tag 0x3F g) (rw (leb-not (x .standing .counted) channel) (by (ignored x) (ltb channel (x .standing .counted))) ∙ sym (unlined inside 0x3F refl))
+    where
+      by : (z t : Bool) → stopped at (carried s x (pick z Effect.Pass (pick t Effect.Pass (Effect.Refused channelNumber)))) ≡ pick (both (not z) (not t)) (some (refusal channelNumber at)) none
+      by true t = refl
+      by false true = refl
+      by false false = refl
+
+  pub plain-first : Framable x (length v) → (start tag : ℕ) → isGroup tag ≡ false → stopped at (carried s x (plainEffect (x .standing) tag start v (tagged tag))) ≡ first (behind x at false tag channel v)
+  unfolding tagged plainEffect rootEffect valueRows
+  plain-first f start tag g = by (ℕ-discrete tag 0x0E) (ℕ-discrete tag 0x1E)
+    where
+      by : Dec (tag ≡ 0x0E) → Dec (tag ≡ 0x1E) → stopped at (carried s x (plainEffect (x .standing) tag start v (tagged tag))) ≡ first (behind x at false tag channel v)
+      by (yes e) w = rw e compressed-first
+      by (no c) (yes e) = rw e (waveform-first f start)
+      by (no c) (no w) = rw (ne-eqb tag 0x0E c, ne-eqb tag 0x1E w, g) (tag-takes s x at v tag (ne-eqb tag 0x0E c) (ne-eqb tag 0x1E w) .plain start)
+
+  -- A tag that may stand in a group is none of those that may not.
+  unbarred : (tag t : ℕ) → rootOnly tag ≡ false → rootOnly t ≡ true → eqb tag t ≡ false
+  unbarred tag t f h = ne-eqb tag t (λ e. let r : rootOnly tag ≡ true = rw e h in let z : _≡_ {A = ℕ} 0 1 = cc in omega arith)
+
+  pub member-first : (group tag : ℕ) → isGroup tag ≡ false → rootOnly tag ≡ false → stopped at (carried s x (pick (eqb (x .standing .counted) 0) Effect.Pass (memberEffect (x .standing) group v (tagged tag)))) ≡ first (behind x at true tag channel v)
+  unfolding valueRows rootOnly carried
+  member-first group tag g f =
+      let c = unbarred tag 0x0E f refl in
+      let w = unbarred tag 0x1E f refl in
+      rw (c, g, w) (by (eqb (x .standing .counted) 0) (memberEffect (x .standing) group v (tagged tag)) _ _ (tag-takes s x at v tag c w .member f group))
+    where
+      by : (z : Bool) (e : Effect) (a b : Bool) → stopped at (carried s x e) ≡ pick a (some (refusal unfitLength at)) (pick b (some (refusal unfitValue at)) none) → stopped at (carried s x (pick z Effect.Pass e)) ≡ pick (both (not z) a) (some (refusal unfitLength at)) (pick (both (not z) b) (some (refusal unfitValue at)) none)
+      by true e a b h = refl
+      by false e a b h = h
