@@ -32,12 +32,12 @@ use Rattle.effects.specs.Effects.{valueAt, effectOf}
 use Rattle.pass.specs.Verdict.{State, Outcome, goes, refuses, firstState, carried, placeAt, Verdict, refused, interpret, verdict}
 use Rattle.pass.proofs.Keeps.{meaning, firstCursor, items-first, interpret-goes, interpret-refuses, interpret-fault, verdict-law}
 use Rattle.reader.proofs.Good.{both-split}
-use Rattle.reader.proofs.Never.{Filled, filled-keeps, filled-first, octets-some}
-use Rattle.theorems.specs.Rows.{isGroup, lengthOctets, lengthIn, valueIn, lengthField, channelNamed, headRows, itemRows, endRows, rowsAt}
+use Rattle.theorems.specs.Rows.{isGroup, lengthOctets, lengthIn, valueIn, channelNamed, itemRows, endRows, rowsAt}
 use Rattle.theorems.specs.Refusing.{Reached, begin, taken, around, ahead, DueAt, Refusing, overLimit, stops}
 use Rattle.theorems.proofs.Due.{first, due-exactly, otherwise, first-append}
 use Rattle.theorems.proofs.HeadRows.{Reads, head-reads}
-use Rattle.theorems.proofs.ValueRows.{stopped, Framable, behind, mark-first, group-first, plain-first, member-first}
+use Rattle.theorems.proofs.FrameRows.{Framable, stopped, reached-framable}
+use Rattle.theorems.proofs.ValueRows.{behind, mark-first, group-first, plain-first, member-first}
 
 -- ---- the value of an item
 
@@ -63,78 +63,57 @@ module _ (s : List ℕ) (x : State) where
   answer Next.End = none
   answer (Next.Refused r) = some r
 
-  rows-split : (at : ℕ) (inside : Bool) (tag : ℕ) (u : List ℕ) → first (itemRows x at inside tag u) ≡ otherwise (first (headRows at inside tag u)) (first (behind x at inside tag (channelNamed u) (valueIn (lengthField tag u))))
-  unfolding itemRows
-  rows-split at inside tag u = first-append (headRows at inside tag u) (behind x at inside tag (channelNamed u) (valueIn (lengthField tag u)))
-
   end-first : (w : Within) → answer (ended w) ≡ first (endRows w)
   end-first Within.Root = refl
   end-first (Within.Definite channel end) = refl
   end-first (Within.Open channel place) = refl
 
   module _ (at tag : ℕ) (u : List ℕ) where
-    -- The rows behind a head that is read and has no channel number.
-    rows-behind : (inside : Bool) → first (headRows at inside tag u) ≡ none → isGroup tag ≡ false → first (itemRows x at inside tag u) ≡ first (behind x at inside tag (channelNamed u) (valueIn u))
-    rows-behind inside n g = rows-split at inside tag u ∙ rw (n, g)
+    -- The rows of the head come first.
+    rows-split : (inside : Bool) → first (itemRows x at inside tag u) ≡ otherwise (first (take 6 (itemRows x at inside tag u))) (first (behind x at inside tag u))
+    rows-split inside = ap first (sym (take-append-drop 6 (itemRows x at inside tag u))) ∙ first-append (take 6 (itemRows x at inside tag u)) (behind x at inside tag u)
 
-    group-found : (w : Within) (channel : ℕ) → first (headRows at (isInside w) tag u) ≡ none → isGroup tag ≡ true → channel ≡ channelNamed u → stopped at (meaning s x (Item.Group at channel)) ≡ first (itemRows x at (isInside w) tag u)
+    rows-behind : (inside : Bool) → first (take 6 (itemRows x at inside tag u)) ≡ none → first (itemRows x at inside tag u) ≡ first (behind x at inside tag u)
+    rows-behind inside n = rows-split inside ∙ ap (λ (o : Option Refusal). otherwise o (first (behind x at inside tag u))) n
+
+    group-found : (inside : Bool) (channel : ℕ) → first (take 6 (itemRows x at inside tag u)) ≡ none → isGroup tag ≡ true → channel ≡ channelNamed u → stopped at (meaning s x (Item.Group at channel)) ≡ first (itemRows x at inside tag u)
     unfolding effectOf
-    group-found w channel n g c = rw (rows-split at (isInside w) tag u, n, c) (group-first s x at (channelNamed u) (valueIn (lengthField tag u)) (isInside w) tag g)
+    group-found inside channel n g c = rw (rows-behind inside n, c) (group-first s x at u inside tag g)
 
-    member-found : (channel start len : ℕ) → first (headRows at true tag u) ≡ none → rootOnly tag ≡ false → isGroup tag ≡ false → valueAt s start len ≡ valueIn u → stopped at (meaning s x (Item.Member at channel tag start len)) ≡ first (itemRows x at true tag u)
+    member-found : (channel start len : ℕ) → first (take 6 (itemRows x at true tag u)) ≡ none → rootOnly tag ≡ false → isGroup tag ≡ false → valueAt s start len ≡ valueIn u → stopped at (meaning s x (Item.Member at channel tag start len)) ≡ first (itemRows x at true tag u)
     unfolding effectOf
-    member-found channel start len n r g e = rw (rows-behind true n g, e) (member-first s x at (channelNamed u) (valueIn u) channel tag g r)
+    member-found channel start len n r g e = rw (rows-behind true n, e) (member-first s x at u channel tag g r)
 
-    plain-found : Framable x (length (valueIn u)) → (start len : ℕ) → first (headRows at false tag u) ≡ none → isGroup tag ≡ false → valueAt s start len ≡ valueIn u → stopped at (meaning s x (Item.Plain at tag start len)) ≡ first (itemRows x at false tag u)
+    plain-found : Framable x (valueIn u) → (start len : ℕ) → first (take 6 (itemRows x at false tag u)) ≡ none → isGroup tag ≡ false → valueAt s start len ≡ valueIn u → stopped at (meaning s x (Item.Plain at tag start len)) ≡ first (itemRows x at false tag u)
     unfolding effectOf
-    plain-found f start len n g e = rw (rows-behind false n g, e) (plain-first s x at (channelNamed u) (valueIn u) f start tag g)
+    plain-found f start len n g e = rw (rows-behind false n, e) (plain-first s x at u f start tag g)
 
-    mark-found : first (headRows at true tag u) ≡ none → tag ≡ 0 → isGroup tag ≡ false → stopped at (meaning s x (Item.Mark at)) ≡ first (itemRows x at true tag u)
+    mark-found : first (take 6 (itemRows x at true tag u)) ≡ none → tag ≡ 0 → stopped at (meaning s x (Item.Mark at)) ≡ first (itemRows x at true tag u)
     unfolding effectOf carried
-    mark-found n z g = rw (rows-behind true n g, z) (mark-first s x at (channelNamed u) (valueIn u) true)
+    mark-found n z = rw (rows-behind true n, z) (mark-first s x at u)
 
-    item-first : Framable x (length (valueIn u)) → (w : Within) → extent s at w ≡ tag ∷ u → (h : Head) → Reads (first (headRows at (isInside w) tag u)) at (isInside w) tag u h → answer (itemOf at w h) ≡ first (itemRows x at (isInside w) tag u)
+    item-first : Framable x (valueIn u) → (w : Within) → extent s at w ≡ tag ∷ u → (h : Head) → Reads (first (take 6 (itemRows x at (isInside w) tag u))) at (isInside w) tag u h → answer (itemOf at w h) ≡ first (itemRows x at (isInside w) tag u)
     unfolding itemOf placeAt
-    item-first f w e (Head.Refused n) p = rw (rows-split at (isInside w) tag u, p)
-    item-first f w e (Head.Definite channel start len) p = group-found w channel (p .0) (p .1) (p .2)
-    item-first f w e (Head.Open channel start) p = group-found w channel (p .0) (p .1) (p .2)
+    item-first f w e (Head.Refused n) p = rw (rows-split (isInside w), p)
+    item-first f w e (Head.Definite channel start len) p = group-found (isInside w) channel (p .0) (p .1) (p .2)
+    item-first f w e (Head.Open channel start) p = group-found (isInside w) channel (p .0) (p .1) (p .2)
     item-first f Within.Root e (Head.Primitive t start len) p =
         rw (p .1) (plain-found f (at + start) len (p .0) (p .3) (value-same s at Within.Root tag u e start len (p .4) (p .5) (p .6)))
     item-first f (Within.Definite channel end) e (Head.Primitive t start len) p =
         rw (p .1) (member-found channel (at + start) len (p .0) (p .2) (p .3) (value-same s at (Within.Definite channel end) tag u e start len (p .4) (p .5) (p .6)))
     item-first f (Within.Open channel place) e (Head.Primitive t start len) p =
         pick-cases (λ (n : Next). answer n ≡ first (itemRows x at true tag u)) (endsOpen t len)
-        (λ m. mark-found (p .0) (sym (p .1) ∙ eqb-true t 0 (both-split (eqb t 0) (eqb len 0) m .0)) (p .3))
+        (λ m. mark-found (p .0) (sym (p .1) ∙ eqb-true t 0 (both-split (eqb t 0) (eqb len 0) m .0)))
         (λ m. rw (p .1) (member-found channel (at + start) len (p .0) (p .2) (p .3) (value-same s at (Within.Open channel place) tag u e start len (p .4) (p .5) (p .6))))
 
   -- What is refused at a cursor is what the first row gives whose condition holds there.
-  cursor-first : (c : Cursor) → ((tag : ℕ) (u : List ℕ) → ahead s c ≡ tag ∷ u → Framable x (length (valueIn u))) → answer (nextOf s c) ≡ first (rowsAt x (c .at) (around c) (ahead s c))
+  cursor-first : (c : Cursor) → ((tag : ℕ) (u : List ℕ) → ahead s c ≡ tag ∷ u → Framable x (valueIn u)) → answer (nextOf s c) ≡ first (rowsAt x (c .at) (around c) (ahead s c))
   unfolding nextOf nextIn rowsAt
   cursor-first c framable = by (ahead s c) refl
     where
       by : (u : List ℕ) → ahead s c ≡ u → answer (nextIn (c .at) (around c) u) ≡ first (rowsAt x (c .at) (around c) u)
       by [] e = end-first (around c)
-      by (tag ∷ u) e = item-first (c .at) tag u (framable tag u e) (around c) e (headOf (isInside (around c)) (tag ∷ u)) (head-reads (c .at) (isInside (around c)) tag u)
-
--- ---- the cursors that are reached
-
--- A waveform that is met meets neither of the two tests ahead of 11.
-reached-filled : (s : List ℕ) (x : State) (c : Cursor) → Reached s x c → Filled s x c
-reached-filled s _ _ begin = filled-first s
-reached-filled s _ _ (taken x c i d y r e m) = filled-keeps s x c i d y (reached-filled s x c r) e m
-
-ahead-short : (s : List ℕ) (at : ℕ) (w : Within) → length (extent s at w) ≤ length s
-ahead-short s at Within.Root = omega (arith, length-drop at s)
-ahead-short s at (Within.Definite channel end) = omega (arith, length-take (end - at) (drop at s), length-drop at s)
-ahead-short s at (Within.Open channel place) = omega (arith, length-drop at s)
-
-reached-framable : (s : List ℕ) → length s ≤ octetsLimit → (x : State) (c : Cursor) → Reached s x c → (tag : ℕ) (u : List ℕ) → ahead s c ≡ tag ∷ u → Framable x (length (valueIn u))
-reached-framable s h x c r tag u e =
-    let w = drop (lengthOctets u) u in
-    record {
-      filled = octets-some s x c (reached-filled s x c r);
-      small = omega (arith, ap length e, ahead-short s (c .at) (around c), length-take (lengthIn u) w, length-drop (lengthOctets u) u);
-    }
+      by (tag ∷ u) e = item-first (c .at) tag u (framable tag u e) (around c) e (headOf (isInside (around c)) (tag ∷ u)) (head-reads x (c .at) (isInside (around c)) tag u)
 
 -- ---- a file
 

@@ -24,8 +24,8 @@ use Rattle.heads.specs.declared.Head.{Head}
 use Rattle.heads.specs.Refusals.{contextTag, lengthOctet, pastEnd, longChannel, barredTag}
 use Rattle.heads.specs.Head.{channelOf, lengthOf, unknownContext, rootOnly, primitiveHead, groupLength, groupHead, headOf}
 use Rattle.items.specs.Walk.{refusal}
-use Rattle.theorems.specs.Attributes.{among}
-use Rattle.theorems.specs.Rows.{isGroup, marked, sevenFrom, channelOctets, channelNamed, lengthFirst, lengthOctets, lengthIn, lengthField, only, channelRows, lengthRows, headRows}
+use Rattle.pass.specs.Verdict.{State}
+use Rattle.theorems.specs.Rows.{Row, row, isGroup, marked, sevenFrom, channelOctets, channelNamed, lengthFirst, lengthOctets, lengthIn, isUnknown, isBarred, longNumber, numberPast, noLength, valuePast, itemRows}
 use Rattle.theorems.proofs.Due.{first}
 
 -- ---- the length field
@@ -55,6 +55,10 @@ length-by (b ∷ u) =
       (λ l. let m = ltb-true (length u) (b - 128) l in (omega arith, omega arith, other))
       (λ l. let m = ltb-false (length u) (b - 128) l in (omega arith, rw t, omega arith, omega arith, other)))))
 
+-- The rows of a length field, in a group's head or not.
+abbrev lengthRows : ℕ → Bool → List ℕ → List Row
+lengthRows at group w = row lengthOctet at (noLength group w) ∷ row pastEnd at (valuePast w) ∷ []
+
 -- What a length field gives, where `rest` octets are left from its first on.
 abbrev lengthAnswer : ℕ → Bool → ℕ → Length → Option Refusal
 lengthAnswer at group rest (Length.Known n octets) = pick (ltb (rest - octets) n) (some (refusal pastEnd at)) none
@@ -75,7 +79,6 @@ unfolding bigFrom
 open-none w e = rw e
 
 length-first : (at : ℕ) (group : Bool) (w : List ℕ) (l : Length) → LengthBy w l → first (lengthRows at group w) ≡ lengthAnswer at group (length w) l
-unfolding lengthRows
 length-first at group w (Length.Known n octets) p =
     simp (lt-leb 0x85 (lengthFirst w) (p .3), ne-eqb (lengthFirst w) 0x80 (p .4), past-same (length w) (lengthOctets w) (lengthIn w) (omega arith), p .0, p .1)
 length-first at group w (Length.Open octets) p =
@@ -142,8 +145,8 @@ module _ (at : ℕ) (inside : Bool) (tag : ℕ) (u : List ℕ) where
   length-reads g channel k rest e Length.PastEnd = refl
   length-reads g channel k rest e Length.Bad = refl
 
-  group-reads : isGroup tag ≡ true → (c : Channel) → ChannelBy 4 0 0 u c → Reads (first (channelRows at u ++ lengthRows at true (drop (channelOctets u) u))) at inside tag u (groupHead u c)
-  unfolding groupHead channelRows
+  group-reads : isGroup tag ≡ true → (c : Channel) → ChannelBy 4 0 0 u c → Reads (first (row longChannel at (longNumber u) ∷ row pastEnd at (numberPast u) ∷ lengthRows at true (drop (channelOctets u) u))) at inside tag u (groupHead u c)
+  unfolding groupHead
   group-reads g (Channel.Number channel k) c =
       let w = drop (channelOctets u) u in
       let e : k ≡ channelOctets u = omega arith in
@@ -153,18 +156,19 @@ module _ (at : ℕ) (inside : Bool) (tag : ℕ) (u : List ℕ) where
   group-reads g Channel.TooLong c = simp (eq-eqb (marked 4 u) 4 c)
 
 -- The tags that may not stand inside a group.
-either-false : (t : Bool) → either t false ≡ t
+pub either-false : (t : Bool) → either t false ≡ t
 either-false true = refl
 either-false false = refl
 
-barred-same : (tag : ℕ) → among (0x01 ∷ 0x05 ∷ 0x06 ∷ 0x07 ∷ 0x0E ∷ 0x1E ∷ 0x3F ∷ []) tag ≡ rootOnly tag
-unfolding rootOnly
+barred-same : (tag : ℕ) → isBarred tag ≡ rootOnly tag
+unfolding isBarred rootOnly
 barred-same tag = rw (either-false (isGroup tag))
 
-pub head-reads : (at : ℕ) (inside : Bool) (tag : ℕ) (u : List ℕ) → Reads (first (headRows at inside tag u)) at inside tag u (headOf inside (tag ∷ u))
-unfolding headOf headRows unknownContext
-head-reads at inside tag u =
-    let P : Head → Type 0 = Reads (first (headRows at inside tag u)) at inside tag u in
+-- The rows of a head are the first six of an item's.
+pub head-reads : (x : State) (at : ℕ) (inside : Bool) (tag : ℕ) (u : List ℕ) → Reads (first (take 6 (itemRows x at inside tag u))) at inside tag u (headOf inside (tag ∷ u))
+unfolding headOf itemRows unknownContext isUnknown
+head-reads x at inside tag u =
+    let P : Head → Type 0 = Reads (first (take 6 (itemRows x at inside tag u))) at inside tag u in
     pick-cases P (unknownContext tag) (λ e. rw e)
     (λ e. pick-cases P (both inside (rootOnly tag)) (λ b. rw (e, barred-same tag, b))
     (λ b. pick-cases P (isGroup tag)

@@ -1,6 +1,7 @@
 pub mod Questions
 pub mod Due
 pub mod HeadRows
+pub mod FrameRows
 pub mod ValueRows
 pub mod Exactly
 pub mod Places

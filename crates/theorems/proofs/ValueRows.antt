@@ -38,8 +38,10 @@ use Rattle.effects.specs.Effects.{orderEffect, countEffect, sequencesEffect, st
 use Rattle.pass.specs.Verdict.{State, Outcome, goes, refuses, frameChannels, withFrame, carried}
 use Rattle.reader.proofs.Every.{Every}
 use Rattle.theorems.specs.Attributes.{Line, line, among, between, any, attributes, lineIn, lineOf}
-use Rattle.theorems.specs.Rows.{Row, isGroup, only, ignored, valueRows, frameRows}
+use Rattle.theorems.specs.Rows.{Row, isGroup, channelNamed, valueIn, uncounted, given, itemRows}
 use Rattle.theorems.proofs.Due.{first}
+use Rattle.theorems.proofs.HeadRows.{either-false}
+use Rattle.theorems.proofs.FrameRows.{Framable, stopped, frame-first}
 
 -- ---- tests that say the same
 
@@ -63,10 +65,6 @@ zero-one (suc zero) = refl
 zero-one (suc (suc n)) =
     rw (ne-eqb (suc (suc n)) 0 (λ e. omega arith), ne-eqb (suc (suc n)) 1 (λ e. omega arith), lt-leb (suc (suc n)) 1 (omega arith))
 
-either-false : (t : Bool) → either t false ≡ t
-either-false true = refl
-either-false false = refl
-
 width-same : (n : ℕ) → among (0 ∷ 1 ∷ 2 ∷ 4 ∷ 8 ∷ []) n ≡ bitsLength n
 width-same zero = refl
 width-same (suc zero) = refl
@@ -81,12 +79,7 @@ width-same (suc (suc (suc n))) =
 abbrev lineAnswer : ℕ → Line → Bool → List ℕ → Option Refusal
 lineAnswer at l little v =
     pick (not (l .lengths (length v))) (some (refusal unfitLength at))
-    (pick (both (not (eqb (length v) 0)) (not (l .values little v))) (some (refusal unfitValue at)) none)
-
--- What an outcome gives at a place.
-abbrev pub stopped : ℕ → Outcome → Option Refusal
-stopped at (goes y) = none
-stopped at (refuses n) = some (refusal n at)
+    (pick (both (given v) (not (l .values little v))) (some (refusal unfitValue at)) none)
 
 -- A line has the lengths of an attribute, and of those lengths the values, as the tests have them.
 abbrev Lengths : Attribute → Line → Type 0
@@ -251,7 +244,7 @@ module _ (s : List ℕ) (x : State) (at : ℕ) (v : List ℕ) where
   other-takes tag n c w =
       let other : tagged tag ≡ Tagged.Other =
           simp (n 0x04 refl, n 0x08 refl, n 0x09 refl, n 0x0A refl, n 0x0B refl, n 0x0C refl, n 0x0D refl, n 0x12 refl) in
-      let none-due : answer (line tag (λ n. true) any) ≡ none = rw (both-false (not (eqb (length v) 0))) in
+      let none-due : answer (line tag (λ n. true) any) ≡ none = rw (both-false (given v)) in
       record {
         plain = λ start. rw other (simp (n 0x01 refl, n 0x05 refl, n 0x06 refl, n 0x07 refl, c, w) (sym none-due));
         member = λ f channel. rw other (sym none-due);
@@ -260,86 +253,62 @@ module _ (s : List ℕ) (x : State) (at : ℕ) (v : List ℕ) where
   tag-takes : (tag : ℕ) → eqb tag 0x0E ≡ false → eqb tag 0x1E ≡ false → Takes tag (lineOf tag)
   tag-takes tag c w = line-law Takes attributes tag lines-take (λ n. other-takes tag n c w)
 
--- ---- a waveform
-
--- The two tests that a waveform meets ahead of 11, and that no file reaches (reader/proofs/Never.antt): a sequence has octets, and no waveform is
--- longer than a file may be.
-pub record Framable (x : State) (long : ℕ) : Type 0 where
-  pub filled : 0 < sequenceOctets (frameChannels x)
-  pub small : long ≤ octetsLimit
-
-module _ (s : List ℕ) (x : State) (at start long : ℕ) where
-  framed-pick : (t : Bool) (n : ℕ) (r : Framed) (o : Option Refusal) → stopped at (withFrame s x start long r) ≡ o → stopped at (withFrame s x start long (pick t (Framed.Refused n) r)) ≡ pick t (some (refusal n at)) o
-  unfolding withFrame
-  framed-pick true n r o e = refl
-  framed-pick false n r o e = e
-
-  frame-first : Framable x long → stopped at (carried s x (Effect.Frame start long)) ≡ first (frameRows x at long)
-  unfolding carried framedAs frameRows withFrame
-  frame-first f =
-      let octets = sequenceOctets (frameChannels x) in
-      rw (ne-eqb octets 0 (λ q. omega arith), le-ltb octetsLimit long (omega arith))
-      (framed-pick (leb framesLimit (length (x .frames))) manyFrames _ _
-      (framed-pick (not (allAgree (frameChannels x))) sampleWidth _ _
-      (framed-pick (not (pointerFits (x .standing .start))) startRange _ _
-      (framed-pick (ltb long (sequencesOf (x .standing .sequences) long octets * octets)) shortWaveform _ none refl))))
-
 -- ---- every item
 
 -- The rows behind those of the head.
-abbrev pub behind : State → ℕ → Bool → ℕ → ℕ → List ℕ → List Row
-behind x at inside tag channel v = valueRows x at inside tag channel v ++ only (eqb tag 0x1E) (frameRows x at (length v))
+abbrev pub behind : State → ℕ → Bool → ℕ → List ℕ → List Row
+behind x at inside tag u = drop 6 (itemRows x at inside tag u)
 
-module _ (s : List ℕ) (x : State) (at channel : ℕ) (v : List ℕ) where
-  -- A tag without a line has neither 6 nor 7.
-  unlined : (inside : Bool) (tag : ℕ) → lineOf tag ≡ line tag (λ n. true) any → first (behind x at inside tag channel v) ≡ pick (both (eqb tag 0x0E) (not (eqb (length v) 0))) (some (refusal compressed at)) (pick (both (isGroup tag) (both (not (ignored x)) (leb (x .standing .counted) channel))) (some (refusal channelNumber at)) (first (only (eqb tag 0x1E) (frameRows x at (length v)))))
-  unfolding valueRows
-  unlined inside tag e = simp (e, both-false)
+module _ (s : List ℕ) (x : State) (at : ℕ) (u : List ℕ) where
+  pub mark-first : none ≡ first (behind x at true 0x00 u)
+  unfolding itemRows lineIn
+  mark-first = simp both-false
 
-  pub mark-first : (inside : Bool) → none ≡ first (behind x at inside 0x00 channel v)
-  unfolding lineIn
-  mark-first inside = sym (unlined inside 0x00 refl)
-
-  compressed-first : stopped at (carried s x (compressedEffect v)) ≡ first (behind x at false 0x0E channel v)
-  unfolding compressedEffect carried lineIn
-  compressed-first = by (eqb (length v) 0) ∙ sym (unlined false 0x0E refl)
+  compressed-first : stopped at (carried s x (compressedEffect (valueIn u))) ≡ first (behind x at false 0x0E u)
+  unfolding compressedEffect carried itemRows lineIn
+  compressed-first = rw (both-false (given (valueIn u))) (by (eqb (length (valueIn u)) 0))
     where
       by : (z : Bool) → stopped at (carried s x (pick z Effect.Pass (Effect.Refused compressed))) ≡ pick (not z) (some (refusal compressed at)) none
       by true = refl
       by false = refl
 
-  waveform-first : Framable x (length v) → (start : ℕ) → stopped at (carried s x (Effect.Frame start (length v))) ≡ first (behind x at false 0x1E channel v)
-  unfolding lineIn
-  waveform-first f start = frame-first s x at start (length v) f ∙ sym (unlined false 0x1E refl)
+  waveform-first : Framable x (valueIn u) → (start : ℕ) → stopped at (carried s x (Effect.Frame start (length (valueIn u)))) ≡ first (behind x at false 0x1E u)
+  unfolding itemRows lineIn
+  waveform-first f start = rw (both-false (given (valueIn u))) (frame-first s x at start u f)
 
-  pub group-first : (inside : Bool) (tag : ℕ) → isGroup tag ≡ true → stopped at (carried s x (groupEffect (x .standing) channel)) ≡ first (behind x at inside tag channel v)
-  unfolding groupEffect carried lineIn
-  group-first inside tag g = rw (eqb-true tag 0x3F g) (rw (leb-not (x .standing .counted) channel) (by (ignored x) (ltb channel (x .standing .counted))) ∙ sym (unlined inside 0x3F refl))
+  pub group-first : (inside : Bool) (tag : ℕ) → isGroup tag ≡ true → stopped at (carried s x (groupEffect (x .standing) (channelNamed u))) ≡ first (behind x at inside tag u)
+  unfolding groupEffect carried itemRows lineIn
+  group-first inside tag g =
+      rw (eqb-true tag 0x3F g, leb-not (x .standing .counted) (channelNamed u))
+      (simp both-false (by (uncounted x) (ltb (channelNamed u) (x .standing .counted))))
     where
       by : (z t : Bool) → stopped at (carried s x (pick z Effect.Pass (pick t Effect.Pass (Effect.Refused channelNumber)))) ≡ pick (both (not z) (not t)) (some (refusal channelNumber at)) none
       by true t = refl
       by false true = refl
       by false false = refl
 
-  pub plain-first : Framable x (length v) → (start tag : ℕ) → isGroup tag ≡ false → stopped at (carried s x (plainEffect (x .standing) tag start v (tagged tag))) ≡ first (behind x at false tag channel v)
-  unfolding tagged plainEffect rootEffect valueRows
+  pub plain-first : Framable x (valueIn u) → (start tag : ℕ) → isGroup tag ≡ false → stopped at (carried s x (plainEffect (x .standing) tag start (valueIn u) (tagged tag))) ≡ first (behind x at false tag u)
+  unfolding tagged plainEffect rootEffect itemRows
   plain-first f start tag g = by (ℕ-discrete tag 0x0E) (ℕ-discrete tag 0x1E)
     where
-      by : Dec (tag ≡ 0x0E) → Dec (tag ≡ 0x1E) → stopped at (carried s x (plainEffect (x .standing) tag start v (tagged tag))) ≡ first (behind x at false tag channel v)
+      by : Dec (tag ≡ 0x0E) → Dec (tag ≡ 0x1E) → stopped at (carried s x (plainEffect (x .standing) tag start (valueIn u) (tagged tag))) ≡ first (behind x at false tag u)
       by (yes e) w = rw e compressed-first
       by (no c) (yes e) = rw e (waveform-first f start)
-      by (no c) (no w) = rw (ne-eqb tag 0x0E c, ne-eqb tag 0x1E w, g) (tag-takes s x at v tag (ne-eqb tag 0x0E c) (ne-eqb tag 0x1E w) .plain start)
+      by (no c) (no w) =
+          let c0E = ne-eqb tag 0x0E c in
+          let w1E = ne-eqb tag 0x1E w in
+          rw (c0E, w1E, g) (tag-takes s x at (valueIn u) tag c0E w1E .plain start)
 
   -- A tag that may stand in a group is none of those that may not.
   unbarred : (tag t : ℕ) → rootOnly tag ≡ false → rootOnly t ≡ true → eqb tag t ≡ false
   unbarred tag t f h = ne-eqb tag t (λ e. let r : rootOnly tag ≡ true = rw e h in let z : _≡_ {A = ℕ} 0 1 = cc in omega arith)
 
-  pub member-first : (group tag : ℕ) → isGroup tag ≡ false → rootOnly tag ≡ false → stopped at (carried s x (pick (eqb (x .standing .counted) 0) Effect.Pass (memberEffect (x .standing) group v (tagged tag)))) ≡ first (behind x at true tag channel v)
-  unfolding valueRows rootOnly carried
-  member-first group tag g f =
+  pub member-first : (channel tag : ℕ) → isGroup tag ≡ false → rootOnly tag ≡ false → stopped at (carried s x (pick (uncounted x) Effect.Pass (memberEffect (x .standing) channel (valueIn u) (tagged tag)))) ≡ first (behind x at true tag u)
+  unfolding itemRows rootOnly carried
+  member-first channel tag g f =
       let c = unbarred tag 0x0E f refl in
       let w = unbarred tag 0x1E f refl in
-      rw (c, g, w) (by (eqb (x .standing .counted) 0) (memberEffect (x .standing) group v (tagged tag)) _ _ (tag-takes s x at v tag c w .member f group))
+      rw (c, g, w) (by (uncounted x) (memberEffect (x .standing) channel (valueIn u) (tagged tag)) _ _ (tag-takes s x at (valueIn u) tag c w .member f channel))
     where
       by : (z : Bool) (e : Effect) (a b : Bool) → stopped at (carried s x e) ≡ pick a (some (refusal unfitLength at)) (pick b (some (refusal unfitValue at)) none) → stopped at (carried s x (pick z Effect.Pass e)) ≡ pick (both (not z) a) (some (refusal unfitLength at)) (pick (both (not z) b) (some (refusal unfitValue at)) none)
       by true e a b h = refl

@@ -1,6 +1,6 @@
 -- The rows of the table "What comes back when it is no" (document 01) that an item can meet, in the order in which they are looked for.
 use mathlib.Core.Path.{_≡_}
-use mathlib.Core.List.{List, [], _∷_, _++_}
+use mathlib.Core.List.{List, [], _∷_}
 use mathlib.Core.Bool.{Bool, true, false, not}
 use Prim.Native.Nat.{ℕ, zero, suc, _+_, _-_, _*_, _/_, _%_}
 use lib.Dec.{ltb, leb, eqb}
@@ -30,11 +30,7 @@ pub data Due : List Row → Refusal → Type 0 where
   here : (r : Row) (rs : List Row) → r .holds ≡ true → Due (r ∷ rs) (r .gives)
   later : (r : Row) (rs : List Row) (q : Refusal) → r .holds ≡ false → Due rs q → Due (r ∷ rs) q
 
--- ---- the parts of an item, from the octets behind its tag
-
--- Bit 6 (20h) of a tag marks a context tag.
-abbrev pub isContext : ℕ → Bool
-isContext tag = eqb (tag / 32 % 2) 1
+-- ---- the parts of an item, from the octets u behind its tag
 
 abbrev pub isGroup : ℕ → Bool
 isGroup tag = eqb tag 0x3F
@@ -43,7 +39,7 @@ isGroup tag = eqb tag 0x3F
 unfoldable pub marked : ℕ → List ℕ → ℕ
 marked zero u = 0
 marked (suc most) [] = 0
-marked (suc most) (b ∷ u) = pick (ltb b 128) 0 (suc (marked most u))
+marked (suc most) (b ∷ u) = pick (ltb b 0x80) 0 (suc (marked most u))
 
 -- The number that octets of seven bits stand for, highest first, after those whose number is acc.
 unfoldable pub sevenFrom : ℕ → List ℕ → ℕ
@@ -57,81 +53,89 @@ channelOctets u = suc (marked 4 u)
 abbrev pub channelNamed : List ℕ → ℕ
 channelNamed u = sevenFrom 0 (take (channelOctets u) u)
 
--- 3Fh has a channel number between tag and length.
-abbrev pub lengthField : ℕ → List ℕ → List ℕ
-lengthField tag u = pick (isGroup tag) (drop (channelOctets u) u) u
+-- 3Fh has a channel number between tag and length: the octets from the length on.
+abbrev pub fromLength : ℕ → List ℕ → List ℕ
+fromLength tag u = pick (isGroup tag) (drop (channelOctets u) u) u
 
--- The first octet of a length field, and how many octets the field has: 81 to 84 say how many follow.
+-- Length 00 to 7F: that many octets. 81 to 84: that many length octets follow. 80h: open length, which says none.
 abbrev pub lengthFirst : List ℕ → ℕ
 lengthFirst w = getD w 0 0
 
 abbrev pub lengthOctets : List ℕ → ℕ
 lengthOctets w = suc (lengthFirst w - 0x80)
 
--- Length 00 to 7F: that many octets. 81 to 84: the octets that follow say it; 80h, which nothing follows, says none.
 abbrev pub lengthIn : List ℕ → ℕ
 lengthIn w = pick (ltb (lengthFirst w) 0x80) (lengthFirst w) (bigFrom 0 (take (lengthFirst w - 0x80) (drop 1 w)))
 
 abbrev pub valueIn : List ℕ → List ℕ
 valueIn w = take (lengthIn w) (drop (lengthOctets w) w)
 
--- ---- the rows of an item at a place, in order
+-- ---- conditions
 
--- Rows that are looked for only where a test holds.
-abbrev pub only : Bool → List Row → List Row
-only test rows = pick test rows []
+-- Bit 6 (20h) of a tag marks a context tag; only 3Fh is known.
+unfoldable pub isUnknown : ℕ → Bool
+isUnknown tag = both (eqb (tag / 0x20 % 2) 1) (not (isGroup tag))
 
--- 4 or 3 as met: the fourth octet of the channel number has its top bit set, or the number runs past the end.
-unfoldable pub channelRows : ℕ → List ℕ → List Row
-channelRows at u =
-    row longChannel at (eqb (marked 4 u) 4)
-    ∷ row pastEnd at (eqb (marked 4 u) (length u))
-    ∷ []
+-- 01, 05, 06, 07, 0E, 1E or 3F
+unfoldable pub isBarred : ℕ → Bool
+isBarred tag = among (0x01 ∷ 0x05 ∷ 0x06 ∷ 0x07 ∷ 0x0E ∷ 0x1E ∷ 0x3F ∷ []) tag
 
--- 2, 3: the length field says no length, or it or the value runs past the end.
-unfoldable pub lengthRows : ℕ → Bool → List ℕ → List Row
-lengthRows at group w =
-    row lengthOctet at (either (leb 0x85 (lengthFirst w)) (both (eqb (lengthFirst w) 0x80) (not group)))
-    ∷ row pastEnd at (ltb (length w) (lengthOctets w + lengthIn w))
-    ∷ []
+-- The fourth channel octet has its top bit set.
+abbrev pub longNumber : List ℕ → Bool
+longNumber u = eqb (marked 4 u) 4
 
--- 1, 5, channel number (4 or 3 as met), 2, 3.
-unfoldable pub headRows : ℕ → Bool → ℕ → List ℕ → List Row
-headRows at inside tag u =
-    row contextTag at (both (isContext tag) (not (isGroup tag)))
-    ∷ row barredTag at (both inside (among (0x01 ∷ 0x05 ∷ 0x06 ∷ 0x07 ∷ 0x0E ∷ 0x1E ∷ 0x3F ∷ []) tag))
-    ∷ (only (isGroup tag) (channelRows at u) ++ lengthRows at (isGroup tag) (lengthField tag u))
+-- The channel number runs past the end.
+abbrev pub numberPast : List ℕ → Bool
+numberPast u = eqb (marked 4 u) (length u)
 
--- A group met while no channel count stands is ignored.
-abbrev pub ignored : State → Bool
-ignored x = eqb (x .standing .counted) 0
+-- Length octet 85h to FFh, or 80h not on 3Fh.
+abbrev pub noLength : Bool → List ℕ → Bool
+noLength group w = either (leb 0x85 (lengthFirst w)) (both (eqb (lengthFirst w) 0x80) (not group))
 
--- Then 9, 8, 6, 7, where v is the item's value. A value of length 0 goes back to what stands.
-unfoldable pub valueRows : State → ℕ → Bool → ℕ → ℕ → List ℕ → List Row
-valueRows x at inside tag channel v =
-    let heeded = not (both inside (ignored x)) in
-    let some = not (eqb (length v) 0) in
-    row compressed at (both (eqb tag 0x0E) some)
-    ∷ row channelNumber at (both (isGroup tag) (both (not (ignored x)) (leb (x .standing .counted) channel)))
-    ∷ row unfitLength at (both heeded (not (lineOf tag .lengths (length v))))
-    ∷ row unfitValue at (both heeded (both some (not (lineOf tag .values (x .standing .little) v))))
-    ∷ []
+-- The length or the value runs past the end.
+abbrev pub valuePast : List ℕ → Bool
+valuePast w = ltb (length w) (lengthOctets w + lengthIn w)
 
--- At 1Eh 11, 12, 13, 14, where the waveform has `long` octets.
-unfoldable pub frameRows : State → ℕ → ℕ → List Row
-frameRows x at long =
+-- No channel count stands: none yet, or the last had length 0. A group met then is ignored.
+abbrev pub uncounted : State → Bool
+uncounted x = eqb (x .standing .counted) 0
+
+-- The value has octets; length 0 goes back to what stands.
+abbrev pub given : List ℕ → Bool
+given v = not (eqb (length v) 0)
+
+-- The waveform is shorter than sequences times G.
+abbrev pub isShort : State → List ℕ → Bool
+isShort x v =
     let octets = sequenceOctets (frameChannels x) in
-    row manyFrames at (leb framesLimit (length (x .frames)))
-    ∷ row sampleWidth at (not (allAgree (frameChannels x)))
-    ∷ row startRange at (not (pointerFits (x .standing .start)))
-    ∷ row shortWaveform at (ltb long (sequencesOf (x .standing .sequences) long octets * octets))
-    ∷ []
+    ltb (length v) (sequencesOf (x .standing .sequences) (length v) octets * octets)
 
--- All of them. The place is the offset of the item's tag.
+-- ---- the rows
+
+-- The rows of an item whose tag stands at a place, inside a group or not, in document 01's order: 1, 5, channel number (4 or 3 as met), 2, 3, then 9, 8, 6,
+-- 7; at 1Eh 11, 12, 13, 14. In an ignored group only 1 to 5 are looked for. The place is the offset of the item's tag.
 unfoldable pub itemRows : State → ℕ → Bool → ℕ → List ℕ → List Row
 itemRows x at inside tag u =
-    let v = valueIn (lengthField tag u) in
-    headRows at inside tag u ++ (valueRows x at inside tag (channelNamed u) v ++ only (eqb tag 0x1E) (frameRows x at (length v)))
+    let group = isGroup tag in
+    let w = fromLength tag u in
+    let v = valueIn w in
+    let heeded = not (both inside (uncounted x)) in
+    let frame = eqb tag 0x1E in
+    row contextTag at (isUnknown tag)
+    ∷ row barredTag at (both inside (isBarred tag))
+    ∷ row longChannel at (both group (longNumber u))
+    ∷ row pastEnd at (both group (numberPast u))
+    ∷ row lengthOctet at (noLength group w)
+    ∷ row pastEnd at (valuePast w)
+    ∷ row compressed at (both (eqb tag 0x0E) (given v))
+    ∷ row channelNumber at (both group (both (not (uncounted x)) (leb (x .standing .counted) (channelNamed u))))
+    ∷ row unfitLength at (both heeded (not (lineOf tag .lengths (length v))))
+    ∷ row unfitValue at (both heeded (both (given v) (not (lineOf tag .values (x .standing .little) v))))
+    ∷ row manyFrames at (both frame (leb framesLimit (length (x .frames))))
+    ∷ row sampleWidth at (both frame (not (allAgree (frameChannels x))))
+    ∷ row startRange at (both frame (not (pointerFits (x .standing .start))))
+    ∷ row shortWaveform at (both frame (isShort x v))
+    ∷ []
 
 -- 10: open group: file ends between two of its items. The place is the group's.
 abbrev pub endRows : Within → List Row
