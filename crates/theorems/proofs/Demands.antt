@@ -1,5 +1,5 @@
 -- The three demands, over the definitions that the contracts cite.
---     demand-one      every call ends with an answer or a refusal; 15 and those from 20 up exactly when their conditions hold
+--     demand-one      every call ends with an answer or a refusal, each number exactly when its condition holds and none ahead of it does
 --     demand-two      what is told and what is written is what document 01 defines, and reads back as the same recording
 --     demand-three    no two samples share an octet, and canonical files are equal exactly when the recordings are
 -- Assumes nothing.
@@ -10,17 +10,17 @@ use mathlib.Core.List.{List}
 use lib.ListN.{length, take, drop}
 use Rattle.heads.specs.declared.Refusal.{Refusal}
 use Rattle.heads.specs.Refusals.{longFile}
-use Rattle.items.specs.Walk.{refusal, itemsOf}
 use Rattle.layout.specs.Frame.{Frame}
 use Rattle.pass.specs.declared.Checked.{Checked}
 use Rattle.reader.specs.declared.Described.{Described}
-use Rattle.standing.specs.Standing.{octetsLimit}
-use Rattle.pass.specs.Verdict.{firstState, accepted, refused, interpret, verdict, checkOf}
+use Rattle.pass.specs.Verdict.{accepted, refused, verdict, checkOf}
 use Rattle.reader.specs.Answer.{attributesIn, attributesOf}
 use Rattle.canonical.specs.declared.Written.{Written}
 use Rattle.canonical.specs.Canonical.{canonical}
 use Rattle.canonical.specs.Write.{writtenOf, leftOf}
-use Rattle.theorems.proofs.Questions.{frameAt, AnsweredBy, AttributesAnswered, SampleAnswered, check-accepted, accepted-or-refused, limit-exactly, limit-place, limit-passed, refused-answers, attributes-answered, sample-answered}
+use Rattle.theorems.specs.Refusing.{Refusing}
+use Rattle.theorems.proofs.Exactly.{refused-exactly, refused-numbered}
+use Rattle.theorems.proofs.Questions.{frameAt, AnsweredBy, AttributesAnswered, SampleAnswered, check-accepted, check-refused, accepted-or-refused, refused-answers, attributes-answered, sample-answered}
 use Rattle.theorems.proofs.Places.{Name, Exists, NamedSample, Belongs, Inside, Owned, sample-exists, sample-inside, samples-apart, octet-owned}
 use Rattle.theorems.proofs.Canonical.{recordingOf, AllOctets, Writes, ReadAgain, writes, refusal-leaves, written-file, written-again, same-written}
 
@@ -30,11 +30,9 @@ use Rattle.theorems.proofs.Canonical.{recordingOf, AllOctets, Writes, R
 -- given exactly when its condition holds and none ahead of it in that paper's order does, with the place in the file; a refusal changes no
 -- octet of the output buffer."
 pub record DemandOne (s : List ℕ) : Type 0 where
-  -- 15 comes first: exactly when the file is too long, and always at place 0.
-  pub limit : (checkOf s ≡ Checked.Refused (refusal longFile 0)) ↔ (octetsLimit < length s)
-  pub limitPlace : (r : Refusal) → checkOf s ≡ Checked.Refused r → r .number ≡ longFile → r ≡ refusal longFile 0
-  -- Else the items decide, in file order. When 1 to 14 are given, and where, is the definition `interpret` itself.
-  pub items : length s ≤ octetsLimit → verdict s ≡ interpret s firstState (itemsOf s)
+  -- 1 to 15, and where: exactly as the tables of document 01 say (specs/). 15 comes first, then the first refused item in file order decides.
+  pub refusals : (r : Refusal) → (checkOf s ≡ Checked.Refused r) ↔ Refusing s r
+  pub numbered : (r : Refusal) → checkOf s ≡ Checked.Refused r → (0 < r .number) × (r .number ≤ longFile)
   -- The file is accepted or refused.
   pub ends : ((fs : List Frame) × (verdict s ≡ accepted fs)) ⊎ ((r : Refusal) × (verdict s ≡ refused r))
   -- On a refused file every question and the writer answer its refusal.
@@ -49,9 +47,8 @@ pub record DemandOne (s : List ℕ) : Type 0 where
 pub demand-one : (s : List ℕ) → DemandOne s
 demand-one s =
     record {
-      limit = limit-exactly s;
-      limitPlace = limit-place s;
-      items = limit-passed s;
+      refusals = λ r. (λ e. refused-exactly s r .0 (check-refused s r .0 e), λ a. check-refused s r .1 (refused-exactly s r .1 a));
+      numbered = λ r e. refused-numbered s r (check-refused s r .0 e);
       ends = accepted-or-refused s;
       refusedFile = refused-answers s;
       attributes = attributes-answered s;

@@ -2,8 +2,9 @@
 -- row gives whose condition holds there; the first such cursor decides.
 --     cursor-first       what stands at a cursor, by the rows there
 --     refused-exactly    the verdict, by the rows
+--     refused-numbered   the number of a refusal
 -- Assumes nothing.
-use Prim.Native.Nat.{ℕ, suc, _+_, _-_, _≤_, _<_}
+use Prim.Native.Nat.{ℕ, _+_, _-_, _≤_, _<_}
 use mathlib.Core.Path.{_≡_, refl, sym, ap, _∙_}
 use mathlib.Core.Logic.{_↔_}
 use mathlib.Core.List.{List, [], _∷_, _++_, append-nil}
@@ -12,14 +13,14 @@ use mathlib.Core.Bool.{Bool, true, false}
 use native.Mathlib.Omega.{arith}
 use borrow.Author.Tests.{ltb-true, ltb-false, lt-ltb, le-ltb, eqb-true}
 use lib.Dec.{ltb, eqb}
-use lib.ListN.{length, take, drop, take-append-drop, length-take, length-drop}
+use lib.ListN.{length, drop, take-append-drop, length-drop}
 use lib.Seq.{drop-drop, drop-append-le, take-append-le}
-use Rattle.octets.specs.Pick.{pick, both}
+use Rattle.octets.specs.Pick.{pick}
 use Rattle.octets.proofs.Pick.{pick-cases}
 use Rattle.heads.specs.declared.Head.{Head}
 use Rattle.heads.specs.declared.Refusal.{Refusal}
 use Rattle.heads.specs.Refusals.{longFile}
-use Rattle.heads.specs.Head.{rootOnly, headOf}
+use Rattle.heads.specs.Head.{headOf}
 use Rattle.items.specs.declared.Item.{Item}
 use Rattle.items.specs.declared.Cursor.{Cursor}
 use Rattle.items.specs.declared.Within.{Within}
@@ -29,13 +30,13 @@ use Rattle.items.specs.Walk.{refusal, item, isInside, extent, ended, endsOpen, 
 use Rattle.items.proofs.Walks.{items-found, items-refused}
 use Rattle.standing.specs.Standing.{octetsLimit}
 use Rattle.effects.specs.Effects.{valueAt, effectOf}
-use Rattle.pass.specs.Verdict.{State, Outcome, goes, refuses, firstState, carried, placeAt, Verdict, refused, interpret, verdict}
+use Rattle.pass.specs.Verdict.{State, Outcome, goes, refuses, firstState, carried, placeAt, refused, interpret, verdict}
 use Rattle.pass.proofs.Keeps.{meaning, firstCursor, items-first, interpret-goes, interpret-refuses, interpret-fault, verdict-law}
 use Rattle.reader.proofs.Good.{both-split}
-use Rattle.theorems.specs.Rows.{isGroup, lengthOctets, lengthIn, valueIn, channelNamed, itemRows, endRows, rowsAt}
+use Rattle.theorems.specs.Rows.{lengthOctets, lengthIn, valueIn, itemRows, endRows, rowsAt}
 use Rattle.theorems.specs.Refusing.{Reached, begin, taken, around, ahead, DueAt, Refusing, overLimit, stops}
-use Rattle.theorems.proofs.Due.{first, due-exactly, otherwise, first-append}
-use Rattle.theorems.proofs.HeadRows.{Reads, head-reads}
+use Rattle.theorems.proofs.Due.{first, due-exactly, otherwise, first-append, due-numbered}
+use Rattle.theorems.proofs.HeadRows.{ReadPrimitive, ReadGroup, Reads, headRows, head-reads}
 use Rattle.theorems.proofs.FrameRows.{Framable, stopped, reached-framable}
 use Rattle.theorems.proofs.ValueRows.{behind, mark-first, group-first, plain-first, member-first}
 
@@ -47,11 +48,12 @@ ahead-front s at Within.Root = ([], append-nil (drop at s))
 ahead-front s at (Within.Definite channel end) = (drop (end - at) (drop at s), take-append-drop (end - at) (drop at s))
 ahead-front s at (Within.Open channel place) = ([], append-nil (drop at s))
 
-value-same : (s : List ℕ) (at : ℕ) (w : Within) (tag : ℕ) (u : List ℕ) → extent s at w ≡ tag ∷ u → (start len : ℕ) → start ≡ suc (lengthOctets u) → len ≡ lengthIn u → start + len ≤ suc (length u) → valueAt s (at + start) len ≡ valueIn u
-value-same s at w tag u e start len p q h =
+-- The value that a head leads to in the file is the one that the rows read.
+value-same : (s : List ℕ) (at : ℕ) (w : Within) (tag : ℕ) (u : List ℕ) → extent s at w ≡ tag ∷ u → (start len : ℕ) {t : ℕ} {inside : Bool} {found : Option Refusal} → ReadPrimitive found inside tag u t start len → valueAt s (at + start) len ≡ valueIn u
+value-same s at w tag u e start len p =
     let f = ahead-front s at w in
     let d = length-drop (lengthOctets u) u in
-    rw (← drop-drop start at s, ← f .1, e, p, q)
+    rw (← drop-drop start at s, ← f .1, e, p .same-start, p .same-length)
     (rw (drop-append-le (lengthOctets u) u (f .0) (omega arith)) (take-append-le (lengthIn u) (drop (lengthOctets u) u) (f .0) (omega arith)))
 
 -- ---- what stands at a cursor
@@ -70,41 +72,46 @@ module _ (s : List ℕ) (x : State) where
 
   module _ (at tag : ℕ) (u : List ℕ) where
     -- The rows of the head come first.
-    rows-split : (inside : Bool) → first (itemRows x at inside tag u) ≡ otherwise (first (take 6 (itemRows x at inside tag u))) (first (behind x at inside tag u))
-    rows-split inside = ap first (sym (take-append-drop 6 (itemRows x at inside tag u))) ∙ first-append (take 6 (itemRows x at inside tag u)) (behind x at inside tag u)
+    rows-split : (inside : Bool) → first (itemRows x at inside tag u) ≡ otherwise (first (headRows x at inside tag u)) (first (behind x at inside tag u))
+    rows-split inside = ap first (sym (take-append-drop 6 (itemRows x at inside tag u))) ∙ first-append (headRows x at inside tag u) (behind x at inside tag u)
 
-    rows-behind : (inside : Bool) → first (take 6 (itemRows x at inside tag u)) ≡ none → first (itemRows x at inside tag u) ≡ first (behind x at inside tag u)
+    rows-behind : (inside : Bool) → first (headRows x at inside tag u) ≡ none → first (itemRows x at inside tag u) ≡ first (behind x at inside tag u)
     rows-behind inside n = rows-split inside ∙ ap (λ (o : Option Refusal). otherwise o (first (behind x at inside tag u))) n
 
-    group-found : (inside : Bool) (channel : ℕ) → first (take 6 (itemRows x at inside tag u)) ≡ none → isGroup tag ≡ true → channel ≡ channelNamed u → stopped at (meaning s x (Item.Group at channel)) ≡ first (itemRows x at inside tag u)
+    group-found : (inside : Bool) (channel : ℕ) → ReadGroup (first (headRows x at inside tag u)) tag u channel → stopped at (meaning s x (Item.Group at channel)) ≡ first (itemRows x at inside tag u)
     unfolding effectOf
-    group-found inside channel n g c = rw (rows-behind inside n, c) (group-first s x at u inside tag g)
+    group-found inside channel p = rw (rows-behind inside (p .free), p .same-channel) (group-first s x at u inside tag (p .group))
 
-    member-found : (channel start len : ℕ) → first (take 6 (itemRows x at true tag u)) ≡ none → rootOnly tag ≡ false → isGroup tag ≡ false → valueAt s start len ≡ valueIn u → stopped at (meaning s x (Item.Member at channel tag start len)) ≡ first (itemRows x at true tag u)
-    unfolding effectOf
-    member-found channel start len n r g e = rw (rows-behind true n, e) (member-first s x at u channel tag g r)
+    -- An item that is read, whose value stands in the file.
+    module _ (inside : Bool) (t start len : ℕ) (p : ReadPrimitive (first (headRows x at inside tag u)) inside tag u t start len) (value : valueAt s (at + start) len ≡ valueIn u) where
+      plain-found : inside ≡ false → Framable x (valueIn u) → stopped at (meaning s x (Item.Plain at t (at + start) len)) ≡ first (itemRows x at inside tag u)
+      unfolding effectOf
+      plain-found i f = rw (rows-behind inside (p .free), value, p .same-tag, i) (plain-first s x at u f (at + start) tag (p .primitive))
 
-    plain-found : Framable x (valueIn u) → (start len : ℕ) → first (take 6 (itemRows x at false tag u)) ≡ none → isGroup tag ≡ false → valueAt s start len ≡ valueIn u → stopped at (meaning s x (Item.Plain at tag start len)) ≡ first (itemRows x at false tag u)
-    unfolding effectOf
-    plain-found f start len n g e = rw (rows-behind false n, e) (plain-first s x at u f start tag g)
+      member-found : inside ≡ true → (channel : ℕ) → stopped at (meaning s x (Item.Member at channel t (at + start) len)) ≡ first (itemRows x at inside tag u)
+      unfolding effectOf
+      member-found i channel = rw (rows-behind inside (p .free), value, p .same-tag, i) (member-first s x at u channel tag (p .primitive) (rw i at (p .allowed)))
 
-    mark-found : first (take 6 (itemRows x at true tag u)) ≡ none → tag ≡ 0 → stopped at (meaning s x (Item.Mark at)) ≡ first (itemRows x at true tag u)
-    unfolding effectOf carried
-    mark-found n z = rw (rows-behind true n, z) (mark-first s x at u)
+      mark-found : inside ≡ true → endsOpen t len ≡ true → stopped at (meaning s x (Item.Mark at)) ≡ first (itemRows x at inside tag u)
+      unfolding effectOf carried
+      mark-found i m =
+          let z : tag ≡ 0 = sym (p .same-tag) ∙ eqb-true t 0 (both-split (eqb t 0) (eqb len 0) m .0) in
+          rw (rows-behind inside (p .free), i, z) (mark-first s x at u)
 
-    item-first : Framable x (valueIn u) → (w : Within) → extent s at w ≡ tag ∷ u → (h : Head) → Reads (first (take 6 (itemRows x at (isInside w) tag u))) at (isInside w) tag u h → answer (itemOf at w h) ≡ first (itemRows x at (isInside w) tag u)
+    item-first : Framable x (valueIn u) → (w : Within) → extent s at w ≡ tag ∷ u → (h : Head) → Reads (first (headRows x at (isInside w) tag u)) at (isInside w) tag u h → answer (itemOf at w h) ≡ first (itemRows x at (isInside w) tag u)
     unfolding itemOf placeAt
     item-first f w e (Head.Refused n) p = rw (rows-split (isInside w), p)
-    item-first f w e (Head.Definite channel start len) p = group-found (isInside w) channel (p .0) (p .1) (p .2)
-    item-first f w e (Head.Open channel start) p = group-found (isInside w) channel (p .0) (p .1) (p .2)
+    item-first f w e (Head.Definite channel start len) p = group-found (isInside w) channel p
+    item-first f w e (Head.Open channel start) p = group-found (isInside w) channel p
     item-first f Within.Root e (Head.Primitive t start len) p =
-        rw (p .1) (plain-found f (at + start) len (p .0) (p .3) (value-same s at Within.Root tag u e start len (p .4) (p .5) (p .6)))
+        plain-found false t start len p (value-same s at Within.Root tag u e start len p) refl f
     item-first f (Within.Definite channel end) e (Head.Primitive t start len) p =
-        rw (p .1) (member-found channel (at + start) len (p .0) (p .2) (p .3) (value-same s at (Within.Definite channel end) tag u e start len (p .4) (p .5) (p .6)))
+        member-found true t start len p (value-same s at (Within.Definite channel end) tag u e start len p) refl channel
     item-first f (Within.Open channel place) e (Head.Primitive t start len) p =
+        let value = value-same s at (Within.Open channel place) tag u e start len p in
         pick-cases (λ (n : Next). answer n ≡ first (itemRows x at true tag u)) (endsOpen t len)
-        (λ m. mark-found (p .0) (sym (p .1) ∙ eqb-true t 0 (both-split (eqb t 0) (eqb len 0) m .0)))
-        (λ m. rw (p .1) (member-found channel (at + start) len (p .0) (p .2) (p .3) (value-same s at (Within.Open channel place) tag u e start len (p .4) (p .5) (p .6))))
+        (λ m. mark-found true t start len p value refl m)
+        (λ m. member-found true t start len p value refl channel)
 
   -- What is refused at a cursor is what the first row gives whose condition holds there.
   cursor-first : (c : Cursor) → ((tag : ℕ) (u : List ℕ) → ahead s c ≡ tag ∷ u → Framable x (valueIn u)) → answer (nextOf s c) ≡ first (rowsAt x (c .at) (around c) (ahead s c))
@@ -113,7 +120,9 @@ module _ (s : List ℕ) (x : State) where
     where
       by : (u : List ℕ) → ahead s c ≡ u → answer (nextIn (c .at) (around c) u) ≡ first (rowsAt x (c .at) (around c) u)
       by [] e = end-first (around c)
-      by (tag ∷ u) e = item-first (c .at) tag u (framable tag u e) (around c) e (headOf (isInside (around c)) (tag ∷ u)) (head-reads x (c .at) (isInside (around c)) tag u)
+      by (tag ∷ u) e =
+          let inside = isInside (around c) in
+          item-first (c .at) tag u (framable tag u e) (around c) e (headOf inside (tag ∷ u)) (head-reads x (c .at) inside tag u)
 
 -- ---- a file
 
@@ -176,3 +185,11 @@ module _ (s : List ℕ) where
   -- A file is refused with a number at a place exactly when the tables of document 01 say so.
   pub refused-exactly : (r : Refusal) → (verdict s ≡ refused r) ↔ Refusing s r
   refused-exactly r = (refused-refusing r (ltb octetsLimit (length s)) refl, refusing-refused r)
+
+  -- Its number is one of the table's, 1 to 15.
+  pub refused-numbered : (r : Refusal) → verdict s ≡ refused r → (0 < r .number) × (r .number ≤ longFile)
+  refused-numbered r e = by r (refused-exactly r .0 e)
+    where
+      by : (q : Refusal) → Refusing s q → (0 < q .number) × (q .number ≤ longFile)
+      by _ (overLimit h) = omega arith
+      by _ (stops x c q h p d) = due-numbered x (c .at) (around c) (ahead s c) q d

@@ -1,15 +1,15 @@
 -- A waveform is refused by the first of its rows, 11, 12, 13, 14, which are the tests that it meets. Ahead of them it meets two more that no file
 -- reaches (reader/proofs/Never.antt); all that this takes is here: `Framable` and `reached-framable`.
 -- Assumes nothing.
-use Prim.Native.Nat.{ℕ, _-_, _*_, _≤_, _<_}
+use Prim.Native.Nat.{ℕ, _-_, _≤_, _<_}
 use mathlib.Core.Path.{_≡_, refl, ap}
 use mathlib.Core.List.{List, _∷_}
 use mathlib.Core.Option.{Option, none, some}
 use mathlib.Core.Bool.{Bool, true, false, not}
 use native.Mathlib.Omega.{arith}
 use borrow.Author.Tests.{le-ltb, ne-eqb}
-use lib.Dec.{ltb, leb}
-use lib.ListN.{length, take, drop, length-take, length-drop}
+use lib.Dec.{leb}
+use lib.ListN.{length, drop, length-take, length-drop}
 use Rattle.octets.specs.Pick.{pick}
 use Rattle.heads.specs.declared.Refusal.{Refusal}
 use Rattle.heads.specs.Refusals.{manyFrames, sampleWidth, startRange, shortWaveform}
@@ -61,7 +61,7 @@ module _ (s : List ℕ) (x : State) (at start : ℕ) where
   framed-pick long true n r o e = refl
   framed-pick long false n r o e = e
 
-  -- The rows of a waveform are the last four of an item's.
+  -- The rows of a waveform are those of an item behind the first ten.
   pub frame-first : (u : List ℕ) → Framable x (valueIn u) → stopped at (carried s x (Effect.Frame start (length (valueIn u)))) ≡ first (drop 10 (itemRows x at false 0x1E u))
   unfolding carried framedAs withFrame itemRows
   frame-first u f =

@@ -1,19 +1,19 @@
 -- An item's head is refused by the first of its rows that holds, and else reads as the rows read it: each part of the head meets the tests of its
 -- own rows, in their order.
---     length-reads      the length field, in a group's head or not
---     channel-reads     the channel number
---     head-reads        the whole head
+--     length-by, length-first    the length field, in a group's head or not
+--     channel-by                 the channel number
+--     head-reads                 the whole head
 -- Assumes nothing.
 use Prim.Native.Nat.{ℕ, zero, suc, _+_, _-_, _*_, _%_, _≤_, _<_}
-use mathlib.Core.Path.{_≡_, refl, sym, ap, _∙_, subst}
-use mathlib.Core.List.{List, [], _∷_, _++_}
+use mathlib.Core.Path.{_≡_, refl, ap}
+use mathlib.Core.List.{List, [], _∷_}
 use mathlib.Core.Option.{Option, none, some}
 use mathlib.Core.Bool.{Bool, true, false, not}
 use native.Mathlib.Decide.{decLt}
 use native.Mathlib.Omega.{arith}
 use borrow.Author.Tests.{lt-ltb, le-ltb, eq-eqb, ne-eqb, le-leb, lt-leb, ltb-true, ltb-false, eqb-true, eqb-false}
-use lib.Dec.{ltb, leb, eqb}
-use lib.ListN.{length, getD, take, drop}
+use lib.Dec.{ltb, eqb}
+use lib.ListN.{length, take, drop}
 use Rattle.octets.specs.Pick.{pick, both, either}
 use Rattle.octets.specs.Number.{bigFrom}
 use Rattle.octets.proofs.Pick.{pick-cases}
@@ -21,7 +21,7 @@ use Rattle.heads.specs.declared.Refusal.{Refusal}
 use Rattle.heads.specs.declared.Channel.{Channel}
 use Rattle.heads.specs.declared.Length.{Length}
 use Rattle.heads.specs.declared.Head.{Head}
-use Rattle.heads.specs.Refusals.{contextTag, lengthOctet, pastEnd, longChannel, barredTag}
+use Rattle.heads.specs.Refusals.{lengthOctet, pastEnd, longChannel}
 use Rattle.heads.specs.Head.{channelOf, lengthOf, unknownContext, rootOnly, primitiveHead, groupLength, groupHead, headOf}
 use Rattle.items.specs.Walk.{refusal}
 use Rattle.pass.specs.Verdict.{State}
@@ -48,12 +48,12 @@ length-by (b ∷ u) =
     (λ t. let h = ltb-false b 128 t in pick-cases P (eqb (b - 128) 0)
     (λ z. let g = eqb-true (b - 128) 0 z in (omega arith, omega arith))
     (λ z. let g = eqb-false (b - 128) 0 z in
-      let other : b ≡ 128 → ⊥ = λ e. g (let d : b - 128 ≡ 0 = omega arith in d) in
-      pick-cases P (ltb 4 (b - 128))
-      (λ f. let k = ltb-true 4 (b - 128) f in omega arith)
-      (λ f. let k = ltb-false 4 (b - 128) f in pick-cases P (ltb (length u) (b - 128))
-      (λ l. let m = ltb-true (length u) (b - 128) l in (omega arith, omega arith, other))
-      (λ l. let m = ltb-false (length u) (b - 128) l in (omega arith, rw t, omega arith, omega arith, other)))))
+    let other : b ≡ 128 → ⊥ = λ e. g (let d : b - 128 ≡ 0 = omega arith in d) in
+    pick-cases P (ltb 4 (b - 128))
+    (λ f. let k = ltb-true 4 (b - 128) f in omega arith)
+    (λ f. let k = ltb-false 4 (b - 128) f in pick-cases P (ltb (length u) (b - 128))
+    (λ l. let m = ltb-true (length u) (b - 128) l in (omega arith, omega arith, other))
+    (λ l. let m = ltb-false (length u) (b - 128) l in (omega arith, rw t, omega arith, omega arith, other)))))
 
 -- The rows of a length field, in a group's head or not.
 abbrev lengthRows : ℕ → Bool → List ℕ → List Row
@@ -119,12 +119,26 @@ channel-by (suc k) p acc (b ∷ u) =
 
 -- ---- the head
 
--- A head that is read, where `found` is what its rows give: refused with that, or none of them holds and its parts are those of the octets u behind the tag.
+-- A head that is read where its rows give `found`: none of them holds, and its parts are those of the octets u behind the tag.
+pub record ReadPrimitive (found : Option Refusal) (inside : Bool) (tag : ℕ) (u : List ℕ) (t start len : ℕ) : Type 0 where
+  pub free : found ≡ none
+  pub allowed : both inside (rootOnly tag) ≡ false
+  pub primitive : isGroup tag ≡ false
+  pub same-tag : t ≡ tag
+  pub same-start : start ≡ suc (lengthOctets u)
+  pub same-length : len ≡ lengthIn u
+  pub fits : start + len ≤ suc (length u)
+
+pub record ReadGroup (found : Option Refusal) (tag : ℕ) (u : List ℕ) (channel : ℕ) : Type 0 where
+  pub free : found ≡ none
+  pub group : isGroup tag ≡ true
+  pub same-channel : channel ≡ channelNamed u
+
+-- The same, or refused with what the rows give.
 abbrev pub Reads : Option Refusal → ℕ → Bool → ℕ → List ℕ → Head → Type 0
-Reads found at inside tag u (Head.Primitive t start len) =
-    (found ≡ none) × (t ≡ tag) × (both inside (rootOnly tag) ≡ false) × (isGroup tag ≡ false) × (start ≡ suc (lengthOctets u)) × (len ≡ lengthIn u) × (start + len ≤ suc (length u))
-Reads found at inside tag u (Head.Definite channel start len) = (found ≡ none) × (isGroup tag ≡ true) × (channel ≡ channelNamed u)
-Reads found at inside tag u (Head.Open channel start) = (found ≡ none) × (isGroup tag ≡ true) × (channel ≡ channelNamed u)
+Reads found at inside tag u (Head.Primitive t start len) = ReadPrimitive found inside tag u t start len
+Reads found at inside tag u (Head.Definite channel start len) = ReadGroup found tag u channel
+Reads found at inside tag u (Head.Open channel start) = ReadGroup found tag u channel
 Reads found at inside tag u (Head.Refused n) = found ≡ some (refusal n at)
 
 module _ (at : ℕ) (inside : Bool) (tag : ℕ) (u : List ℕ) where
@@ -132,18 +146,20 @@ module _ (at : ℕ) (inside : Bool) (tag : ℕ) (u : List ℕ) where
   unfolding primitiveHead
   primitive-reads b g (Length.Known n octets) p =
       pick-cases (Reads (lengthAnswer at false (length u) (Length.Known n octets)) at inside tag u) (ltb (length u - octets) n) (λ t. rw t)
-      (λ t. let f = ltb-false (length u - octets) n t in (rw t, refl, b, g, omega arith, p .1, omega arith))
+      (λ t. let f = ltb-false (length u - octets) n t in
+      record { free = rw t; allowed = b; primitive = g; same-tag = refl; same-start = omega arith; same-length = p .1; fits = omega arith })
   primitive-reads b g (Length.Open octets) p = refl
   primitive-reads b g Length.PastEnd p = refl
   primitive-reads b g Length.Bad p = refl
 
-  length-reads : isGroup tag ≡ true → (channel k rest : ℕ) → channel ≡ channelNamed u → (l : Length) → Reads (lengthAnswer at true rest l) at inside tag u (groupLength channel k rest l)
+  group-length-reads : isGroup tag ≡ true → (channel k rest : ℕ) → channel ≡ channelNamed u → (l : Length) → Reads (lengthAnswer at true rest l) at inside tag u (groupLength channel k rest l)
   unfolding groupLength
-  length-reads g channel k rest e (Length.Known n octets) =
-      pick-cases (Reads (lengthAnswer at true rest (Length.Known n octets)) at inside tag u) (ltb (rest - octets) n) (λ t. rw t) (λ t. (rw t, g, e))
-  length-reads g channel k rest e (Length.Open octets) = (refl, g, e)
-  length-reads g channel k rest e Length.PastEnd = refl
-  length-reads g channel k rest e Length.Bad = refl
+  group-length-reads g channel k rest e (Length.Known n octets) =
+      pick-cases (Reads (lengthAnswer at true rest (Length.Known n octets)) at inside tag u) (ltb (rest - octets) n) (λ t. rw t)
+      (λ t. record { free = rw t; group = g; same-channel = e })
+  group-length-reads g channel k rest e (Length.Open octets) = record { free = refl; group = g; same-channel = e }
+  group-length-reads g channel k rest e Length.PastEnd = refl
+  group-length-reads g channel k rest e Length.Bad = refl
 
   group-reads : isGroup tag ≡ true → (c : Channel) → ChannelBy 4 0 0 u c → Reads (first (row longChannel at (longNumber u) ∷ row pastEnd at (numberPast u) ∷ lengthRows at true (drop (channelOctets u) u))) at inside tag u (groupHead u c)
   unfolding groupHead
@@ -151,26 +167,30 @@ module _ (at : ℕ) (inside : Bool) (tag : ℕ) (u : List ℕ) where
       let w = drop (channelOctets u) u in
       let e : k ≡ channelOctets u = omega arith in
       simp (ne-eqb (marked 4 u) 4 (λ q. omega arith), ne-eqb (marked 4 u) (length u) (λ q. omega arith), length-first at true w (lengthOf w) (length-by w), e)
-      (length-reads g channel (channelOctets u) (length w) (c .3) (lengthOf w))
+      (group-length-reads g channel (channelOctets u) (length w) (c .3) (lengthOf w))
   group-reads g Channel.PastEnd c = simp (ne-eqb (marked 4 u) 4 (λ q. omega arith), eq-eqb (marked 4 u) (length u) (c .1))
   group-reads g Channel.TooLong c = simp (eq-eqb (marked 4 u) 4 c)
 
--- The tags that may not stand inside a group.
 pub either-false : (t : Bool) → either t false ≡ t
 either-false true = refl
 either-false false = refl
 
+-- The tags that may not stand inside a group.
 barred-same : (tag : ℕ) → isBarred tag ≡ rootOnly tag
 unfolding isBarred rootOnly
 barred-same tag = rw (either-false (isGroup tag))
 
 -- The rows of a head are the first six of an item's.
-pub head-reads : (x : State) (at : ℕ) (inside : Bool) (tag : ℕ) (u : List ℕ) → Reads (first (take 6 (itemRows x at inside tag u))) at inside tag u (headOf inside (tag ∷ u))
+abbrev pub headRows : State → ℕ → Bool → ℕ → List ℕ → List Row
+headRows x at inside tag u = take 6 (itemRows x at inside tag u)
+
+pub head-reads : (x : State) (at : ℕ) (inside : Bool) (tag : ℕ) (u : List ℕ) → Reads (first (headRows x at inside tag u)) at inside tag u (headOf inside (tag ∷ u))
 unfolding headOf itemRows unknownContext isUnknown
 head-reads x at inside tag u =
-    let P : Head → Type 0 = Reads (first (take 6 (itemRows x at inside tag u))) at inside tag u in
+    let P : Head → Type 0 = Reads (first (headRows x at inside tag u)) at inside tag u in
     pick-cases P (unknownContext tag) (λ e. rw e)
     (λ e. pick-cases P (both inside (rootOnly tag)) (λ b. rw (e, barred-same tag, b))
     (λ b. pick-cases P (isGroup tag)
     (λ g. rw (e, barred-same tag, b, g) (group-reads at inside tag u g (channelOf 4 0 0 u) (channel-by 4 0 0 u)))
-    (λ g. rw (e, barred-same tag, b, g, length-first at false u (lengthOf u) (length-by u)) (primitive-reads at inside tag u b g (lengthOf u) (length-by u)))))
+    (λ g. rw (e, barred-same tag, b, g, length-first at false u (lengthOf u) (length-by u))
+    (primitive-reads at inside tag u b g (lengthOf u) (length-by u)))))

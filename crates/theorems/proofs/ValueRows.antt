@@ -4,14 +4,14 @@
 --     lines-take      every line of the table
 --     plain-first, member-first, group-first, mark-first    every kind of item
 -- Assumes nothing.
-use Prim.Native.Nat.{ℕ, zero, suc, _-_, _*_, _≤_, _<_, zero-le}
-use mathlib.Core.Path.{_≡_, refl, sym, ap, _∙_, subst}
-use mathlib.Core.List.{List, [], _∷_, _++_, map}
+use Prim.Native.Nat.{ℕ, zero, suc, _-_, _≤_, _<_, zero-le}
+use mathlib.Core.Path.{_≡_, refl, sym, _∙_}
+use mathlib.Core.List.{List, [], _∷_, map}
 use mathlib.Core.Option.{Option, none, some}
 use mathlib.Core.Bool.{Bool, true, false, not}
 use native.Mathlib.Decide.{decLt, ℕ-discrete}
 use native.Mathlib.Omega.{arith}
-use borrow.Author.Tests.{lt-ltb, le-ltb, eq-eqb, ne-eqb, le-leb, lt-leb, leb-true, eqb-true, ltb-false, not-false}
+use borrow.Author.Tests.{lt-ltb, le-ltb, ne-eqb, le-leb, lt-leb, leb-true, eqb-true, ltb-false, not-false}
 use lib.Dec.{ltb, leb, eqb}
 use lib.ListN.{length, getD, take, drop, length-drop}
 use lib.Seq.{take-all}
@@ -19,7 +19,7 @@ use Rattle.octets.specs.Pick.{pick, both, either}
 use Rattle.octets.specs.Number.{numberOf, signedOf}
 use Rattle.octets.proofs.Pick.{pick-cases, both-false}
 use Rattle.heads.specs.declared.Refusal.{Refusal}
-use Rattle.heads.specs.Refusals.{unfitLength, unfitValue, compressed, channelNumber, manyFrames, sampleWidth, startRange, shortWaveform}
+use Rattle.heads.specs.Refusals.{unfitLength, unfitValue, compressed, channelNumber}
 use Rattle.heads.specs.Head.{rootOnly}
 use Rattle.items.specs.Walk.{refusal}
 use Rattle.settings.specs.declared.Settings.{Settings}
@@ -29,13 +29,9 @@ use Rattle.definitions.specs.declared.Attribute.{Attribute}
 use Rattle.definitions.specs.declared.Tagged.{Tagged}
 use Rattle.definitions.specs.declared.Defined.{Defined}
 use Rattle.definitions.specs.Define.{tagged, scaleLength, bitsLength, lengthFits, scaleOf, changeOf, standingIn, inRange, defined}
-use Rattle.layout.specs.Frame.{sequenceOctets, allAgree}
-use Rattle.standing.specs.Standing.{octetsLimit, framesLimit}
-use Rattle.framing.specs.declared.Framed.{Framed}
-use Rattle.framing.specs.Framing.{sequencesOf, pointerFits, framedAs}
 use Rattle.effects.specs.declared.Effect.{Effect}
 use Rattle.effects.specs.Effects.{orderEffect, countEffect, sequencesEffect, startEffect, compressedEffect, allEffect, oneEffect, rootEffect, plainEffect, memberEffect, groupEffect}
-use Rattle.pass.specs.Verdict.{State, Outcome, goes, refuses, frameChannels, withFrame, carried}
+use Rattle.pass.specs.Verdict.{State, carried}
 use Rattle.reader.proofs.Every.{Every}
 use Rattle.theorems.specs.Attributes.{Line, line, among, between, any, attributes, lineIn, lineOf}
 use Rattle.theorems.specs.Rows.{Row, isGroup, channelNamed, valueIn, uncounted, given, itemRows}
@@ -75,11 +71,12 @@ width-same (suc (suc (suc n))) =
 
 -- ---- a definition
 
--- What a line gives at a place: 6 for the length, 7 for the value.
+-- 6 or 7 at a place, by two tests; and what a line gives there.
+abbrev sixOrSeven : ℕ → Bool → Bool → Option Refusal
+sixOrSeven at unfit bad = pick unfit (some (refusal unfitLength at)) (pick bad (some (refusal unfitValue at)) none)
+
 abbrev lineAnswer : ℕ → Line → Bool → List ℕ → Option Refusal
-lineAnswer at l little v =
-    pick (not (l .lengths (length v))) (some (refusal unfitLength at))
-    (pick (both (given v) (not (l .values little v))) (some (refusal unfitValue at)) none)
+lineAnswer at l little v = sixOrSeven at (not (l .lengths (length v))) (both (given v) (not (l .values little v)))
 
 -- A line has the lengths of an attribute, and of those lengths the values, as the tests have them.
 abbrev Lengths : Attribute → Line → Type 0
@@ -99,7 +96,8 @@ not-not false = refl
 module _ (at : ℕ) (l : Line) (little : Bool) (v : List ℕ) {A : Type 0} (answer : A → Option Refusal)
     (unfit bad : A) (six : answer unfit ≡ some (refusal unfitLength at)) (seven : answer bad ≡ some (refusal unfitValue at)) where
   -- Refused for its length where t holds, back to what stands where it has none, refused for its value where b holds.
-  line-choice : (t b : Bool) (e f : A) → answer e ≡ none → answer f ≡ none → l .lengths (length v) ≡ not t → (t ≡ false → l .values little v ≡ not b) → answer (pick t unfit (pick (eqb (length v) 0) e (pick b bad f))) ≡ lineAnswer at l little v
+  line-choice : (t b : Bool) (e f : A) → answer e ≡ none → answer f ≡ none → l .lengths (length v) ≡ not t → (t ≡ false → l .values little v ≡ not b)
+      → answer (pick t unfit (pick (eqb (length v) 0) e (pick b bad f))) ≡ lineAnswer at l little v
   line-choice true b e f p q n m = rw n six
   line-choice false b e f p q n m = rw (n, m refl) (by (eqb (length v) 0) b)
     where
@@ -183,7 +181,8 @@ module _ (s : List ℕ) (x : State) (at : ℕ) (v : List ℕ) where
   root-takes : (l : Line) → rootOnly (l .tag) ≡ true → ((start : ℕ) → asked (plainEffect (x .standing) (l .tag) start v (tagged (l .tag))) ≡ answer l) → Takes (l .tag) l
   root-takes l r e = record { plain = e; member = λ f channel. let z : _≡_ {A = ℕ} 0 1 = cc in let w : ⊥ = omega arith in absurd w }
 
-  root-choice : (l : Line) (t b : Bool) (e f : Effect) → asked e ≡ none → asked f ≡ none → l .lengths (length v) ≡ not t → (t ≡ false → l .values (x .standing .little) v ≡ not b) → asked (pick t (Effect.Refused unfitLength) (pick (eqb (length v) 0) e (pick b (Effect.Refused unfitValue) f))) ≡ answer l
+  root-choice : (l : Line) (t b : Bool) (e f : Effect) → asked e ≡ none → asked f ≡ none → l .lengths (length v) ≡ not t → (t ≡ false → l .values (x .standing .little) v ≡ not b)
+      → asked (pick t (Effect.Refused unfitLength) (pick (eqb (length v) 0) e (pick b (Effect.Refused unfitValue) f))) ≡ answer l
   unfolding carried
   root-choice l = line-choice at l (x .standing .little) v asked (Effect.Refused unfitLength) (Effect.Refused unfitValue) refl refl
 
@@ -223,27 +222,50 @@ module _ (s : List ℕ) (x : State) (at : ℕ) (v : List ℕ) where
 
   lines-take : Every (λ l. Takes (l .tag) l) attributes
   unfolding tagged plainEffect rootEffect rootOnly lineIn scaleOf
-  lines-take =
-      (root-takes (lineOf 0x01) refl (λ start. order-line),
-      (attribute-takes Attribute.Block (lineOf 0x04) refl (from-zero 4) (λ little u h. rw (take-all 4 u (leb-true (length u) 4 h))),
-      (root-takes (lineOf 0x05) refl (λ start. count-line),
-      (root-takes (lineOf 0x06) refl (λ start. sequences-line),
-      (root-takes (lineOf 0x07) refl (λ start. start-line),
-      (attribute-takes Attribute.Class (lineOf 0x08) refl (from-zero 34) (λ little u h. refl),
-      (attribute-takes Attribute.Lead (lineOf 0x09) refl (from-zero 34) (λ little u h. refl),
-      (attribute-takes Attribute.Kind (lineOf 0x0A) refl zero-one (λ little u h. refl),
-      (attribute-takes Attribute.Interval (lineOf 0x0B) refl (λ n. refl) (λ little u h. rw (short-mantissa u h)),
-      (attribute-takes Attribute.Resolution (lineOf 0x0C) refl (λ n. refl) (λ little u h. rw (short-mantissa u h)),
-      (attribute-takes Attribute.Offset (lineOf 0x0D) refl width-same (λ little u h. refl),
-      (attribute-takes Attribute.Null (lineOf 0x12) refl width-same (λ little u h. refl),
-      tt))))))))))))
+  lines-take = (
+    root-takes (lineOf 0x01) refl (λ start. order-line),
+    (
+      attribute-takes Attribute.Block (lineOf 0x04) refl (from-zero 4) (λ little u h. rw (take-all 4 u (leb-true (length u) 4 h))),
+      (
+        root-takes (lineOf 0x05) refl (λ start. count-line),
+        (
+          root-takes (lineOf 0x06) refl (λ start. sequences-line),
+          (
+            root-takes (lineOf 0x07) refl (λ start. start-line),
+            (
+              attribute-takes Attribute.Class (lineOf 0x08) refl (from-zero 34) (λ little u h. refl),
+              (
+                attribute-takes Attribute.Lead (lineOf 0x09) refl (from-zero 34) (λ little u h. refl),
+                (
+                  attribute-takes Attribute.Kind (lineOf 0x0A) refl zero-one (λ little u h. refl),
+                  (
+                    attribute-takes Attribute.Interval (lineOf 0x0B) refl (λ n. refl) (λ little u h. rw (short-mantissa u h)),
+                    (
+                      attribute-takes Attribute.Resolution (lineOf 0x0C) refl (λ n. refl) (λ little u h. rw (short-mantissa u h)),
+                      (
+                        attribute-takes Attribute.Offset (lineOf 0x0D) refl width-same (λ little u h. refl),
+                        (
+                          attribute-takes Attribute.Null (lineOf 0x12) refl width-same (λ little u h. refl),
+                          tt,
+                        ),
+                      ),
+                    ),
+                  ),
+                ),
+              ),
+            ),
+          ),
+        ),
+      ),
+    ),
+  )
 
   -- A tag that has no line, and is neither 0E nor 1E, is stepped over.
   other-takes : (tag : ℕ) → Apart tag attributes → eqb tag 0x0E ≡ false → eqb tag 0x1E ≡ false → Takes tag (line tag (λ n. true) any)
   unfolding tagged plainEffect memberEffect rootEffect carried
   other-takes tag n c w =
       let other : tagged tag ≡ Tagged.Other =
-          simp (n 0x04 refl, n 0x08 refl, n 0x09 refl, n 0x0A refl, n 0x0B refl, n 0x0C refl, n 0x0D refl, n 0x12 refl) in
+      simp (n 0x04 refl, n 0x08 refl, n 0x09 refl, n 0x0A refl, n 0x0B refl, n 0x0C refl, n 0x0D refl, n 0x12 refl) in
       let none-due : answer (line tag (λ n. true) any) ≡ none = rw (both-false (given v)) in
       record {
         plain = λ start. rw other (simp (n 0x01 refl, n 0x05 refl, n 0x06 refl, n 0x07 refl, c, w) (sym none-due));
@@ -308,8 +330,9 @@ module _ (s : List ℕ) (x : State) (at : ℕ) (u : List ℕ) where
   member-first channel tag g f =
       let c = unbarred tag 0x0E f refl in
       let w = unbarred tag 0x1E f refl in
-      rw (c, g, w) (by (uncounted x) (memberEffect (x .standing) channel (valueIn u) (tagged tag)) _ _ (tag-takes s x at (valueIn u) tag c w .member f channel))
+      rw (c, g, w)
+      (by (uncounted x) (memberEffect (x .standing) channel (valueIn u) (tagged tag)) _ _ (tag-takes s x at (valueIn u) tag c w .member f channel))
     where
-      by : (z : Bool) (e : Effect) (a b : Bool) → stopped at (carried s x e) ≡ pick a (some (refusal unfitLength at)) (pick b (some (refusal unfitValue at)) none) → stopped at (carried s x (pick z Effect.Pass e)) ≡ pick (both (not z) a) (some (refusal unfitLength at)) (pick (both (not z) b) (some (refusal unfitValue at)) none)
+      by : (z : Bool) (e : Effect) (a b : Bool) → stopped at (carried s x e) ≡ sixOrSeven at a b → stopped at (carried s x (pick z Effect.Pass e)) ≡ sixOrSeven at (both (not z) a) (both (not z) b)
       by true e a b h = refl
       by false e a b h = h
