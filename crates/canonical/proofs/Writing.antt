@@ -48,7 +48,7 @@ use Rattle.effects.specs.declared.Effect.{Effect}
 use Rattle.framing.specs.declared.Framed.{Framed}
 use Rattle.framing.specs.declared.Framed.the-variants.{Taken}
 use Rattle.standing.specs.Standing.{octetsLimit, framesLimit, firstStanding}
-use Rattle.effects.specs.Effects.{effectOf, valueAt, standingAfter}
+use Rattle.effects.specs.Effects.{effectOf, valueAt}
 use Rattle.framing.specs.Framing.{channelsOf}
 use Rattle.framing.specs.AnyNumbers.{framedBy}
 use Rattle.pass.specs.Verdict.{State, state, Outcome, goes, refuses, frameAt, withFrame, carried, placeAt, Verdict, accepted, refused, interpret, verdict}

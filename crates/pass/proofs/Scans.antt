@@ -6,16 +6,16 @@ use mathlib.Core.Path.{_≡_, refl, sym, ap, _∙_}
 use mathlib.Core.Logic.{_⊎_, ⊎-elim}
 use mathlib.Core.List.{List, [], _∷_, _++_}
 use mathlib.Core.Bool.{Bool, not}
-use Prim.Native.Nat.{ℕ, _+_, _-_, _*_, _^_, _≤_, _<_, min}
+use Prim.Native.Nat.{ℕ, _+_, _-_, _*_, _≤_, _<_, min}
 use native.Mathlib.Nat.{add-zero, add-assoc, zero-add}
 use native.Mathlib.Omega.{arith}
 use native.Mathlib.Decide.{decLt}
 use types.Run.{OneOf, miss}
 use mir.Val.{hasKey}
 use denote.Enum.Declared.{tagOf}
-use borrow.Author.Tests.{lt-ltb, le-ltb, ltb-true, ltb-false, leb-false, eqb-true, eqb-false, eq-eqb, ne-eqb}
+use borrow.Author.Tests.{lt-ltb, le-ltb, ltb-true, eqb-true, eqb-false, eq-eqb, ne-eqb}
 use lib.Dec.{T, ltb, eqb}
-use lib.ListN.{length, getD, take, set, replicate, length-append, length-set, length-replicate, List·getD-append}
+use lib.ListN.{length, getD, take, set, length-append, length-set, List·getD-append}
 use lib.Seq.{length-take-le, getD-append-seam, getD-take, set-out}
 use Rattle.octets.specs.Pick.{pick}
 use Rattle.octets.proofs.Pick.{pick-cases}
@@ -26,7 +26,7 @@ use Rattle.items.specs.declared.Next.{Next}
 use Rattle.items.specs.declared.Next.the-variants.{Found as FoundItem, End}
 use Rattle.items.specs.declared.Within.the-variants.{Root}
 use Rattle.heads.specs.Refusals.{longFile}
-use Rattle.items.specs.Walk.{nextOf, itemsFrom, itemsOf, cursor, refusal}
+use Rattle.items.specs.Walk.{nextOf, itemsFrom, cursor, refusal}
 use Rattle.items.proofs.Walks.{items-found, items-end, items-refused}
 use Rattle.settings.specs.declared.Settings.{Settings}
 use Rattle.settings.specs.declared.Change.{Change}
@@ -43,12 +43,10 @@ use Rattle.effects.specs.declared.Effect.{Effect}
 use Rattle.framing.specs.declared.Framed.{Framed}
 use Rattle.framing.specs.declared.Framed.the-variants.{Taken}
 use Rattle.pass.specs.declared.Asked.{Asked}
-use Rattle.pass.specs.declared.View.{View}
 use Rattle.pass.specs.declared.Found.{Found}
-use Rattle.pass.specs.declared.Found.the-variants.{Nothing}
 use Rattle.pass.specs.declared.Checked.{Checked}
 use Rattle.standing.specs.Standing.{octetsLimit, framesLimit, firstStanding}
-use Rattle.effects.specs.Effects.{valueAt, effectOf, standingAfter}
+use Rattle.effects.specs.Effects.{effectOf, standingAfter}
 use Rattle.effects.proofs.Effect.{the-type}
 use Rattle.effects.specs.Reach.{reachOf}
 use Rattle.framing.specs.Framing.{channelsOf, framedAs}

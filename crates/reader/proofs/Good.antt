@@ -16,7 +16,7 @@ use lib.IntN.{pos, negsuc}
 use lib.Signed.{mag, ltZ}
 use lib.ListN.{length, getD, take, drop}
 use lib.Seq.{take-all}
-use Rattle.octets.specs.Pick.{pick, both, either}
+use Rattle.octets.specs.Pick.{pick, either}
 use Rattle.octets.specs.Number.{range, numberOf, twos, signedOf}
 use Rattle.octets.proofs.Laws.{take-octets, drop-octets, take-length-le, cap, number-below}
 use Rattle.values.specs.declared.Bits.{Bits}

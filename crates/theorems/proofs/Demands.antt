@@ -1,5 +1,5 @@
 -- The three demands, over the definitions that the contracts cite.
---     demand-one      every call ends with an answer or a refusal; 15 and those from 20 up exactly when their conditions hold
+--     demand-one      every call ends with an answer or a refusal, each number exactly when its condition holds and none ahead of it does
 --     demand-two      what is told and what is written is what document 01 defines, and reads back as the same recording
 --     demand-three    no two samples share an octet, and canonical files are equal exactly when the recordings are
 -- Assumes nothing.
@@ -11,18 +11,20 @@ use lib.ListN.{length, take, drop}
 use Rattle.heads.specs.declared.Refusal.{Refusal}
 use Rattle.heads.specs.Refusals.{longFile}
 use Rattle.heads.specs.Answer.{answered, refusedAs}
-use Rattle.items.specs.Walk.{itemsOf}
+use Rattle.items.specs.Walk.{refusal}
 use Rattle.layout.specs.Frame.{Frame}
 use Rattle.standing.specs.Standing.{octetsLimit}
-use Rattle.pass.specs.Verdict.{firstState, accepted, refused, interpret, verdict, checkOf}
+use Rattle.pass.specs.Verdict.{accepted, refused, verdict, checkOf}
 use Rattle.reader.specs.Answer.{attributesIn, attributesOf, sampleIn, sampleOf}
 use Rattle.canonical.specs.Canonical.{canonical}
 use Rattle.canonical.specs.Write.{writtenOf, leftOf}
 use Rattle.reader.proofs.Ordered.{endOf}
-use Rattle.theorems.proofs.Questions.{frameNumber, ByChannel, BySample, check-accepted, accepted-or-refused, limit-exactly, limit-place, limit-passed, attributes-answered, sample-answered}
+use Rattle.theorems.proofs.Questions.{frameNumber, ByChannel, BySample, check-accepted, check-refused, accepted-or-refused, limit-exactly, limit-place, attributes-answered, sample-answered}
 use Rattle.theorems.proofs.Places.{Name, Exists, NamedSample, Belongs, InWaveform, Owned, sample-exists, sample-inside, samples-apart, octet-owned}
 use Rattle.theorems.proofs.Waveforms.{PartOfFile, waveform-part, waveforms-apart}
 use Rattle.theorems.proofs.EntryPoints.{AnsweredBy, refused-answers}
+use Rattle.theorems.specs.Refusing.{Refusing}
+use Rattle.theorems.proofs.Exactly.{refused-exactly, refused-numbered}
 use Rattle.theorems.proofs.Canonical.{recordingOf, AllOctets, Writes, ReadAgain, writes, refusal-leaves, written-file, written-again, same-written}
 
 -- ---- demand 1
@@ -34,8 +36,9 @@ pub record DemandOne (s : List ℕ) : Type 0 where
   -- 15 comes first: exactly when the file is too long, and always at place 0.
   pub limit : (checkOf s ≡ refusedAs longFile 0) ↔ (octetsLimit < length s)
   pub limitPlace : (place : ℕ) → checkOf s ≡ refusedAs longFile place → place ≡ 0
-  -- Else the items decide, in file order. When 1 to 14 are given, and where, is the definition `interpret` itself.
-  pub items : length s ≤ octetsLimit → verdict s ≡ interpret s firstState (itemsOf s)
+  -- 1 to 15, and where: exactly as the tables of document 01 say (specs/). 15 comes first, then the first refused item in file order decides.
+  pub refusals : (number place : ℕ) → (checkOf s ≡ refusedAs number place) ↔ Refusing s (refusal number place)
+  pub numbered : (number place : ℕ) → checkOf s ≡ refusedAs number place → (0 < number) × (number ≤ longFile)
   -- The file is accepted or refused.
   pub ends : ((fs : List Frame) × (verdict s ≡ accepted fs)) ⊎ ((r : Refusal) × (verdict s ≡ refused r))
   -- On a refused file every question and the writer answer its refusal.
@@ -52,7 +55,8 @@ demand-one s =
     record {
       limit = limit-exactly s;
       limitPlace = limit-place s;
-      items = limit-passed s;
+      refusals = λ n p. (λ e. refused-exactly s (refusal n p) .0 (check-refused s n p .0 e), λ a. check-refused s n p .1 (refused-exactly s (refusal n p) .1 a));
+      numbered = λ n p e. refused-numbered s (refusal n p) (check-refused s n p .0 e);
       ends = accepted-or-refused s;
       refusedFile = refused-answers s;
       attributes = attributes-answered s;

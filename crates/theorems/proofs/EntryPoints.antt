@@ -6,7 +6,7 @@
 --     Kept, kept         so for each function that has one
 -- Assumes nothing.
 use Prim.Native.Nat.{ℕ, _<_}
-use mathlib.Core.Path.{_≡_, refl, ap, _∙_}
+use mathlib.Core.Path.{_≡_, ap}
 use mathlib.Core.Logic.{_↔_}
 use mathlib.Core.List.{List}
 use native.Mathlib.Omega.{arith}
@@ -17,9 +17,9 @@ use Rattle.heads.specs.Answer.{Answer, answered, refusedAs, refusedBy, mapAnswe
 use Rattle.pass.specs.Verdict.{Verdict, refused, verdict, checkedAs, checkOf}
 use Rattle.reader.specs.Answer.{attributesOf, sampleOf, seenOf, placedOf}
 use Rattle.reader.proofs.Order.{asked-refused}
-use Rattle.canonical.specs.Write.{outputIn, writtenOf, leftOf, Wrote}
+use Rattle.canonical.specs.Write.{outputIn, writtenOf}
 use Rattle.bulk.specs.Samples.{bitsOf, readOf}
-use Rattle.mfer.specs.Answers.{Outputs, outputs, handedOut, countOut, CanonicalOut, AttributesOut, attributesValues, attributesOut, SampleOut, sampleValues, sampleOut}
+use Rattle.mfer.specs.Answers.{Outputs, outputs, handedOut, countOut, attributesValues, attributesOut, sampleValues, sampleOut}
 
 -- ---- a refused file
 
