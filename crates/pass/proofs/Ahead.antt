@@ -3,21 +3,18 @@
 --     passing-root, passing-group    behind a stretch, outside groups and in one
 --     bare-more, -framing, -taken    a frame whose channels all hold the root settings
 -- Assumes nothing.
-use mathlib.Core.Path.{_≡_, refl, sym, ap, subst, _∙_}
+use mathlib.Core.Path.{_≡_, sym, ap, subst, _∙_}
 use mathlib.Core.List.{List, append-nil}
 use mathlib.Core.Bool.{false}
 use Prim.Native.Nat.{ℕ, _+_, _-_, _*_, _^_, _≤_, _<_, min}
 use native.Mathlib.Omega.{arith}
-use lib.Dec.{ltb, eqb}
+use lib.Dec.{eqb}
 use lib.ListN.{length, getD, take, set, replicate, length-set, length-replicate, getD-replicate}
 use lib.Seq.{take-all, set-getD}
-use Rattle.octets.specs.Pick.{pick}
 use Rattle.items.specs.declared.Item.{Item}
 use Rattle.items.specs.declared.Cursor.{Cursor}
-use Rattle.items.specs.declared.Next.{Next}
-use Rattle.items.specs.declared.Next.the-variants.{Found as FoundItem}
 use Rattle.items.specs.declared.Within.the-variants.{Root}
-use Rattle.items.specs.Walk.{nextOf, itemsFrom, cursor}
+use Rattle.items.specs.Walk.{cursor}
 use Rattle.settings.specs.declared.Settings.{Settings}
 use Rattle.settings.specs.Settings.{channelLimit, defaultSettings, defaultTable, zeroSettings}
 use Rattle.settings.proofs.Shown.{shown, shown-none, shown-set, shown-get}
@@ -25,19 +22,16 @@ use Rattle.layout.specs.declared.Layout.{Layout}
 use Rattle.layout.specs.Size.{frameSize}
 use Rattle.layout.specs.Measure.{layoutOf, More}
 use Rattle.standing.specs.declared.Standing.{Standing}
-use Rattle.standing.specs.Standing.{octetsLimit, framesLimit, withRoot}
+use Rattle.standing.specs.Standing.{withRoot}
 use Rattle.effects.specs.declared.Effect.{Effect}
 use Rattle.framing.specs.declared.Framed.{Framed}
 use Rattle.framing.specs.declared.Framed.the-variants.{Taken}
-use Rattle.effects.specs.Effects.{effectOf}
 use Rattle.framing.specs.Framing.{channelsOf}
 use Rattle.framing.specs.AnyNumbers.{framedBy}
 use Rattle.stretch.specs.declared.Stretch.{Stretch}
 use Rattle.stretch.specs.Stretch.{stretchOf}
 use Rattle.pass.specs.declared.Asked.{Asked}
-use Rattle.pass.specs.declared.View.{View}
-use Rattle.pass.specs.declared.Found.{Found}
-use Rattle.pass.specs.Verdict.{state, interpret}
+use Rattle.pass.specs.Verdict.{state}
 use Rattle.pass.specs.declared.Met.{Met}
 use Rattle.pass.specs.Passing.{Reached, Scanning, metWith}
 use Rattle.layout.proofs.Laws.{Summing, summing-more}
@@ -124,12 +118,12 @@ module _ {s : List ℕ} {q : Asked} {table : List Settings} {c : Cursor} {st : S
   -- .. and taken back behind it.
   pub bare-taken : {start len sequences : ℕ} {l : Layout} {r : Framed} {x : Standing} {m' : Met}
       → e ≡ Effect.Frame start len → l ≡ layoutOf (q .channel) (take (channelsOf (st .counted)) (replicate channelLimit (st .root))) → r ≡ framedBy (m .frames) st (l .agree) (l .octets) len → r ≡ Taken sequences x
-      → (m' ≡ metWith q st sequences start l (st .root) m) × (frameSize sequences (l .groups) (sequences * l .octets) < 4294967296)
+      → (m' ≡ metWith q st sequences start l (st .root) m) × (frameSize sequences (l .groups) (sequences * l .octets) < 2 ^ 32)
       → Passing s q table 0 d x m'
   bare-taken {x = x} b el g h em =
       let f = bare-framing b el g in
-      let there : min (q .channel) 255 < channelLimit = omega arith in
-      passing-filled (framing-taken f h (sym (getD-replicate channelLimit (min (q .channel) 255) (st .root) zeroSettings there)) em)
+      let there : min (q .channel) (channelLimit - 1) < channelLimit = omega arith in
+      passing-filled (framing-taken f h (sym (getD-replicate channelLimit (min (q .channel) (channelLimit - 1)) (st .root) zeroSettings there)) em)
       (record {
         records = t .before .records;
         same = shown-none channelLimit (x .root) table ∙ sym (ap (λ (y : Settings). shown channelLimit (x .root) channelLimit (replicate channelLimit y)) (sym (framing-root f h)) ∙ shown-all (x .root));

@@ -13,9 +13,9 @@ use native.Mathlib.Decide.{decLt}
 use types.Run.{OneOf, miss}
 use mir.Val.{hasKey}
 use denote.Enum.Declared.{tagOf}
-use borrow.Author.Tests.{lt-ltb, le-ltb, ltb-true, ltb-false, leb-false, eqb-true, eqb-false, eq-eqb, ne-eqb}
+use borrow.Author.Tests.{lt-ltb, le-ltb, ltb-true, eqb-true, eqb-false, eq-eqb, ne-eqb}
 use lib.Dec.{T, ltb, eqb}
-use lib.ListN.{length, getD, take, set, replicate, length-append, length-set, length-replicate, List·getD-append}
+use lib.ListN.{length, getD, take, set, length-append, length-set, List·getD-append}
 use lib.Seq.{length-take-le, getD-append-seam, getD-take, set-out}
 use Rattle.octets.specs.Pick.{pick}
 use Rattle.octets.proofs.Pick.{pick-cases}
@@ -26,7 +26,7 @@ use Rattle.items.specs.declared.Next.{Next}
 use Rattle.items.specs.declared.Next.the-variants.{Found as FoundItem, End}
 use Rattle.items.specs.declared.Within.the-variants.{Root}
 use Rattle.heads.specs.Refusals.{longFile}
-use Rattle.items.specs.Walk.{nextOf, itemsFrom, itemsOf, cursor, refusal}
+use Rattle.items.specs.Walk.{nextOf, itemsFrom, cursor, refusal}
 use Rattle.items.proofs.Walks.{items-found, items-end, items-refused}
 use Rattle.settings.specs.declared.Settings.{Settings}
 use Rattle.settings.specs.declared.Change.{Change}
@@ -43,12 +43,10 @@ use Rattle.effects.specs.declared.Effect.{Effect}
 use Rattle.framing.specs.declared.Framed.{Framed}
 use Rattle.framing.specs.declared.Framed.the-variants.{Taken}
 use Rattle.pass.specs.declared.Asked.{Asked}
-use Rattle.pass.specs.declared.View.{View}
 use Rattle.pass.specs.declared.Found.{Found}
-use Rattle.pass.specs.declared.Found.the-variants.{Nothing}
 use Rattle.pass.specs.declared.Checked.{Checked}
 use Rattle.standing.specs.Standing.{octetsLimit, framesLimit, firstStanding}
-use Rattle.effects.specs.Effects.{valueAt, effectOf, standingAfter}
+use Rattle.effects.specs.Effects.{effectOf, standingAfter}
 use Rattle.effects.proofs.Effect.{the-type}
 use Rattle.effects.specs.Reach.{reachOf}
 use Rattle.framing.specs.Framing.{channelsOf, framedAs}
@@ -153,13 +151,13 @@ pub kept-before : {a b : ℕ} (x y : Found) → (a ≡ b → ⊥) → y ≡ pick
 kept-before {a = a} {b = b} x y n = sym (ap (λ (t : Bool). pick t x y) (ne-eqb a b n))
 
 -- The channel that is asked for, as the table has it and as the frame has it.
-channel-seen : (channel count : ℕ) (table : List Settings) → count ≤ channelLimit → length table ≡ channelLimit → pick (ltb channel count) (getD table (min channel 255) zeroSettings) defaultSettings ≡ pick (ltb channel (length (take count table))) (channelIn channel (take count table)) defaultSettings
+channel-seen : (channel count : ℕ) (table : List Settings) → count ≤ channelLimit → length table ≡ channelLimit → pick (ltb channel count) (getD table (min channel (channelLimit - 1)) zeroSettings) defaultSettings ≡ pick (ltb channel (length (take count table))) (channelIn channel (take count table)) defaultSettings
 channel-seen channel count table h l =
     let e : length (take count table) ≡ count = length-take-le count table (omega arith) in
     rw e
     (pick-cases (λ (r : Settings). r ≡ pick (ltb channel count) (channelIn channel (take count table)) defaultSettings) (ltb channel count)
     (λ t. let k = ltb-true channel count t in
-    let m : min channel 255 ≡ channel = omega arith in
+    let m : min channel (channelLimit - 1) ≡ channel = omega arith in
     simp (t, m, getD-take count table channel zeroSettings k))
     (λ t. simp t))
 
@@ -190,14 +188,14 @@ module _ {s : List ℕ} {table : List Settings} {c : Cursor} {st : Standing} {me
       ap (carried s there) (sym a)
       ∙ ap (withFrame s there start len) (sym (rw (el, counts) at (u ∙ framed-here i start len a)) ∙ v)
 
-  pub count-few : count ≤ channelLimit
+  count-few : count ≤ channelLimit
   count-few = channels-between (st .counted) (bounded .counted) .1
 
-  pub counts-there : length (take count table) ≡ count
+  counts-there : length (take count table) ≡ count
   counts-there = length-take-le count table (omega (arith, count-few, bounded .full))
 
   -- What the waveform and its groups take is small.
-  pub groups-small : l .groups ≤ 16384
+  pub groups-small : l .groups ≤ channelLimit * 64
   unfolding layoutOf
   groups-small = rw el (omega (arith, groups-few 0 (take count table), counts-there, count-few))
 
@@ -222,8 +220,8 @@ module _ {s : List ℕ} {q : Asked} {table : List Settings} {c : Cursor} {st : S
   -- The frame is met; v are the settings of the channel that is asked for, where the frame has it.
   pub scanning-frame : {d : Cursor} (v : Settings)
       → nextOf s c ≡ FoundItem i d
-      → pick (ltb (q .channel) (channelsOf (st .counted))) v defaultSettings ≡ pick (ltb (q .channel) (channelsOf (st .counted))) (getD table (min (q .channel) 255) zeroSettings) defaultSettings
-      → frameSize sequences (l .groups) (sequences * l .octets) < 4294967296
+      → pick (ltb (q .channel) (channelsOf (st .counted))) v defaultSettings ≡ pick (ltb (q .channel) (channelsOf (st .counted))) (getD table (min (q .channel) (channelLimit - 1)) zeroSettings) defaultSettings
+      → frameSize sequences (l .groups) (sequences * l .octets) < 2 ^ 32
       → Scanning s q table d x (metWith q st sequences start l v m)
   unfolding withFrame layoutOf viewOf sizeOf
   scanning-frame v en ev small =
@@ -399,10 +397,10 @@ module _ {own : ℕ} {table : List Settings} (k : Records own table) where
   pub frame-shown : (st : Standing) (count : ℕ) → count ≤ own → take count table ≡ take count (shownBy st own table)
   frame-shown st count h = sym (shown-take channelLimit (st .root) own table count own-low h)
 
-  pub seen-shown : (st : Standing) (channel count : ℕ) → count ≤ own → pick (ltb channel count) (getD table (min channel 255) zeroSettings) defaultSettings ≡ pick (ltb channel count) (getD (shownBy st own table) (min channel 255) zeroSettings) defaultSettings
+  pub seen-shown : (st : Standing) (channel count : ℕ) → count ≤ own → pick (ltb channel count) (getD table (min channel (channelLimit - 1)) zeroSettings) defaultSettings ≡ pick (ltb channel count) (getD (shownBy st own table) (min channel (channelLimit - 1)) zeroSettings) defaultSettings
   seen-shown st channel count h =
-      pick-cases (λ (r : Settings). r ≡ pick (ltb channel count) (getD (shownBy st own table) (min channel 255) zeroSettings) defaultSettings) (ltb channel count)
-      (λ t. let l = ltb-true channel count t in simp t (sym (shown-get channelLimit (st .root) own table (min channel 255) own-low zeroSettings (omega (arith, k .low)))))
+      pick-cases (λ (r : Settings). r ≡ pick (ltb channel count) (getD (shownBy st own table) (min channel (channelLimit - 1)) zeroSettings) defaultSettings) (ltb channel count)
+      (λ t. let l = ltb-true channel count t in simp t (sym (shown-get channelLimit (st .root) own table (min channel (channelLimit - 1)) own-low zeroSettings (omega (arith, k .low)))))
       (λ t. simp t)
 
 -- An item is found with the cursor behind it, however that is kept.

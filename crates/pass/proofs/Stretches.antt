@@ -25,8 +25,7 @@ use Rattle.heads.specs.declared.Head.{Head}
 use Rattle.items.specs.declared.Next.{Next}
 use Rattle.items.specs.declared.Next.the-variants.{Found}
 use Rattle.heads.specs.Head.{rootOnly, headOf}
-use Rattle.items.specs.Walk.{cursor, standsIn, isInside, extent, endsOpen, ended, itemOf, nextIn, nextOf, itemsFrom}
-use Rattle.items.proofs.Walks.{items-found}
+use Rattle.items.specs.Walk.{cursor, standsIn, isInside, extent, endsOpen, ended, itemOf, nextIn, nextOf}
 use Rattle.settings.specs.declared.Settings.{Settings}
 use Rattle.definitions.specs.declared.Attribute.{Attribute}
 use Rattle.settings.specs.declared.Change.{Change}
@@ -43,7 +42,7 @@ use Rattle.effects.specs.Effects.{valueAt, allEffect, oneEffect, rootEffect, pl
 use Rattle.stretch.specs.declared.Stretch.{Stretch}
 use Rattle.stretch.specs.Stretch.{Step, leaves, ends, steppedOver, stepOf, stretch, onward, runFrom, runOf, stretchOf}
 use Rattle.stretch.proofs.Leads.{Led, itemIn, step-led, next-short, value-ahead, extent-later}
-use Rattle.pass.specs.Verdict.{State, state, goes, oneChanged, carried, interpret}
+use Rattle.pass.specs.Verdict.{State, state, goes, oneChanged, carried}
 use Rattle.pass.specs.Passing.{Reached, behind, openedBy, beginsAt}
 use Rattle.pass.proofs.Keeps.{meaning}
 
@@ -90,7 +89,7 @@ module _ (s : List ℕ) (w : Within) (little : Bool) (base : Settings) (X : Sett
           (more y)
           (subst (λ (j : ℕ). Reached s (X y) (cursor j w)) q (one-law (from + taken) held y (step-led little base held u e) r))
 
-  pub stretch-law : (at : ℕ) (held : Settings) (t : Stretch) → t ≡ stretchOf s (cursor at w) little base held → Reached s (X held) (cursor at w) → Reached s (X (t .settings)) (cursor (t .at) w)
+  stretch-law : (at : ℕ) (held : Settings) (t : Stretch) → t ≡ stretchOf s (cursor at w) little base held → Reached s (X held) (cursor at w) → Reached s (X (t .settings)) (cursor (t .at) w)
   unfolding stretchOf runOf
   stretch-law at held t e =
       subst (λ (y : Stretch). Reached s (X held) (cursor at w) → Reached s (X (y .settings)) (cursor (y .at) w)) (sym e)

@@ -4,64 +4,46 @@
 --     Framing, framing-..    the same of a waveform, whose channels' records are laid down
 -- Assumes nothing.
 use mathlib.Core.Path.{_≡_, refl, sym, ap, subst, _∙_}
-use mathlib.Core.Logic.{_⊎_, ⊎-elim}
-use mathlib.Core.List.{List, [], _∷_, _++_}
-use mathlib.Core.Bool.{Bool, not}
-use Prim.Native.Nat.{ℕ, _+_, _-_, _*_, _^_, _≤_, _<_, min}
-use native.Mathlib.Nat.{add-zero, add-assoc, zero-add}
+use mathlib.Core.Logic.{_⊎_}
+use mathlib.Core.List.{List}
+use mathlib.Core.Bool.{not}
+use Prim.Native.Nat.{ℕ, _-_, _*_, _^_, _≤_, _<_, min}
 use native.Mathlib.Omega.{arith}
-use native.Mathlib.Decide.{decLt}
-use types.Run.{OneOf, miss}
+use types.Run.{OneOf}
 use mir.Val.{hasKey}
 use denote.Enum.Declared.{tagOf}
-use borrow.Author.Tests.{lt-ltb, le-ltb, ltb-true, ltb-false, leb-false, eqb-true, eqb-false, eq-eqb, ne-eqb}
-use lib.Dec.{T, ltb, eqb}
-use lib.ListN.{length, getD, take, set, replicate, length-append, length-set, length-replicate, List·getD-append}
-use lib.Seq.{length-take-le, getD-append-seam, getD-take, set-out}
+use lib.Dec.{T, ltb}
+use lib.ListN.{length, getD, take, set, replicate, length-replicate}
 use Rattle.octets.specs.Pick.{pick}
-use Rattle.octets.proofs.Pick.{pick-cases}
 use Rattle.items.specs.declared.Item.{Item}
 use Rattle.items.specs.declared.Cursor.{Cursor}
-use Rattle.heads.specs.declared.Refusal.{Refusal}
-use Rattle.items.specs.declared.Next.{Next}
-use Rattle.items.specs.declared.Next.the-variants.{Found as FoundItem, End}
+use Rattle.items.specs.declared.Next.the-variants.{Found as FoundItem}
 use Rattle.items.specs.declared.Within.the-variants.{Root}
-use Rattle.heads.specs.Refusals.{longFile}
-use Rattle.items.specs.Walk.{nextOf, itemsFrom, itemsOf, cursor, refusal}
-use Rattle.items.proofs.Walks.{items-found, items-end, items-refused}
+use Rattle.items.specs.Walk.{nextOf, cursor, refusal}
 use Rattle.settings.specs.declared.Settings.{Settings}
 use Rattle.settings.specs.declared.Change.{Change}
-use Rattle.settings.specs.Settings.{channelLimit, defaultSettings, defaultTable, zeroSettings, applied, allApplied}
-use Rattle.settings.proofs.Mapped.{mapped, mapped-long}
-use Rattle.settings.proofs.Shown.{shown, shown-none, shown-long, shown-fill, shown-map, shown-set, shown-get, shown-take}
+use Rattle.settings.specs.Settings.{channelLimit, defaultSettings, defaultTable, zeroSettings, applied}
+use Rattle.settings.proofs.Mapped.{mapped}
+use Rattle.settings.proofs.Shown.{shown, shown-none}
 use Rattle.layout.specs.declared.Layout.{Layout}
-use Rattle.layout.specs.Frame.{Frame, channelIn}
+use Rattle.layout.specs.Frame.{Frame}
 use Rattle.layout.specs.Size.{frameSize}
 use Rattle.layout.specs.Measure.{layoutOf}
-use Rattle.layout.proofs.Laws.{groups-few}
 use Rattle.standing.specs.declared.Standing.{Standing}
 use Rattle.effects.specs.declared.Effect.{Effect}
 use Rattle.framing.specs.declared.Framed.{Framed}
 use Rattle.framing.specs.declared.Framed.the-variants.{Taken}
 use Rattle.pass.specs.declared.Asked.{Asked}
-use Rattle.pass.specs.declared.View.{View}
-use Rattle.pass.specs.declared.Found.{Found}
-use Rattle.pass.specs.declared.Found.the-variants.{Nothing}
-use Rattle.pass.specs.declared.Checked.{Checked}
-use Rattle.standing.specs.Standing.{octetsLimit, framesLimit, firstStanding}
-use Rattle.effects.specs.Effects.{valueAt, effectOf, standingAfter}
+use Rattle.standing.specs.Standing.{octetsLimit, firstStanding}
+use Rattle.effects.specs.Effects.{effectOf, standingAfter}
 use Rattle.effects.proofs.Effect.{the-type}
 use Rattle.effects.specs.Reach.{reachOf}
-use Rattle.framing.specs.Framing.{channelsOf, framedAs}
+use Rattle.framing.specs.Framing.{channelsOf}
 use Rattle.framing.specs.AnyNumbers.{framedBy}
-use Rattle.framing.proofs.Framings.{framed-same}
-use Rattle.pass.specs.Verdict.{State, state, goes, refuses, oneChanged, frameAt, withFrame, carried, placeAt, accepted, refused, interpret, verdict}
+use Rattle.pass.specs.Verdict.{state, goes, withFrame, carried, placeAt}
 use Rattle.pass.specs.declared.Met.{Met}
-use Rattle.pass.specs.Passing.{Reached, first, behind, Scanning, noneMet, metWith}
-use Rattle.pass.proofs.Keeps.{interpret-refuses, reached-verdict}
-use Rattle.pass.proofs.Steps.{TakenBy, taken-found, waveform-found, waveform-short}
-use Rattle.pass.proofs.Bounds.{Bounded, reached-bounded, channels-between, octets-some}
-use Rattle.pass.specs.Scan.{zeroFrame, viewOf, foundIn, sizeOf, sizes, refusedScan, scannedIn, scanOf}
+use Rattle.pass.specs.Passing.{behind, Scanning, Room, noneMet, metWith}
+use Rattle.pass.specs.Scan.{refusedScan, scanOf}
 use Rattle.items.proofs.Walks.{next-later}
 use Rattle.layout.proofs.Laws.{Summing, summed-up}
 use Rattle.pass.proofs.Scans.{scanning-first, scanning-counted, scanning-few, scanning-on, scanning-frame, scanned-refuses, frame-carried, groups-small, taken-small, taken-root, shownBy, Records, Filling, records-set, records-mapped, mapped-own, reached-one, reached-frame, reached-count, carried-by, Plain, does-nothing, does-stands, does-count, does-all, does-one, does-outside, frame-shown, seen-shown}
@@ -180,16 +162,19 @@ module _ {s : List ℕ} {q : Asked} {table : List Settings} {own : ℕ} {c : Cur
     pub framing-root : x .root ≡ st .root
     framing-root = taken-root (scanning .long) (scanning .reached) (scanning .count) (q .channel) l shows i (f .turn .asks) (f .gives) g
 
-    pub framing-room : (m .frames ≤ framesLimit) × (m .size ≤ m .frames * 2 ^ 32) × (l .groups ≤ 16384) × (sequences * l .octets ≤ octetsLimit)
+    pub framing-room : Room sequences l m
     framing-room =
-        let groups = groups-small (scanning .long) (scanning .reached) (scanning .count) (q .channel) l shows in
-        let small = taken-small (scanning .long) (scanning .reached) (scanning .count) (q .channel) l shows i (f .turn .asks) (f .gives) g in
-        (scanning-few scanning, scanning .room, groups, small)
+        record {
+          few = scanning-few scanning;
+          size = scanning .room;
+          groups = groups-small (scanning .long) (scanning .reached) (scanning .count) (q .channel) l shows;
+          waveform = taken-small (scanning .long) (scanning .reached) (scanning .count) (q .channel) l shows i (f .turn .asks) (f .gives) g;
+        }
 
     -- The frame is taken, and the pass keeps what it wants of it.
     pub framing-taken : {v : Settings} {m' : Met}
-        → v ≡ getD table (min (q .channel) 255) zeroSettings
-        → (m' ≡ metWith q st sequences start l v m) × (frameSize sequences (l .groups) (sequences * l .octets) < 4294967296)
+        → v ≡ getD table (min (q .channel) (channelLimit - 1)) zeroSettings
+        → (m' ≡ metWith q st sequences start l v m) × (frameSize sequences (l .groups) (sequences * l .octets) < 2 ^ 32)
         → Passing s q table own d x m'
     framing-taken {v = v} ev em =
         let count = channelsOf (st .counted) in
@@ -198,5 +183,5 @@ module _ {s : List ℕ} {q : Asked} {table : List Settings} {own : ℕ} {c : Cur
         (record {
           records = f .turn .before .records;
           pass = subst (λ (y : Settings). Scanning s q (shown channelLimit y own table) d x (metWith q st sequences start l v m)) (sym framing-root)
-          (scanning-frame scanning l shows i (f .turn .asks) (f .gives) g v (f .turn .found) seen (em .1));
+              (scanning-frame scanning l shows i (f .turn .asks) (f .gives) g v (f .turn .found) seen (em .1));
         })

@@ -16,7 +16,7 @@ use lib.IntN.{pos, negsuc}
 use lib.Signed.{mag, ltZ}
 use lib.ListN.{length, getD, take, drop}
 use lib.Seq.{take-all}
-use Rattle.octets.specs.Pick.{pick, both, either}
+use Rattle.octets.specs.Pick.{pick, either}
 use Rattle.octets.specs.Number.{range, numberOf, twos, signedOf}
 use Rattle.octets.proofs.Laws.{take-octets, drop-octets, take-length-le, cap, number-below}
 use Rattle.values.specs.declared.Bits.{Bits}
@@ -172,7 +172,7 @@ module _ (little : Bool) (v : List ℕ) (octets : (i : ℕ) → getD v i 0 < 256
   bits-good : bitsLength (length v) ≡ true → GoodBits (bitsOf little v)
   bits-good e = rw (take-all 8 v (bits-short (length v) e)) (number-below little v octets, e)
 
-  pub change-good : (a : Attribute) → lengthFits a (length v) ≡ true → inRange (changeOf a little v) ≡ true → GoodChange (changeOf a little v)
+  change-good : (a : Attribute) → lengthFits a (length v) ≡ true → inRange (changeOf a little v) ≡ true → GoodChange (changeOf a little v)
   change-good Attribute.Block f r =
       let n = numberOf little (take 4 v) in
       let h = both-split (leb 1 n) (leb n blockLimit) r in

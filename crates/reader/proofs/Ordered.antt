@@ -10,22 +10,19 @@ use mathlib.Core.Bool.{true}
 use Prim.Native.Nat.{ℕ, _+_, _*_, _≤_, _<_}
 use native.Mathlib.Decide.{decLt}
 use native.Mathlib.Omega.{arith}
-use borrow.Author.Tests.{eqb-false}
-use lib.Dec.{eqb}
-use lib.ListN.{length, getD, take, drop, length-take, length-drop, length-append, length-replicate, length-set, length-map, List·getD-append}
+use lib.ListN.{length, getD, take, drop, length-take, length-drop, length-append, List·getD-append}
 use lib.Seq.{getD-at}
-use Rattle.octets.proofs.Pick.{pick-cases}
 use Rattle.items.specs.declared.Item.{Item}
 use Rattle.items.specs.declared.Cursor.{Cursor}
 use Rattle.items.proofs.Walks.{FoundAt, ItemLies, next-found}
 use Rattle.settings.specs.declared.Settings.{Settings}
-use Rattle.settings.specs.Settings.{channelLimit, defaultSettings, allApplied}
+use Rattle.settings.specs.Settings.{channelLimit}
 use Rattle.layout.specs.Frame.{Frame, sequenceOctets, allAgree}
 use Rattle.standing.specs.declared.Standing.{Standing}
 use Rattle.effects.specs.Effects.{valueAt}
 use Rattle.standing.specs.Standing.{octetsLimit, framesLimit}
-use Rattle.framing.specs.Framing.{channelsOf, pointerFits}
-use Rattle.pass.specs.Verdict.{State, state, firstState, oneChanged, frameChannels, frameAt, accepted, verdict}
+use Rattle.framing.specs.Framing.{pointerFits}
+use Rattle.pass.specs.Verdict.{State, state, firstState, frameChannels, frameAt, accepted, verdict}
 use Rattle.pass.specs.Scan.{zeroFrame}
 use Rattle.pass.proofs.Keeps.{Kept, Keeps, firstCursor, accepted-by, accepted-kept}
 use Rattle.pass.proofs.Steps.{Waveform, TakenBy, Step, passes, stands, resets, changes, sets, frames, meaning-steps}
@@ -134,12 +131,12 @@ module _ (s : List ℕ) where
       let l = waveform-lies c i d start long w f in
       framed s x c d p start long n y (l .0) (l .1) (f .inside) t b
 
-  pub lying-keeps : Keeps s (Lying s)
+  lying-keeps : Keeps s (Lying s)
   lying-keeps x c i d y p e f =
       let t = meaning-steps s x i y f in
       lying-step x c i d y p (next-found s c refl e) (bounded-step s x i y (p .bounded) t) t
 
-  pub lying-first : Lying s firstState firstCursor
+  lying-first : Lying s firstState firstCursor
   lying-first = record { bounded = bounded-first s; lies = tt; behind = tt; order = λ i j h l. let z : ⊥ = omega arith in absurd z }
 
 module _ (s : List ℕ) (fs : List Frame) (e : verdict s ≡ accepted fs) where
