@@ -9,7 +9,7 @@
 use mathlib.Core.Path.{_≡_, refl, sym, ap, subst, _∙_}
 use mathlib.Core.List.{List, [], _∷_, _++_, map, append-assoc, append-nil, map-append}
 use mathlib.Core.Bool.{Bool, true, false}
-use Prim.Native.Nat.{ℕ, suc, _+_, _*_, _≤_, _<_}
+use Prim.Native.Nat.{ℕ, suc, _+_, _*_, _^_, _≤_, _<_}
 use native.Mathlib.Nat.{zero-add, add-assoc}
 use native.Mathlib.Omega.{arith}
 use types.Run.{OneOf, miss}
@@ -122,13 +122,13 @@ widened z = toZ w64 (ofZ w64 z)
 abbrev pub narrowed : ℤ → ℤ
 narrowed z = toZ w32 (ofZ w32 (widened z))
 
-wide-is : (z : ℤ) → mag z < 2147483648 → widened z ≡ z
-wide-is z h = let wide : mag z < 9223372036854775808 = omega arith in toZ-ofZ (record { sfits = wide })
+wide-is : (z : ℤ) → mag z < 2 ^ 31 → widened z ≡ z
+wide-is z h = let wide : mag z < 2 ^ 63 = omega arith in toZ-ofZ (record { sfits = wide })
 
-narrow-fits : (z : ℤ) → mag z < 2147483648 → SFits w32 (widened z)
+narrow-fits : (z : ℤ) → mag z < 2 ^ 31 → SFits w32 (widened z)
 narrow-fits z h = subst (SFits w32) (sym (wide-is z h)) (record { sfits = h })
 
-narrow-is : (z : ℤ) → mag z < 2147483648 → narrowed z ≡ z
+narrow-is : (z : ℤ) → mag z < 2 ^ 31 → narrowed z ≡ z
 narrow-is z h = toZ-ofZ (narrow-fits z h) ∙ wide-is z h
 
 -- ---- one frame more
@@ -293,7 +293,7 @@ module _ {s d : List ℕ} {table : List Settings} {c : Cursor} {st : Standing} {
     pub frame-root : x .root ≡ st .root
     frame-root = taken-root (short p) (p .reached) (p .count) 0 l counted i (sym fe ∙ ee) er fr
 
-    start-small : mag (st .start) < 2147483648
+    start-small : mag (st .start) < 2 ^ 31
     start-small = pointer-small (st .start) (lies .pointer)
 
     pub frame-start : SFits w32 (widened (st .start))

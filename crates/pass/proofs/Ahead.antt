@@ -106,7 +106,9 @@ bare-more {channel = channel} {x = x} {i = i} {l = l} p m h g =
 
 module _ {s : List ℕ} {q : Asked} {table : List Settings} {c : Cursor} {st : Standing} {m : Met} {i : Item} {d : Cursor} {e : Effect} (t : Turn s q table 0 c st m i d e) where
   -- All records are laid down for a frame ..
-  pub bare-framing : {start len : ℕ} {l : Layout} {r : Framed} → e ≡ Effect.Frame start len → l ≡ layoutOf (q .channel) (take (channelsOf (st .counted)) (replicate channelLimit (st .root))) → r ≡ framedBy (m .frames) st (l .agree) (l .octets) len → Framing s q (replicate channelLimit (st .root)) channelLimit c st m i d start len l r
+  pub bare-framing : {start len : ℕ} {l : Layout} {r : Framed}
+      → e ≡ Effect.Frame start len → l ≡ layoutOf (q .channel) (take (channelsOf (st .counted)) (replicate channelLimit (st .root))) → r ≡ framedBy (m .frames) st (l .agree) (l .octets) len
+      → Framing s q (replicate channelLimit (st .root)) channelLimit c st m i d start len l r
   bare-framing b el g =
       record {
         turn = turn-filled (record { before = t .before; found = t .found; asks = sym b ∙ t .asks }) (filling-all (st .root) table);

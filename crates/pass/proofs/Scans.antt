@@ -151,7 +151,8 @@ pub kept-before : {a b : ℕ} (x y : Found) → (a ≡ b → ⊥) → y ≡ pick
 kept-before {a = a} {b = b} x y n = sym (ap (λ (t : Bool). pick t x y) (ne-eqb a b n))
 
 -- The channel that is asked for, as the table has it and as the frame has it.
-channel-seen : (channel count : ℕ) (table : List Settings) → count ≤ channelLimit → length table ≡ channelLimit → pick (ltb channel count) (getD table (min channel (channelLimit - 1)) zeroSettings) defaultSettings ≡ pick (ltb channel (length (take count table))) (channelIn channel (take count table)) defaultSettings
+channel-seen : (channel count : ℕ) (table : List Settings) → count ≤ channelLimit → length table ≡ channelLimit
+    → pick (ltb channel count) (getD table (min channel (channelLimit - 1)) zeroSettings) defaultSettings ≡ pick (ltb channel (length (take count table))) (channelIn channel (take count table)) defaultSettings
 channel-seen channel count table h l =
     let e : length (take count table) ≡ count = length-take-le count table (omega arith) in
     rw e
@@ -322,7 +323,8 @@ abbrev pub Plain : List ℕ → Type 0
 Plain ks = T (not (hasKey ks 5)) × T (not (hasKey ks 6)) × T (not (hasKey ks 7)) × T (not (hasKey ks 8))
 
 -- Such an effect is carried out in what stands; a count sends every channel back to the root settings, which they hold where no record is laid down.
-stands-carried : (ks : List ℕ) → Plain ks → (s : List ℕ) (st : Standing) (fs : List Frame) (own : ℕ) (table : List Settings) → T (not (hasKey ks 2)) ⊎ (own ≡ 0) → (e : Effect) → OneOf ks (tagOf the-type e) → carried s (state st (shownBy st own table) fs) e ≡ goes (state (standingAfter st e) (shownBy (standingAfter st e) own table) fs)
+stands-carried : (ks : List ℕ) → Plain ks → (s : List ℕ) (st : Standing) (fs : List Frame) (own : ℕ) (table : List Settings) → T (not (hasKey ks 2)) ⊎ (own ≡ 0) → (e : Effect) → OneOf ks (tagOf the-type e)
+    → carried s (state st (shownBy st own table) fs) e ≡ goes (state (standingAfter st e) (shownBy (standingAfter st e) own table) fs)
 unfolding carried
 stands-carried ks b s st fs own table u Effect.Pass h = refl
 stands-carried ks b s st fs own table u (Effect.Order little) h = refl

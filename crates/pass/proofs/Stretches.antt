@@ -150,7 +150,8 @@ module _ (s : List ℕ) (st : Standing) (fs : List Frame) (table : List Settings
   abbrev groupState : Settings → State
   groupState held = state st (set table channel held) fs
 
-  member-defines : (held : Settings) (at tag n : ℕ) (a : Attribute) (c : Change) → tagged tag ≡ Tagged.Defines a → defined a (st .little) (st .root) (valueAt s (at + 2) n) ≡ Defined.Changed c → meaning s (groupState held) (Member at channel tag (at + 2) n) ≡ goes (groupState (applied c held))
+  member-defines : (held : Settings) (at tag n : ℕ) (a : Attribute) (c : Change) → tagged tag ≡ Tagged.Defines a → defined a (st .little) (st .root) (valueAt s (at + 2) n) ≡ Defined.Changed c
+      → meaning s (groupState held) (Member at channel tag (at + 2) n) ≡ goes (groupState (applied c held))
   unfolding effectOf memberEffect oneEffect carried oneChanged
   member-defines held at tag n a c e f =
       ap (λ (b : Bool). carried s (groupState held) (pick b Effect.Pass (memberEffect st channel (valueAt s (at + 2) n) (tagged tag)))) z

@@ -135,7 +135,8 @@ pub record Framing (s : List ℕ) (q : Asked) (table : List Settings) (own : ℕ
 
 module _ {s : List ℕ} {q : Asked} {table : List Settings} {own : ℕ} {c : Cursor} {st : Standing} {m : Met} {i : Item} {d : Cursor} {e : Effect} (t : Turn s q table own c st m i d e) where
   -- The channels' records are laid down as far as the effect looks at them.
-  pub turn-framing : {start len n k : ℕ} {l : Layout} {r : Framed} → e ≡ Effect.Frame start len → n ≡ reachOf (st .counted) e → n ≤ own → Summing (q .channel) table n k l → n ≤ k → r ≡ framedBy (m .frames) st (l .agree) (l .octets) len → Framing s q table own c st m i d start len l r
+  pub turn-framing : {start len n k : ℕ} {l : Layout} {r : Framed} → e ≡ Effect.Frame start len → n ≡ reachOf (st .counted) e → n ≤ own → Summing (q .channel) table n k l → n ≤ k → r ≡ framedBy (m .frames) st (l .agree) (l .octets) len
+      → Framing s q table own c st m i d start len l r
   turn-framing {n = n} b en h u w g =
       let few = passing-counted (t .before) in
       record {
