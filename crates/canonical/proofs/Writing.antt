@@ -9,7 +9,7 @@
 use mathlib.Core.Path.{_≡_, refl, sym, ap, subst, _∙_}
 use mathlib.Core.List.{List, [], _∷_, _++_, map, append-assoc, append-nil, map-append}
 use mathlib.Core.Bool.{Bool, true, false}
-use Prim.Native.Nat.{ℕ, suc, _+_, _*_, _≤_, _<_}
+use Prim.Native.Nat.{ℕ, suc, _+_, _*_, _^_, _≤_, _<_}
 use native.Mathlib.Nat.{zero-add, add-assoc}
 use native.Mathlib.Omega.{arith}
 use types.Run.{OneOf, miss}
@@ -51,13 +51,14 @@ use Rattle.standing.specs.Standing.{octetsLimit, framesLimit, firstStanding}
 use Rattle.effects.specs.Effects.{effectOf, valueAt}
 use Rattle.framing.specs.Framing.{channelsOf}
 use Rattle.framing.specs.AnyNumbers.{framedBy}
-use Rattle.pass.specs.Verdict.{State, state, Outcome, goes, refuses, frameAt, withFrame, carried, placeAt, Verdict, accepted, refused, interpret, verdict}
+use Rattle.pass.specs.Verdict.{State, state, goes, refuses, frameAt, withFrame, carried, placeAt, Verdict, accepted, refused, interpret, verdict}
 use Rattle.pass.specs.Scan.{zeroFrame, sizeOf, sizes, scannedIn, scanOf}
 use Rattle.pass.specs.declared.Asked.{Asked}
 use Rattle.pass.specs.declared.Checked.{Checked}
 use Rattle.pass.specs.declared.Scan.{Scan}
 use Rattle.pass.specs.Passing.{Reached, first, behind}
 use Rattle.pass.proofs.Keeps.{Keeps, frames-kept, interpret-refuses, interpret-finished, interpret-fault, reached-verdict}
+use Rattle.pass.proofs.Steps.{meaning-steps, step-grown}
 use Rattle.pass.proofs.Bounds.{reached-bounded}
 use Rattle.framing.proofs.Framings.{pointer-small}
 use Rattle.settings.proofs.Shown.{shown, shown-none}
@@ -78,33 +79,12 @@ use Rattle.canonical.proofs.Recordings.{waveform-long}
 
 -- ---- the frames met so far are the first of the file's
 
-abbrev Grown : List Frame → Outcome → Type 0
-Grown fs (goes y) = (rest : List Frame) × (y .frames ≡ fs ++ rest)
-Grown fs (refuses n) = Unit {0}
-
-with-grown : (s : List ℕ) (x : State) (start len : ℕ) (f : Framed) → Grown (x .frames) (withFrame s x start len f)
-unfolding withFrame
-with-grown s x start len (Framed.Taken n st) = (frameAt s x start len n ∷ [], refl)
-with-grown s x start len (Framed.Refused n) = tt
-
-carried-grown : (s : List ℕ) (x : State) (e : Effect) → Grown (x .frames) (carried s x e)
-unfolding carried
-carried-grown s x Effect.Pass = ([], sym (append-nil (x .frames)))
-carried-grown s x (Effect.Order little) = ([], sym (append-nil (x .frames)))
-carried-grown s x (Effect.Count n) = ([], sym (append-nil (x .frames)))
-carried-grown s x (Effect.Sequences n) = ([], sym (append-nil (x .frames)))
-carried-grown s x (Effect.Start z) = ([], sym (append-nil (x .frames)))
-carried-grown s x (Effect.All c) = ([], sym (append-nil (x .frames)))
-carried-grown s x (Effect.One channel c) = ([], sym (append-nil (x .frames)))
-carried-grown s x (Effect.Frame start len) = with-grown s x start len _
-carried-grown s x (Effect.Refused n) = tt
-
 abbrev First : List Frame → State → Cursor → Type 0
 First fs y d = (rest : List Frame) × (y .frames ≡ fs ++ rest)
 
 first-keeps : (s : List ℕ) (fs : List Frame) → Keeps s (First fs)
 first-keeps s fs x c i d y p n m =
-    let g = subst (Grown (x .frames)) m (carried-grown s x (effectOf s (x .standing) i)) in
+    let g = step-grown s x i y (meaning-steps s x i y m) in
     (p .0 ++ g .0, g .1 ∙ ap (λ (l : List Frame). l ++ g .0) (p .1) ∙ append-assoc fs (p .0) (g .0))
 
 pub frames-grow : (s : List ℕ) (x : State) (c : Cursor) (fs : List Frame) → interpret s x (itemsFrom s c) ≡ accepted fs → (rest : List Frame) × (fs ≡ x .frames ++ rest)
@@ -142,13 +122,13 @@ widened z = toZ w64 (ofZ w64 z)
 abbrev pub narrowed : ℤ → ℤ
 narrowed z = toZ w32 (ofZ w32 (widened z))
 
-wide-is : (z : ℤ) → mag z < 2147483648 → widened z ≡ z
-wide-is z h = let wide : mag z < 9223372036854775808 = omega arith in toZ-ofZ (record { sfits = wide })
+wide-is : (z : ℤ) → mag z < 2 ^ 31 → widened z ≡ z
+wide-is z h = let wide : mag z < 2 ^ 63 = omega arith in toZ-ofZ (record { sfits = wide })
 
-narrow-fits : (z : ℤ) → mag z < 2147483648 → SFits w32 (widened z)
+narrow-fits : (z : ℤ) → mag z < 2 ^ 31 → SFits w32 (widened z)
 narrow-fits z h = subst (SFits w32) (sym (wide-is z h)) (record { sfits = h })
 
-narrow-is : (z : ℤ) → mag z < 2147483648 → narrowed z ≡ z
+narrow-is : (z : ℤ) → mag z < 2 ^ 31 → narrowed z ≡ z
 narrow-is z h = toZ-ofZ (narrow-fits z h) ∙ wide-is z h
 
 -- ---- one frame more
@@ -313,7 +293,7 @@ module _ {s d : List ℕ} {table : List Settings} {c : Cursor} {st : Standing} {
     pub frame-root : x .root ≡ st .root
     frame-root = taken-root (short p) (p .reached) (p .count) 0 l counted i (sym fe ∙ ee) er fr
 
-    start-small : mag (st .start) < 2147483648
+    start-small : mag (st .start) < 2 ^ 31
     start-small = pointer-small (st .start) (lies .pointer)
 
     pub frame-start : SFits w32 (widened (st .start))

@@ -250,14 +250,10 @@ pub fn reach(e: Effect, counted: u32) -> usize
     ensures { λ r. ⌜ r ≡ reachOf counted e ⌝ }
 {
     match e {
-        Effect::Pass => 0,
-        Effect::Order(_) => 0,
-        Effect::Count(_) => 0,
-        Effect::Sequences(_) => 0,
-        Effect::Start(_) => 0,
-        Effect::All(_) => 0,
         Effect::One(channel, _) => Settings::at_most(channel as usize + 1),
-        Effect::Frame { start: _, len: _ } => Settings::at_most(framing::channels_of(counted) as usize),
-        Effect::Refused(_) => 0,
+        Effect::Frame { start: _, len: _ } => Settings::at_most(
+            framing::channels_of(counted) as usize,
+        ),
+        _ => 0,
     }
 }

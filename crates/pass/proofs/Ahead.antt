@@ -106,7 +106,9 @@ bare-more {channel = channel} {x = x} {i = i} {l = l} p m h g =
 
 module _ {s : List ℕ} {q : Asked} {table : List Settings} {c : Cursor} {st : Standing} {m : Met} {i : Item} {d : Cursor} {e : Effect} (t : Turn s q table 0 c st m i d e) where
   -- All records are laid down for a frame ..
-  pub bare-framing : {start len : ℕ} {l : Layout} {r : Framed} → e ≡ Effect.Frame start len → l ≡ layoutOf (q .channel) (take (channelsOf (st .counted)) (replicate channelLimit (st .root))) → r ≡ framedBy (m .frames) st (l .agree) (l .octets) len → Framing s q (replicate channelLimit (st .root)) channelLimit c st m i d start len l r
+  pub bare-framing : {start len : ℕ} {l : Layout} {r : Framed}
+      → e ≡ Effect.Frame start len → l ≡ layoutOf (q .channel) (take (channelsOf (st .counted)) (replicate channelLimit (st .root))) → r ≡ framedBy (m .frames) st (l .agree) (l .octets) len
+      → Framing s q (replicate channelLimit (st .root)) channelLimit c st m i d start len l r
   bare-framing b el g =
       record {
         turn = turn-filled (record { before = t .before; found = t .found; asks = sym b ∙ t .asks }) (filling-all (st .root) table);
@@ -118,12 +120,12 @@ module _ {s : List ℕ} {q : Asked} {table : List Settings} {c : Cursor} {st : S
   -- .. and taken back behind it.
   pub bare-taken : {start len sequences : ℕ} {l : Layout} {r : Framed} {x : Standing} {m' : Met}
       → e ≡ Effect.Frame start len → l ≡ layoutOf (q .channel) (take (channelsOf (st .counted)) (replicate channelLimit (st .root))) → r ≡ framedBy (m .frames) st (l .agree) (l .octets) len → r ≡ Taken sequences x
-      → (m' ≡ metWith q st sequences start l (st .root) m) × (frameSize sequences (l .groups) (sequences * l .octets) < 4294967296)
+      → (m' ≡ metWith q st sequences start l (st .root) m) × (frameSize sequences (l .groups) (sequences * l .octets) < 2 ^ 32)
       → Passing s q table 0 d x m'
   bare-taken {x = x} b el g h em =
       let f = bare-framing b el g in
-      let there : min (q .channel) 255 < channelLimit = omega arith in
-      passing-filled (framing-taken f h (sym (getD-replicate channelLimit (min (q .channel) 255) (st .root) zeroSettings there)) em)
+      let there : min (q .channel) (channelLimit - 1) < channelLimit = omega arith in
+      passing-filled (framing-taken f h (sym (getD-replicate channelLimit (min (q .channel) (channelLimit - 1)) (st .root) zeroSettings there)) em)
       (record {
         records = t .before .records;
         same = shown-none channelLimit (x .root) table ∙ sym (ap (λ (y : Settings). shown channelLimit (x .root) channelLimit (replicate channelLimit y)) (sym (framing-root f h)) ∙ shown-all (x .root));

@@ -1,5 +1,5 @@
 -- Laws of the interpretation: what every item keeps holds to the end.
---     interpret-item, -goes, -refuses    one item interpreted
+--     interpret-goes, -refuses    one item interpreted
 --     verdict-law     what holds of each way to stop holds of the interpretation's verdict
 --     frames-kept     the frames of an accepted interpretation are those of a state that is reached
 --     accepted-by, accepted-kept    the same of an accepted file, which is no longer than the limit
@@ -36,11 +36,11 @@ meaning s x i = carried s x (effectOf s (x .standing) i)
 -- ---- one item
 
 module _ (s : List ℕ) (x : State) (i : Item) (more : Items) where
-  pub interpret-item : interpret s x (item i more) ≡ afterItem (λ y. interpret s y more) (placeAt i) (meaning s x i)
+  interpret-item : interpret s x (item i more) ≡ afterItem (λ y. interpret s y more) (placeAt i) (meaning s x i)
   unfolding interpret
   interpret-item = refl
 
-  pub interpret-goes : (y : State) → meaning s x i ≡ goes y → interpret s x (item i more) ≡ interpret s y more
+  interpret-goes : (y : State) → meaning s x i ≡ goes y → interpret s x (item i more) ≡ interpret s y more
   unfolding afterItem
   interpret-goes y e = interpret-item ∙ ap (afterItem (λ z. interpret s z more) (placeAt i)) e
 

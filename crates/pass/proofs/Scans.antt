@@ -151,13 +151,14 @@ pub kept-before : {a b : ℕ} (x y : Found) → (a ≡ b → ⊥) → y ≡ pick
 kept-before {a = a} {b = b} x y n = sym (ap (λ (t : Bool). pick t x y) (ne-eqb a b n))
 
 -- The channel that is asked for, as the table has it and as the frame has it.
-channel-seen : (channel count : ℕ) (table : List Settings) → count ≤ channelLimit → length table ≡ channelLimit → pick (ltb channel count) (getD table (min channel 255) zeroSettings) defaultSettings ≡ pick (ltb channel (length (take count table))) (channelIn channel (take count table)) defaultSettings
+channel-seen : (channel count : ℕ) (table : List Settings) → count ≤ channelLimit → length table ≡ channelLimit
+    → pick (ltb channel count) (getD table (min channel (channelLimit - 1)) zeroSettings) defaultSettings ≡ pick (ltb channel (length (take count table))) (channelIn channel (take count table)) defaultSettings
 channel-seen channel count table h l =
     let e : length (take count table) ≡ count = length-take-le count table (omega arith) in
     rw e
     (pick-cases (λ (r : Settings). r ≡ pick (ltb channel count) (channelIn channel (take count table)) defaultSettings) (ltb channel count)
     (λ t. let k = ltb-true channel count t in
-    let m : min channel 255 ≡ channel = omega arith in
+    let m : min channel (channelLimit - 1) ≡ channel = omega arith in
     simp (t, m, getD-take count table channel zeroSettings k))
     (λ t. simp t))
 
@@ -188,14 +189,14 @@ module _ {s : List ℕ} {table : List Settings} {c : Cursor} {st : Standing} {me
       ap (carried s there) (sym a)
       ∙ ap (withFrame s there start len) (sym (rw (el, counts) at (u ∙ framed-here i start len a)) ∙ v)
 
-  pub count-few : count ≤ channelLimit
+  count-few : count ≤ channelLimit
   count-few = channels-between (st .counted) (bounded .counted) .1
 
-  pub counts-there : length (take count table) ≡ count
+  counts-there : length (take count table) ≡ count
   counts-there = length-take-le count table (omega (arith, count-few, bounded .full))
 
   -- What the waveform and its groups take is small.
-  pub groups-small : l .groups ≤ 16384
+  pub groups-small : l .groups ≤ channelLimit * 64
   unfolding layoutOf
   groups-small = rw el (omega (arith, groups-few 0 (take count table), counts-there, count-few))
 
@@ -220,8 +221,8 @@ module _ {s : List ℕ} {q : Asked} {table : List Settings} {c : Cursor} {st : S
   -- The frame is met; v are the settings of the channel that is asked for, where the frame has it.
   pub scanning-frame : {d : Cursor} (v : Settings)
       → nextOf s c ≡ FoundItem i d
-      → pick (ltb (q .channel) (channelsOf (st .counted))) v defaultSettings ≡ pick (ltb (q .channel) (channelsOf (st .counted))) (getD table (min (q .channel) 255) zeroSettings) defaultSettings
-      → frameSize sequences (l .groups) (sequences * l .octets) < 4294967296
+      → pick (ltb (q .channel) (channelsOf (st .counted))) v defaultSettings ≡ pick (ltb (q .channel) (channelsOf (st .counted))) (getD table (min (q .channel) (channelLimit - 1)) zeroSettings) defaultSettings
+      → frameSize sequences (l .groups) (sequences * l .octets) < 2 ^ 32
       → Scanning s q table d x (metWith q st sequences start l v m)
   unfolding withFrame layoutOf viewOf sizeOf
   scanning-frame v en ev small =
@@ -322,7 +323,8 @@ abbrev pub Plain : List ℕ → Type 0
 Plain ks = T (not (hasKey ks 5)) × T (not (hasKey ks 6)) × T (not (hasKey ks 7)) × T (not (hasKey ks 8))
 
 -- Such an effect is carried out in what stands; a count sends every channel back to the root settings, which they hold where no record is laid down.
-stands-carried : (ks : List ℕ) → Plain ks → (s : List ℕ) (st : Standing) (fs : List Frame) (own : ℕ) (table : List Settings) → T (not (hasKey ks 2)) ⊎ (own ≡ 0) → (e : Effect) → OneOf ks (tagOf the-type e) → carried s (state st (shownBy st own table) fs) e ≡ goes (state (standingAfter st e) (shownBy (standingAfter st e) own table) fs)
+stands-carried : (ks : List ℕ) → Plain ks → (s : List ℕ) (st : Standing) (fs : List Frame) (own : ℕ) (table : List Settings) → T (not (hasKey ks 2)) ⊎ (own ≡ 0) → (e : Effect) → OneOf ks (tagOf the-type e)
+    → carried s (state st (shownBy st own table) fs) e ≡ goes (state (standingAfter st e) (shownBy (standingAfter st e) own table) fs)
 unfolding carried
 stands-carried ks b s st fs own table u Effect.Pass h = refl
 stands-carried ks b s st fs own table u (Effect.Order little) h = refl
@@ -397,10 +399,10 @@ module _ {own : ℕ} {table : List Settings} (k : Records own table) where
   pub frame-shown : (st : Standing) (count : ℕ) → count ≤ own → take count table ≡ take count (shownBy st own table)
   frame-shown st count h = sym (shown-take channelLimit (st .root) own table count own-low h)
 
-  pub seen-shown : (st : Standing) (channel count : ℕ) → count ≤ own → pick (ltb channel count) (getD table (min channel 255) zeroSettings) defaultSettings ≡ pick (ltb channel count) (getD (shownBy st own table) (min channel 255) zeroSettings) defaultSettings
+  pub seen-shown : (st : Standing) (channel count : ℕ) → count ≤ own → pick (ltb channel count) (getD table (min channel (channelLimit - 1)) zeroSettings) defaultSettings ≡ pick (ltb channel count) (getD (shownBy st own table) (min channel (channelLimit - 1)) zeroSettings) defaultSettings
   seen-shown st channel count h =
-      pick-cases (λ (r : Settings). r ≡ pick (ltb channel count) (getD (shownBy st own table) (min channel 255) zeroSettings) defaultSettings) (ltb channel count)
-      (λ t. let l = ltb-true channel count t in simp t (sym (shown-get channelLimit (st .root) own table (min channel 255) own-low zeroSettings (omega (arith, k .low)))))
+      pick-cases (λ (r : Settings). r ≡ pick (ltb channel count) (getD (shownBy st own table) (min channel (channelLimit - 1)) zeroSettings) defaultSettings) (ltb channel count)
+      (λ t. let l = ltb-true channel count t in simp t (sym (shown-get channelLimit (st .root) own table (min channel (channelLimit - 1)) own-low zeroSettings (omega (arith, k .low)))))
       (λ t. simp t)
 
 -- An item is found with the cursor behind it, however that is kept.

@@ -3,9 +3,10 @@
 --     effect-asks, waveform-found    what an item may ask for, and that a frame's waveform is an item's value
 --     framed-gives, taken-found    what a waveform that is taken tells
 --     meaning-steps, meaning-refused    what an item that is not refused does, and the number of one that is
+--     step-grown       the frames met stay the first ones
 -- Assumes nothing.
 use mathlib.Core.Path.{_≡_, refl, subst, sym, _∙_}
-use mathlib.Core.List.{List, [], _∷_, _++_}
+use mathlib.Core.List.{List, [], _∷_, _++_, append-nil}
 use mathlib.Core.Bool.{Bool, true, not}
 use Prim.Native.Nat.{ℕ, _*_, _≤_, _<_}
 use native.Mathlib.Omega.{arith}
@@ -25,7 +26,7 @@ use Rattle.definitions.specs.declared.Tagged.{Tagged}
 use Rattle.definitions.specs.declared.Defined.{Defined}
 use Rattle.settings.specs.Settings.{channelLimit, defaultSettings, applied, allApplied}
 use Rattle.definitions.specs.Define.{tagged, lengthFits, changeOf, standingIn, inRange, defined}
-use Rattle.layout.specs.Frame.{sequenceOctets, allAgree}
+use Rattle.layout.specs.Frame.{Frame, sequenceOctets, allAgree}
 use Rattle.standing.specs.declared.Standing.{Standing}
 use Rattle.effects.specs.declared.Effect.{Effect}
 use Rattle.framing.specs.declared.Framed.{Framed}
@@ -224,6 +225,15 @@ pub data Step (s : List ℕ) (x : State) (i : Item) : State → Type 0 where
   frames : (start long n : ℕ) (y : Standing) → Waveform s i start long
       → TakenBy (length (x .frames)) (x .standing) (allAgree (frameChannels x)) (sequenceOctets (frameChannels x)) long n y
       → Step s x i (state y (x .channels) (x .frames ++ (frameAt s x start long n ∷ [])))
+
+-- The frames met stay the first ones.
+pub step-grown : (s : List ℕ) (x : State) (i : Item) (y : State) → Step s x i y → (rest : List Frame) × (y .frames ≡ x .frames ++ rest)
+step-grown s x i _ passes = ([], sym (append-nil (x .frames)))
+step-grown s x i _ (stands y h r) = ([], sym (append-nil (x .frames)))
+step-grown s x i _ (resets y h r) = ([], sym (append-nil (x .frames)))
+step-grown s x i _ (changes c d) = ([], sym (append-nil (x .frames)))
+step-grown s x i _ (sets channel c d) = ([], sym (append-nil (x .frames)))
+step-grown s x i _ (frames start long n y w t) = (frameAt s x start long n ∷ [], refl)
 
 -- No item is refused by 15.
 abbrev Steps : List ℕ → State → Item → Outcome → Type 0

@@ -89,7 +89,7 @@ module _ (s : List ℕ) (w : Within) (little : Bool) (base : Settings) (X : Sett
           (more y)
           (subst (λ (j : ℕ). Reached s (X y) (cursor j w)) q (one-law (from + taken) held y (step-led little base held u e) r))
 
-  pub stretch-law : (at : ℕ) (held : Settings) (t : Stretch) → t ≡ stretchOf s (cursor at w) little base held → Reached s (X held) (cursor at w) → Reached s (X (t .settings)) (cursor (t .at) w)
+  stretch-law : (at : ℕ) (held : Settings) (t : Stretch) → t ≡ stretchOf s (cursor at w) little base held → Reached s (X held) (cursor at w) → Reached s (X (t .settings)) (cursor (t .at) w)
   unfolding stretchOf runOf
   stretch-law at held t e =
       subst (λ (y : Stretch). Reached s (X held) (cursor at w) → Reached s (X (y .settings)) (cursor (y .at) w)) (sym e)
@@ -150,7 +150,8 @@ module _ (s : List ℕ) (st : Standing) (fs : List Frame) (table : List Settings
   abbrev groupState : Settings → State
   groupState held = state st (set table channel held) fs
 
-  member-defines : (held : Settings) (at tag n : ℕ) (a : Attribute) (c : Change) → tagged tag ≡ Tagged.Defines a → defined a (st .little) (st .root) (valueAt s (at + 2) n) ≡ Defined.Changed c → meaning s (groupState held) (Member at channel tag (at + 2) n) ≡ goes (groupState (applied c held))
+  member-defines : (held : Settings) (at tag n : ℕ) (a : Attribute) (c : Change) → tagged tag ≡ Tagged.Defines a → defined a (st .little) (st .root) (valueAt s (at + 2) n) ≡ Defined.Changed c
+      → meaning s (groupState held) (Member at channel tag (at + 2) n) ≡ goes (groupState (applied c held))
   unfolding effectOf memberEffect oneEffect carried oneChanged
   member-defines held at tag n a c e f =
       ap (λ (b : Bool). carried s (groupState held) (pick b Effect.Pass (memberEffect st channel (valueAt s (at + 2) n) (tagged tag)))) z

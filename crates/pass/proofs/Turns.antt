@@ -34,7 +34,7 @@ use Rattle.effects.specs.declared.Effect.{Effect}
 use Rattle.framing.specs.declared.Framed.{Framed}
 use Rattle.framing.specs.declared.Framed.the-variants.{Taken}
 use Rattle.pass.specs.declared.Asked.{Asked}
-use Rattle.standing.specs.Standing.{octetsLimit, framesLimit, firstStanding}
+use Rattle.standing.specs.Standing.{octetsLimit, firstStanding}
 use Rattle.effects.specs.Effects.{effectOf, standingAfter}
 use Rattle.effects.proofs.Effect.{the-type}
 use Rattle.effects.specs.Reach.{reachOf}
@@ -42,7 +42,7 @@ use Rattle.framing.specs.Framing.{channelsOf}
 use Rattle.framing.specs.AnyNumbers.{framedBy}
 use Rattle.pass.specs.Verdict.{state, goes, withFrame, carried, placeAt}
 use Rattle.pass.specs.declared.Met.{Met}
-use Rattle.pass.specs.Passing.{behind, Scanning, noneMet, metWith}
+use Rattle.pass.specs.Passing.{behind, Scanning, noneMet, metWith, Room}
 use Rattle.pass.specs.Scan.{refusedScan, scanOf}
 use Rattle.items.proofs.Walks.{next-later}
 use Rattle.layout.proofs.Laws.{Summing, summed-up}
@@ -135,7 +135,8 @@ pub record Framing (s : List ℕ) (q : Asked) (table : List Settings) (own : ℕ
 
 module _ {s : List ℕ} {q : Asked} {table : List Settings} {own : ℕ} {c : Cursor} {st : Standing} {m : Met} {i : Item} {d : Cursor} {e : Effect} (t : Turn s q table own c st m i d e) where
   -- The channels' records are laid down as far as the effect looks at them.
-  pub turn-framing : {start len n k : ℕ} {l : Layout} {r : Framed} → e ≡ Effect.Frame start len → n ≡ reachOf (st .counted) e → n ≤ own → Summing (q .channel) table n k l → n ≤ k → r ≡ framedBy (m .frames) st (l .agree) (l .octets) len → Framing s q table own c st m i d start len l r
+  pub turn-framing : {start len n k : ℕ} {l : Layout} {r : Framed} → e ≡ Effect.Frame start len → n ≡ reachOf (st .counted) e → n ≤ own → Summing (q .channel) table n k l → n ≤ k → r ≡ framedBy (m .frames) st (l .agree) (l .octets) len
+      → Framing s q table own c st m i d start len l r
   turn-framing {n = n} b en h u w g =
       let few = passing-counted (t .before) in
       record {
@@ -162,16 +163,19 @@ module _ {s : List ℕ} {q : Asked} {table : List Settings} {own : ℕ} {c : Cur
     pub framing-root : x .root ≡ st .root
     framing-root = taken-root (scanning .long) (scanning .reached) (scanning .count) (q .channel) l shows i (f .turn .asks) (f .gives) g
 
-    pub framing-room : (m .frames ≤ framesLimit) × (m .size ≤ m .frames * 2 ^ 32) × (l .groups ≤ 16384) × (sequences * l .octets ≤ octetsLimit)
+    pub framing-room : Room sequences l m
     framing-room =
-        let groups = groups-small (scanning .long) (scanning .reached) (scanning .count) (q .channel) l shows in
-        let small = taken-small (scanning .long) (scanning .reached) (scanning .count) (q .channel) l shows i (f .turn .asks) (f .gives) g in
-        (scanning-few scanning, scanning .room, groups, small)
+        record {
+          few = scanning-few scanning;
+          size = scanning .room;
+          groups = groups-small (scanning .long) (scanning .reached) (scanning .count) (q .channel) l shows;
+          waveform = taken-small (scanning .long) (scanning .reached) (scanning .count) (q .channel) l shows i (f .turn .asks) (f .gives) g;
+        }
 
     -- The frame is taken, and the pass keeps what it wants of it.
     pub framing-taken : {v : Settings} {m' : Met}
-        → v ≡ getD table (min (q .channel) 255) zeroSettings
-        → (m' ≡ metWith q st sequences start l v m) × (frameSize sequences (l .groups) (sequences * l .octets) < 4294967296)
+        → v ≡ getD table (min (q .channel) (channelLimit - 1)) zeroSettings
+        → (m' ≡ metWith q st sequences start l v m) × (frameSize sequences (l .groups) (sequences * l .octets) < 2 ^ 32)
         → Passing s q table own d x m'
     framing-taken {v = v} ev em =
         let count = channelsOf (st .counted) in
@@ -180,5 +184,5 @@ module _ {s : List ℕ} {q : Asked} {table : List Settings} {own : ℕ} {c : Cur
         (record {
           records = f .turn .before .records;
           pass = subst (λ (y : Settings). Scanning s q (shown channelLimit y own table) d x (metWith q st sequences start l v m)) (sym framing-root)
-          (scanning-frame scanning l shows i (f .turn .asks) (f .gives) g v (f .turn .found) seen (em .1));
+              (scanning-frame scanning l shows i (f .turn .asks) (f .gives) g v (f .turn .found) seen (em .1));
         })

@@ -17,7 +17,7 @@ use Rattle.layout.specs.declared.Layout.{Layout}
 use Rattle.layout.specs.Frame.{Frame}
 use Rattle.layout.specs.Size.{frameSize}
 use Rattle.standing.specs.declared.Standing.{Standing}
-use Rattle.standing.specs.Standing.{octetsLimit}
+use Rattle.standing.specs.Standing.{octetsLimit, framesLimit}
 use Rattle.effects.specs.Effects.{effectOf}
 use Rattle.framing.specs.Framing.{channelsOf}
 use Rattle.stretch.specs.Stretch.{steppedOver}
@@ -67,6 +67,13 @@ viewMet channel st sequences start l c =
       below = l .below;
       settings = pick (ltb channel (channelsOf (st .counted))) c defaultSettings;
     }
+
+-- A frame more is counted without loss: what its groups and its waveform take is small, and so is what the frames before it take.
+pub record Room (sequences : ℕ) (l : Layout) (m : Met) : Type 0 where
+  pub few : m .frames ≤ framesLimit
+  pub size : m .size ≤ m .frames * 2 ^ 32
+  pub groups : l .groups ≤ channelLimit * 64
+  pub waveform : sequences * l .octets ≤ octetsLimit
 
 -- One frame more is met.
 abbrev pub metWith : Asked → Standing → ℕ → ℕ → Layout → Settings → Met → Met

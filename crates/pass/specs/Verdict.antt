@@ -64,16 +64,19 @@ unfoldable pub withFrame : List ℕ → State → ℕ → ℕ → Framed → Out
 withFrame s x start len (Framed.Taken sequences st) = goes (state st (x .channels) (x .frames ++ (frameAt s x start len sequences ∷ [])))
 withFrame s x start len (Framed.Refused number) = refuses number
 
+-- An effect that gives no frame leads on to what stands after it, with these channels' records.
+abbrev pub leads : State → Effect → List Settings → Outcome
+leads x e table = goes (state (standingAfter (x .standing) e) table (x .frames))
+
 -- What an effect does. A root definition ends every channel's own setting; tag 05 sends every channel back to the root settings.
 unfoldable pub carried : List ℕ → State → Effect → Outcome
-carried s x Effect.Pass = goes x
-carried s x (Effect.Order little) = goes (state (standingAfter (x .standing) (Effect.Order little)) (x .channels) (x .frames))
-carried s x (Effect.Count counted) =
-    goes (state (standingAfter (x .standing) (Effect.Count counted)) (replicate channelLimit (x .standing .root)) (x .frames))
-carried s x (Effect.Sequences sequences) = goes (state (standingAfter (x .standing) (Effect.Sequences sequences)) (x .channels) (x .frames))
-carried s x (Effect.Start start) = goes (state (standingAfter (x .standing) (Effect.Start start)) (x .channels) (x .frames))
-carried s x (Effect.All c) = goes (state (standingAfter (x .standing) (Effect.All c)) (allApplied c (x .channels)) (x .frames))
-carried s x (Effect.One channel c) = goes (state (x .standing) (oneChanged channel (applied c) (x .channels)) (x .frames))
+carried s x Effect.Pass = leads x Effect.Pass (x .channels)
+carried s x (Effect.Order little) = leads x (Effect.Order little) (x .channels)
+carried s x (Effect.Count counted) = leads x (Effect.Count counted) (replicate channelLimit (x .standing .root))
+carried s x (Effect.Sequences sequences) = leads x (Effect.Sequences sequences) (x .channels)
+carried s x (Effect.Start start) = leads x (Effect.Start start) (x .channels)
+carried s x (Effect.All c) = leads x (Effect.All c) (allApplied c (x .channels))
+carried s x (Effect.One channel c) = leads x (Effect.One channel c) (oneChanged channel (applied c) (x .channels))
 carried s x (Effect.Frame start len) =
     withFrame s x start len
     (framedAs (length (x .frames)) (x .standing) (allAgree (frameChannels x)) (sequenceOctets (frameChannels x)) len)

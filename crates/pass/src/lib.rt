@@ -14,11 +14,11 @@ ghost use Rattle.settings.specs.Settings.{defaultSettings, channelLimit};
 ghost use Rattle.stretch.specs.Stretch.{stretchOf};
 ghost use Rattle.layout.specs.Size.{frameSize};
 ghost use Rattle.layout.specs.Measure.{layoutOf};
-ghost use Rattle.standing.specs.Standing.{octetsLimit, framesLimit};
+ghost use Rattle.standing.specs.Standing.{octetsLimit};
 ghost use Rattle.framing.specs.Framing.{channelsOf};
 ghost use Rattle.pass.specs.Verdict.{placeAt};
 ghost use Rattle.pass.specs.Scan.{refusedScan, scanOf};
-ghost use Rattle.pass.specs.Passing.{Scanning, openedBy, beginsAt, noneMet, metScan, metWith, viewMet};
+ghost use Rattle.pass.specs.Passing.{Scanning, Room, openedBy, beginsAt, noneMet, metScan, metWith, viewMet};
 use effects::Effect;
 use framing::Framed;
 use heads::Refusal;
@@ -176,8 +176,8 @@ impl Met {
         l: Layout,
         c: Settings,
     ) -> Met
-        requires { ⌜ (self .frames ≤ framesLimit) × (self .size ≤ self .frames * 2 ^ 32) × (l .groups ≤ 16384) × (sequences * l .octets ≤ octetsLimit) ⌝ }
-        ensures { λ r. ⌜ (r ≡ metWith asked st sequences start l c self) × (frameSize sequences (l .groups) (sequences * l .octets) < 4294967296) ⌝ }
+        requires { ⌜ Room sequences l self ⌝ }
+        ensures { λ r. ⌜ (r ≡ metWith asked st sequences start l c self) × (frameSize sequences (l .groups) (sequences * l .octets) < 2 ^ 32) ⌝ }
     {
         let waveform = sequences as u64 * l.octets;
         let size = self.size + layout::frame_size(sequences, l.groups as u32, waveform as u32);

@@ -47,14 +47,14 @@ pub record GoodScale (last : ℕ) (x : Scale) : Type 0 where
   pub value : ℕ
   pub mantissa : x .mantissa ≡ pos value
   pub low : 0 < value
-  pub high : value < 2147483648
+  pub high : value < 2 ^ 31
 
 -- A channel's attributes, as they stand in the table.
 pub record GoodSettings (c : Settings) : Type 0 where
   pub blockLow : 0 < c .block
   pub blockHigh : c .block ≤ blockLimit
-  pub class : c .class < 65536
-  pub lead : c .lead < 65536
+  pub class : c .class < 2 ^ 16
+  pub lead : c .lead < 2 ^ 16
   pub kind : c .kind ≤ lastKind
   pub interval : GoodScale lastIntervalUnit (c .interval)
   pub resolution : GoodScale lastResolutionUnit (c .resolution)
@@ -66,7 +66,7 @@ pub record GoodSettings (c : Settings) : Type 0 where
 pub record GoodFrame (f : Frame) : Type 0 where
   pub channels : Every GoodSettings (f .channels)
   pub agree : allAgree (f .channels) ≡ true
-  pub sequences : f .sequences < 4294967296
+  pub sequences : f .sequences < 2 ^ 32
   pub octets : (i : ℕ) → getD (f .waveform) i 0 < 256
 
 -- ---- one attribute
@@ -77,8 +77,8 @@ GoodBits b = (b .bits < 256 ^ (b .width)) × (bitsLength (b .width) ≡ true)
 -- The same of one attribute's value.
 abbrev GoodChange : Change → Type 0
 GoodChange (Change.Block n) = (0 < n) × (n ≤ blockLimit)
-GoodChange (Change.Class n) = n < 65536
-GoodChange (Change.Lead n) = n < 65536
+GoodChange (Change.Class n) = n < 2 ^ 16
+GoodChange (Change.Lead n) = n < 2 ^ 16
 GoodChange (Change.Kind n) = n ≤ lastKind
 GoodChange (Change.Interval x) = GoodScale lastIntervalUnit x
 GoodChange (Change.Resolution x) = GoodScale lastResolutionUnit x
@@ -172,7 +172,7 @@ module _ (little : Bool) (v : List ℕ) (octets : (i : ℕ) → getD v i 0 < 256
   bits-good : bitsLength (length v) ≡ true → GoodBits (bitsOf little v)
   bits-good e = rw (take-all 8 v (bits-short (length v) e)) (number-below little v octets, e)
 
-  pub change-good : (a : Attribute) → lengthFits a (length v) ≡ true → inRange (changeOf a little v) ≡ true → GoodChange (changeOf a little v)
+  change-good : (a : Attribute) → lengthFits a (length v) ≡ true → inRange (changeOf a little v) ≡ true → GoodChange (changeOf a little v)
   change-good Attribute.Block f r =
       let n = numberOf little (take 4 v) in
       let h = both-split (leb 1 n) (leb n blockLimit) r in

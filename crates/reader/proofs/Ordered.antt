@@ -131,12 +131,12 @@ module _ (s : List ℕ) where
       let l = waveform-lies c i d start long w f in
       framed s x c d p start long n y (l .0) (l .1) (f .inside) t b
 
-  pub lying-keeps : Keeps s (Lying s)
+  lying-keeps : Keeps s (Lying s)
   lying-keeps x c i d y p e f =
       let t = meaning-steps s x i y f in
       lying-step x c i d y p (next-found s c refl e) (bounded-step s x i y (p .bounded) t) t
 
-  pub lying-first : Lying s firstState firstCursor
+  lying-first : Lying s firstState firstCursor
   lying-first = record { bounded = bounded-first s; lies = tt; behind = tt; order = λ i j h l. let z : ⊥ = omega arith in absurd z }
 
 module _ (s : List ℕ) (fs : List Frame) (e : verdict s ≡ accepted fs) where

@@ -1,16 +1,18 @@
 -- Each turn is a law of the pass: the items up to the cursor behind the item lead to what stands then.
 use mathlib.Core.Path.{_≡_, refl, sym, ap, _∙_}
-use mathlib.Core.List.{[], _∷_}
+use mathlib.Core.List.{List, [], _∷_}
 use mathlib.Core.Logic.{inl}
 use native.Mathlib.Omega.{arith}
 use borrow.Author.Needs.{needs}
 use Prim.Native.Nat.{ℕ, _≤_, _<_, _+_, _-_}
 use lib.ListN.{length, getD}
 use Rattle.items.specs.declared.Cursor.{Cursor}
+use Rattle.items.specs.declared.Item.{Item}
 use Rattle.settings.specs.Settings.{channelLimit, zeroSettings, applied}
 use Rattle.settings.proofs.Mapped.{mapped, mapped-put}
 use Rattle.effects.specs.Effects.{effectOf}
 use Rattle.layout.proofs.Laws.{Summing, summing-none, summing-more}
+use Rattle.pass.specs.declared.Asked.{Asked}
 use Rattle.pass.proofs.Scans.{Filling, filling-none, filling-more, reach-few, found-as, scanned-end, scanned-fault}
 use Rattle.pass.proofs.Turns.{Passing, passing-at, passing-filled, Turn, turn-later, turn-filled, turn-nothing, turn-stands, turn-count, turn-all, turn-one, turn-outside, turn-refused, Framing, turn-framing, framing-refused, framing-room, framing-taken}
 use Rattle.pass.proofs.Stretches.{Opened, opened-group, opened-nothing, opened-counted, group-entered, stretch-on}
@@ -52,49 +54,74 @@ abbrev μ-loop : tie.MeasureT-loop
 -- ---- what is known at the places on the way
 
 -- An item is met, and the cursor stands behind it.
-module _ (c : tie.After-renewed Inv-loop2 μ-loop2 Inv-loop3 μ-loop3 Inv-loop4 μ-loop4 Inv-loop5 μ-loop5 Inv-loop μ-loop) where
-  abbrev at-item : tie.After-item Inv-loop2 μ-loop2 Inv-loop3 μ-loop3 Inv-loop4 μ-loop4 Inv-loop5 μ-loop5 Inv-loop μ-loop
-  at-item = c .before .before
+abbrev Behind : Type 0
+Behind = tie.After-renewed Inv-loop2 μ-loop2 Inv-loop3 μ-loop3 Inv-loop4 μ-loop4 Inv-loop5 μ-loop5 Inv-loop μ-loop
 
-  abbrev at-loop : tie.At-loop Inv-loop2 μ-loop2 Inv-loop3 μ-loop3 Inv-loop4 μ-loop4 Inv-loop5 μ-loop5 Inv-loop μ-loop
-  at-loop = at-item .before .before .before
+abbrev at-item : Behind → tie.After-item Inv-loop2 μ-loop2 Inv-loop3 μ-loop3 Inv-loop4 μ-loop4 Inv-loop5 μ-loop5 Inv-loop μ-loop
+at-item c = c .before .before
 
-  abbrev at-start : tie.Start Inv-loop2 μ-loop2 Inv-loop3 μ-loop3 Inv-loop4 μ-loop4 Inv-loop5 μ-loop5 Inv-loop μ-loop
-  at-start = at-loop .before .before .before
+abbrev at-loop : Behind → tie.At-loop Inv-loop2 μ-loop2 Inv-loop3 μ-loop3 Inv-loop4 μ-loop4 Inv-loop5 μ-loop5 Inv-loop μ-loop
+at-loop c = at-item c .before .before .before
 
-  met : let l = at-loop .loop in Turn (at-start .args .s .now) (at-start .args .asked) (l .table) (l .own) (l .c) (l .st) (l .met) (at-item .item .given .0 .0) (c .renewed .result) (effectOf (at-start .args .s .now) (l .st) (at-item .item .given .0 .0))
-  met = record { before = at-loop .loop .inv; found = sym (at-item .before .before .next-item .ensures) ∙ found-as (at-item .item .given .1) (c .renewed .ensures); asks = refl }
+abbrev item-of : Behind → Item
+item-of c = at-item c .item .given .0 .0
+
+abbrev file : Behind → List ℕ
+file c = at-loop c .before .before .before .args .s .now
+
+abbrev asked : Behind → Asked
+asked c = at-loop c .before .before .before .args .asked
+
+met : (c : Behind) → let l = at-loop c .loop in Turn (file c) (asked c) (l .table) (l .own) (l .c) (l .st) (l .met) (item-of c) (c .renewed .result) (effectOf (file c) (l .st) (item-of c))
+met c =
+    let at-next = at-item c .before .before in
+    record { before = at-loop c .loop .inv; found = sym (at-next .next-item .ensures) ∙ found-as (at-item c .item .given .1) (c .renewed .ensures); asks = refl }
 
 -- The item is a group that takes effect.
 opens : (c : tie.Then1 Inv-loop2 μ-loop2 Inv-loop3 μ-loop3 Inv-loop4 μ-loop4 Inv-loop5 μ-loop5 Inv-loop μ-loop)
-    → let at-renewed = c .before .before .before in Opened (at-loop at-renewed .loop .st .counted) (at-item at-renewed .item .given .0 .0) (c .before .opened .result)
+    → let b = c .before .before .before in Opened (at-loop b .loop .st .counted) (item-of b) (c .before .opened .result)
 opens c = opened-group _ _ (c .before .opened .ensures) (c .if1 .taken)
 
 -- What the item asks for is known, and the records are laid down as far as it looks at them.
-turn : (c : tie.After-loop3 Inv-loop2 μ-loop2 Inv-loop3 μ-loop3 Inv-loop4 μ-loop4 Inv-loop5 μ-loop5 Inv-loop μ-loop)
-    → let at-renewed = c .before .before .before .before .before .before .before in
-    let at-start = at-start at-renewed in
-    let l = at-loop at-renewed .loop in
-    Turn (at-start .args .s .now) (at-start .args .asked) (c .before .loop3 .table) (c .before .loop3 .own) (l .c) (l .st) (l .met) (at-item at-renewed .item .given .0 .0) (at-renewed .renewed .result) (c .before .before .before .item-effect .result)
+abbrev Laid : Type 0
+Laid = tie.After-loop3 Inv-loop2 μ-loop2 Inv-loop3 μ-loop3 Inv-loop4 μ-loop4 Inv-loop5 μ-loop5 Inv-loop μ-loop
+
+abbrev at-effect : Laid → tie.After-item-effect Inv-loop2 μ-loop2 Inv-loop3 μ-loop3 Inv-loop4 μ-loop4 Inv-loop5 μ-loop5 Inv-loop μ-loop
+at-effect c = c .before .before .before
+
+abbrev behind : Laid → Behind
+behind c = at-effect c .before .before .before .before
+
+turn : (c : Laid)
+    → let b = behind c in
+    let l = at-loop b .loop in
+    Turn (file b) (asked b) (c .before .loop3 .table) (c .before .loop3 .own) (l .c) (l .st) (l .met) (item-of b) (b .renewed .result) (at-effect c .item-effect .result)
 turn c =
-    let at-effect = c .before .before .before in
-    let m = met (at-effect .before .before .before .before) in
-    turn-filled (record { before = m .before; found = m .found; asks = at-effect .item-effect .ensures }) (c .before .loop3 .inv .1)
+    let m = met (behind c) in
+    turn-filled (record { before = m .before; found = m .found; asks = at-effect c .item-effect .ensures }) (c .before .loop3 .inv .1)
 
 -- What the item's waveform gives is known.
-framing : (c : tie.After-frame-of Inv-loop2 μ-loop2 Inv-loop3 μ-loop3 Inv-loop4 μ-loop4 Inv-loop5 μ-loop5 Inv-loop μ-loop)
-    → let at-sum = c .before .before in
-    let at-effect = at-sum .before .before .before in
-    let at-laid = at-effect .before .before in
-    let at-renewed = at-laid .before .before .before .before .before .before .before in
-    let at-start = at-start at-renewed in
-    let l = at-loop at-renewed .loop in
-    Framing (at-start .args .s .now) (at-start .args .asked) (at-laid .before .loop3 .table) (at-laid .before .loop3 .own) (l .c) (l .st) (l .met) (at-item at-renewed .item .given .0 .0) (at-renewed .renewed .result) (at-effect .effect3 .given .0 .0) (at-effect .effect3 .given .0 .1 .0) (at-sum .loop5 .l) (c .frame-of .result)
+abbrev Given : Type 0
+Given = tie.After-frame-of Inv-loop2 μ-loop2 Inv-loop3 μ-loop3 Inv-loop4 μ-loop4 Inv-loop5 μ-loop5 Inv-loop μ-loop
+
+abbrev at-sum : Given → tie.At-loop5 Inv-loop2 μ-loop2 Inv-loop3 μ-loop3 Inv-loop4 μ-loop4 Inv-loop5 μ-loop5 Inv-loop μ-loop
+at-sum c = c .before .before
+
+abbrev at-frame : Given → tie.After-effect3 Inv-loop2 μ-loop2 Inv-loop3 μ-loop3 Inv-loop4 μ-loop4 Inv-loop5 μ-loop5 Inv-loop μ-loop
+at-frame c = at-sum c .before .before .before
+
+abbrev laid : Given → Laid
+laid c = at-frame c .before .before
+
+framing : (c : Given)
+    → let b = behind (laid c) in
+    let l = at-loop b .loop in
+    let at-laid = laid c .before in
+    let waveform = at-frame c .effect3 .given .0 in
+    Framing (file b) (asked b) (at-laid .loop3 .table) (at-laid .loop3 .own) (l .c) (l .st) (l .met) (item-of b) (b .renewed .result) (waveform .0) (waveform .1 .0) (at-sum c .loop5 .l) (c .frame-of .result)
 framing c =
-    let at-sum = c .before .before in
-    let at-effect = at-sum .before .before .before in
-    let at-laid = at-effect .before .before in
-    turn-framing (turn at-laid) (at-effect .effect3 .given .1) (at-laid .before .before .reach .ensures) (at-laid .loop3-test .left) (at-sum .loop5 .inv) (c .before .loop5-test .left) (c .frame-of .ensures)
+    let at-laid = laid c in
+    turn-framing (turn at-laid) (at-frame c .effect3 .given .1) (at-laid .before .before .reach .ensures) (at-laid .loop3-test .left) (at-sum c .loop5 .inv) (c .before .loop5-test .left) (c .frame-of .ensures)
 
 -- ---- the needs
 
@@ -271,8 +298,8 @@ loop-less-3 c = omega (arith, turn-later (turn (c .before .before .before .befor
 loop-again-3 : tie.Need-loop-again-3 Inv-loop2 μ-loop2 Inv-loop3 μ-loop3 Inv-loop4 μ-loop4 Inv-loop5 μ-loop5 Inv-loop μ-loop
 loop-again-3 c =
     let at-mapped = c .before .before in
-    let at-effect = at-mapped .before .before in
-    turn-all (turn (at-effect .before .before)) (at-mapped .loop4 .i) (at-effect .effect .given .1) (c .standing-after2 .ensures) (at-mapped .loop4 .inv .3) (at-mapped .loop4 .inv .2) (c .before .loop4-test .left)
+    let at-all = at-mapped .before .before in
+    turn-all (turn (at-all .before .before)) (at-mapped .loop4 .i) (at-all .effect .given .1) (c .standing-after2 .ensures) (at-mapped .loop4 .inv .3) (at-mapped .loop4 .inv .2) (c .before .loop4-test .left)
 
 enum-known-effect-2 : tie.Need-enum-known-effect-2 Inv-loop2 μ-loop2 Inv-loop3 μ-loop3 Inv-loop4 μ-loop4 Inv-loop5 μ-loop5 Inv-loop μ-loop
 enum-known-effect-2 c = search needs
@@ -300,9 +327,9 @@ loop-less-4 c = omega (arith, turn-later (turn (c .before .before .before .befor
 
 loop-again-4 : tie.Need-loop-again-4 Inv-loop2 μ-loop2 Inv-loop3 μ-loop3 Inv-loop4 μ-loop4 Inv-loop5 μ-loop5 Inv-loop μ-loop
 loop-again-4 c =
-    let at-effect = c .before .before .before .before in
-    let at-laid = at-effect .before .before in
-    turn-one (turn at-laid) (at-effect .effect2 .given .1) (at-laid .before .before .reach .ensures) (at-laid .loop3-test .left) (c .before .before .if2 .taken) (c .apply2 .ensures)
+    let at-one = c .before .before .before .before in
+    let at-laid = at-one .before .before in
+    turn-one (turn at-laid) (at-one .effect2 .given .1) (at-laid .before .before .reach .ensures) (at-laid .loop3-test .left) (c .before .before .if2 .taken) (c .apply2 .ensures)
 
 loop-less-5 : tie.Need-loop-less-5 Inv-loop2 μ-loop2 Inv-loop3 μ-loop3 Inv-loop4 μ-loop4 Inv-loop5 μ-loop5 Inv-loop μ-loop
 loop-less-5 c = omega (arith, turn-later (turn (c .before .before .before .before)))
@@ -370,15 +397,15 @@ with-frame-requires c κs =
 
 loop-less-6 : tie.Need-loop-less-6 Inv-loop2 μ-loop2 Inv-loop3 μ-loop3 Inv-loop4 μ-loop4 Inv-loop5 μ-loop5 Inv-loop μ-loop
 loop-less-6 c =
-    let at-frame = c .before .before .before .before .before .before in
-    omega (arith, turn-later (framing at-frame .turn))
+    let given = c .before .before .before .before .before .before in
+    omega (arith, turn-later (framing given .turn))
 
 loop-again-6 : tie.Need-loop-again-6 Inv-loop2 μ-loop2 Inv-loop3 μ-loop3 Inv-loop4 μ-loop4 Inv-loop5 μ-loop5 Inv-loop μ-loop
 loop-again-6 c =
     let at-taken = c .before .before .before .before in
-    let at-frame = at-taken .before .before in
-    let table = at-frame .before .before .before .before .before .before .before .before .loop3 .table in
-    framing-taken (framing at-frame) (at-taken .sequences .given .1) (ap (λ (k : ℕ). getD table k zeroSettings) (c .before .before .index .ensures)) (c .with-frame .ensures)
+    let given = at-taken .before .before in
+    let table = laid given .before .loop3 .table in
+    framing-taken (framing given) (at-taken .sequences .given .1) (ap (λ (k : ℕ). getD table k zeroSettings) (c .before .before .index .ensures)) (c .with-frame .ensures)
 
 enum-known-effect-4 : tie.Need-enum-known-effect-4 Inv-loop2 μ-loop2 Inv-loop3 μ-loop3 Inv-loop4 μ-loop4 Inv-loop5 μ-loop5 Inv-loop μ-loop
 enum-known-effect-4 c = search needs
@@ -388,8 +415,8 @@ refused-item-requires-2 c κs = search needs
 
 returns-4 : tie.Need-returns-4 Inv-loop2 μ-loop2 Inv-loop3 μ-loop3 Inv-loop4 μ-loop4 Inv-loop5 μ-loop5 Inv-loop μ-loop
 returns-4 c =
-    let at-effect = c .before .before in
-    c .refused-item2 .ensures ∙ turn-refused (turn (at-effect .before .before)) (at-effect .effect4 .given .1)
+    let at-refused = c .before .before in
+    c .refused-item2 .ensures ∙ turn-refused (turn (at-refused .before .before)) (at-refused .effect4 .given .1)
 
 standing-after-requires-3 : tie.Need-standing-after-requires-3 Inv-loop2 μ-loop2 Inv-loop3 μ-loop3 Inv-loop4 μ-loop4 Inv-loop5 μ-loop5 Inv-loop μ-loop
 standing-after-requires-3 c κs = search needs

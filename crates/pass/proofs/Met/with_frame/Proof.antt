@@ -33,26 +33,28 @@ view-of-requires c κs = search needs
 
 returns : tie.Need-returns
 returns c =
-    let a = c .before .before .before .before .before .before .before .before .before .args in
-    let n = c .before .before .before .before .before .before .frame-size .ensures in (
+    let at-size = c .before .before .before .before .before .before in
+    let at-start = at-size .before .before .before in
+    let a = at-start .args in (
       λ k. record {
         frames = a .self .frames + 1;
         found = (ap Found.Frame (c .view-of .ensures) ∙ kept-this _ (a .self .found) (c .before .if1 .taken)) k;
-        size = a .self .size + n .0 k;
+        size = a .self .size + at-size .frame-size .ensures .0 k;
       },
-      frame-few (a .sequences) (a .l .groups) (a .sequences * a .l .octets) (c .before .before .before .before .before .before .before .before .before .pre .2) (omega (arith, c .before .before .before .before .before .before .before .before .before .pre .3)),
+      frame-few (a .sequences) (a .l .groups) (a .sequences * a .l .octets) (at-start .pre .groups) (omega (arith, at-start .pre .waveform)),
     )
 
 returns-2 : tie.Need-returns-2
 returns-2 c =
-    let a = c .before .before .before .before .before .before .before .before .args in
-    let n = c .before .before .before .before .before .frame-size .ensures in (
+    let at-size = c .before .before .before .before .before in
+    let at-start = at-size .before .before .before in
+    let a = at-start .args in (
       λ k. record {
         frames = a .self .frames + 1;
         found = kept-before (Found.Frame (viewMet (a .asked .channel) (a .st) (a .sequences) (a .start) (a .l) (a .c))) (a .self .found) (c .if1 .left) k;
-        size = a .self .size + n .0 k;
+        size = a .self .size + at-size .frame-size .ensures .0 k;
       },
-      frame-few (a .sequences) (a .l .groups) (a .sequences * a .l .octets) (c .before .before .before .before .before .before .before .before .pre .2) (omega (arith, c .before .before .before .before .before .before .before .before .pre .3)),
+      frame-few (a .sequences) (a .l .groups) (a .sequences * a .l .octets) (at-start .pre .groups) (omega (arith, at-start .pre .waveform)),
     )
 
 pub with-frame-spec : {M : Type 1} → statement M
