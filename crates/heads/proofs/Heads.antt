@@ -1,6 +1,6 @@
 -- Laws of one item's parts, as the code's tests meet them, and how far each part reaches.
 --     channel-none, -past, -last, -more    one octet of a channel number
---     room, room-fits, room-first          its value fits
+--     room, room-fits                      its value fits
 --     length-none, -short, -open, -bad, -past, -long    the ways of a length field
 --     channel-within, length-within, head-within        no part reaches past the end
 -- Assumes nothing.
@@ -9,12 +9,12 @@ use mathlib.Core.Path.{_≡_, refl, sym, _∙_, subst}
 use mathlib.Core.List.{List, [], _∷_}
 use mathlib.Core.Bool.{Bool, true, false}
 use native.Mathlib.Nat.{mul-assoc, add-mul, one-mul, mul-le-mul-right, pow-succ', pow-zero, le-mul-of-pos-right, pow-le-pow-right}
-use native.Mathlib.Numerals.{sub-one, add-one}
+use native.Mathlib.Numerals.{sub-one}
 use native.Mathlib.Omega.{arith}
 use borrow.Author.Tests.{lt-ltb, le-ltb, eq-eqb, ne-eqb, ltb-false}
 use lib.Dec.{ltb, eqb}
-use lib.ListN.{length, getD, take, drop, drop-of-length-le, length-drop}
-use lib.Seq.{drop-cons, take-all}
+use lib.ListN.{length, getD, take, drop, length-drop}
+use lib.Seq.{take-all}
 use Rattle.octets.specs.Pick.{both}
 use Rattle.octets.specs.Number.{bigFrom}
 use Rattle.octets.proofs.Pick.{pick-cases}
@@ -26,27 +26,33 @@ use Rattle.heads.specs.declared.Head.{Head}
 use Rattle.heads.specs.Refusals.{contextTag, pastEnd, barredTag}
 use Rattle.heads.specs.Head.{channelOf, lengthOf, unknownContext, rootOnly, primitiveHead, groupLength, groupHead, headOf}
 
--- ---- the channel number, octet by octet
+abbrev first : List ℕ → ℕ
+first u = getD u 0 0
 
-module _ (u : List ℕ) (at value : ℕ) where
-  pub channel-none : (k : ℕ) → k ≡ 0 → TooLong ≡ channelOf k at value (drop at u)
-  unfolding channelOf
-  channel-none k e = rw e
+-- ---- the channel number, by its first octet
 
-  pub channel-past : (k : ℕ) → (k ≡ 0 → ⊥) → length u ≤ at → PastEnd ≡ channelOf k at value (drop at u)
+module _ (passed value : ℕ) where
+  pub channel-none : (k : ℕ) (u : List ℕ) → k ≡ 0 → TooLong ≡ channelOf k passed value u
   unfolding channelOf
-  channel-past zero n h = absurd (n refl)
-  channel-past (suc k) n h = rw (drop-of-length-le u h)
+  channel-none k u e = rw e
 
-  pub channel-last : (k : ℕ) → (k ≡ 0 → ⊥) → at < length u → getD u at 0 < 128 → Number (value * 128 + getD u at 0 % 128) (at + 1) ≡ channelOf k at value (drop at u)
+  pub channel-past : (k : ℕ) (u : List ℕ) → (k ≡ 0 → ⊥) → length u ≡ 0 → PastEnd ≡ channelOf k passed value u
   unfolding channelOf
-  channel-last zero n h l = absurd (n refl)
-  channel-last (suc k) n h l = rw (drop-cons u at 0 h) (simp (lt-ltb _ 128 l))
+  channel-past zero u n e = absurd (n refl)
+  channel-past (suc k) [] n e = refl
+  channel-past (suc k) (b ∷ u) n e = let z : ⊥ = omega arith in absurd z
 
-  pub channel-more : (k : ℕ) → (k ≡ 0 → ⊥) → at < length u → 128 ≤ getD u at 0 → channelOf (k - 1) (at + 1) (value * 128 + getD u at 0 % 128) (drop (at + 1) u) ≡ channelOf k at value (drop at u)
+  pub channel-last : (k : ℕ) (u : List ℕ) → (k ≡ 0 → ⊥) → (length u ≡ 0 → ⊥) → first u < 128 → Number (value * 128 + first u % 128) (passed + 1) ≡ channelOf k passed value u
   unfolding channelOf
-  channel-more zero n h l = absurd (n refl)
-  channel-more (suc k) n h l = rw (drop-cons u at 0 h) (simp (sub-one, add-one at, le-ltb _ 128 l))
+  channel-last zero u n e l = absurd (n refl)
+  channel-last (suc k) [] n e l = absurd (e refl)
+  channel-last (suc k) (b ∷ u) n e l = simp lt-ltb
+
+  pub channel-more : (k : ℕ) (u : List ℕ) → (k ≡ 0 → ⊥) → (length u ≡ 0 → ⊥) → 128 ≤ first u → channelOf (k - 1) (passed + 1) (value * 128 + first u % 128) (drop 1 u) ≡ channelOf k passed value u
+  unfolding channelOf
+  channel-more zero u n e l = absurd (n refl)
+  channel-more (suc k) [] n e l = absurd (e refl)
+  channel-more (suc k) (b ∷ u) n e l = simp (sub-one, le-ltb)
 
 -- Digits to the base B, highest first: a value that leaves room for k digits below L leaves room for k - 1 with one of them taken in.
 module _ (B L : ℕ) where
@@ -63,9 +69,6 @@ module _ (B L : ℕ) where
       (arith, room k v d n h r, le-mul-of-pos-right {m = B ^ (k - 1)} (v * B + d + 1) (rw pow-zero at (pow-le-pow-right {n = B} (omega arith) {i = 0} {j = k - 1} zero-le)))
 
 -- ---- the length field, by its first octet
-
-abbrev first : List ℕ → ℕ
-first u = getD u 0 0
 
 pub length-none : (u : List ℕ) → length u ≡ 0 → Length.PastEnd ≡ lengthOf u
 unfolding lengthOf

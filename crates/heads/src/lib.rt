@@ -5,7 +5,7 @@
 // Read first: specs/Head.antt.
 ghost use mathlib.Core.Path.{_≡_};
 ghost use Prim.Native.Nat.{_+_, _*_, _^_, _≤_};
-ghost use lib.ListN.{length, drop};
+ghost use lib.ListN.{length};
 ghost use Rattle.octets.specs.Pick.{both};
 ghost use Rattle.heads.specs.Head.{channelOf, lengthOf, unknownContext, rootOnly, primitiveHead, groupLength, groupHead, headOf};
 
@@ -62,45 +62,30 @@ pub enum Channel {
     TooLong,
 }
 
-// The channel number that goes on with the octet at `at`; `value` is what the octets before it say, and `allowed` octets may
-// still come.
-fn channel_from(u: &[u8], at: usize, allowed: u32, value: u32) -> Channel
+// The channel number that goes on at the front of u; `value` is what the octets before it say, `passed` of them, and `allowed` octets
+// may still come.
+fn channel_from(u: &[u8], passed: usize, allowed: u32, value: u32) -> Channel
+    requires { ⌜ passed + allowed ≤ 4 ⌝ }
     requires { ⌜ (value + 1) * 128 ^ allowed ≤ 2 ^ 28 ⌝ }
-    ensures { λ r. ⌜ r ≡ channelOf allowed at value (drop at (now (u .entry))) ⌝ }
+    ensures { λ r. ⌜ r ≡ channelOf allowed passed value (now (u .entry)) ⌝ }
 {
     if allowed == 0 {
         return Channel::TooLong;
     }
-    if u.len() <= at {
-        return Channel::PastEnd;
-    }
-    let b = u[at];
-    let more = value * 128 + (b % 128) as u32;
-    if b < 128 {
-        Channel::Number {
-            value: more,
-            octets: at + 1,
-        }
-    } else {
-        channel_from(u, at + 1, allowed - 1, more)
-    }
-}
-
-// The channel number at the front of u, of at most four octets. Mostly it is one octet.
-fn channel_number(u: &[u8]) -> Channel
-    ensures { λ r. ⌜ r ≡ channelOf 4 0 0 (now (u .entry)) ⌝ }
-{
     if u.len() == 0 {
         return Channel::PastEnd;
     }
     let b = u[0];
+    let more = value * 128 + (b % 128) as u32;
     if b < 128 {
         return Channel::Number {
-            value: b as u32,
-            octets: 1,
+            value: more,
+            octets: passed + 1,
         };
     }
-    channel_from(u, 0, 4, 0)
+    // A name for the answer, so that the compiler copies it here only, and not where the octet is the last.
+    let rest = channel_from(&u[1..], passed + 1, allowed - 1, more);
+    rest
 }
 
 // A length and how many octets its field takes, or why there is none.
@@ -252,7 +237,7 @@ fn group_length(channel: u32, k: usize, v: &[u8]) -> Head
 fn group_head(u: &[u8]) -> Head
     ensures { λ r. ⌜ r ≡ groupHead (now (u .entry)) (channelOf 4 0 0 (now (u .entry))) ⌝ }
 {
-    match channel_number(u) {
+    match channel_from(u, 0, 4, 0) {
         Channel::Number { value, octets } => group_length(value, octets, &u[octets..]),
         Channel::PastEnd => Head::Refused {
             number: Refusal::PAST_END,

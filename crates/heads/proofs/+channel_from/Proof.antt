@@ -6,7 +6,7 @@ use mathlib.Core.Path.{_∙_}
 use borrow.Author.Needs.{needs}
 use lib.ListN.{getD}
 use lib.Dec.{lit<}
-use Rattle.heads.proofs.Heads.{channel-none, channel-past, channel-last, channel-more, room, room-fits}
+use Rattle.heads.proofs.Heads.{channel-none, channel-past, channel-last, channel-more, room, room-fits, rest-is}
 use borrow.Fn.Kinds.{In}
 use borrow.Fn.PlainCycle.{Measures, is, falls, and}
 use Rattle.heads.proofs.channel_from.Reads as channel-from
@@ -52,7 +52,7 @@ channel-from-mul-more : (t : ℕ) → channel-from-lts.Need-mul-more (
   channel-from-below t,
   channel-from.Post,
 ) (channel-from-at t) channel-from.Post
-channel-from-mul-more t c = omega (arith, room-fits 128 (2 ^ 28) _ _ 0 (c .before .before .if1 .left) (lit< tt) (c .before .before .before .before .pre .1))
+channel-from-mul-more t c = omega (arith, room-fits 128 (2 ^ 28) _ _ 0 (c .before .before .if1 .left) (lit< tt) (c .before .before .before .before .pre .1 .1))
 
 channel-from-cast-more : (t : ℕ) → channel-from-lts.Need-cast-more (
   channel-from-below t,
@@ -66,7 +66,7 @@ channel-from-add-more : (t : ℕ) → channel-from-lts.Need-add-more (
 ) (channel-from-at t) channel-from.Post
 channel-from-add-more t c =
     let a = c .before .before .before .before .args in
-    omega (arith, room-fits 128 (2 ^ 28) _ _ (getD (a .u .now) (a .at) 0 % 128) (c .before .before .if1 .left) (mod-lt _ (lit< tt)) (c .before .before .before .before .pre .1))
+    omega (arith, room-fits 128 (2 ^ 28) _ _ (getD (a .u .now) 0 0 % 128) (c .before .before .if1 .left) (mod-lt _ (lit< tt)) (c .before .before .before .before .pre .1 .1))
 
 channel-from-add-t14 : (t : ℕ) → channel-from-lts.Need-add-t14 (
   channel-from-below t,
@@ -74,11 +74,11 @@ channel-from-add-t14 : (t : ℕ) → channel-from-lts.Need-add-t14 (
 ) (channel-from-at t) channel-from.Post
 channel-from-add-t14 t c = search needs
 
-channel-from-add-channel-from : (t : ℕ) → channel-from-lts.Need-add-channel-from (
+channel-from-returns-3 : (t : ℕ) → channel-from-lts.Need-returns-3 (
   channel-from-below t,
   channel-from.Post,
 ) (channel-from-at t) channel-from.Post
-channel-from-add-channel-from t c = search needs
+channel-from-returns-3 t c = channel-last _ _ _ _ (c .before .before .before .if1 .left) (c .before .before .if2 .left) (c .if3 .taken)
 
 channel-from-sub-channel-from : (t : ℕ) → channel-from-lts.Need-sub-channel-from (
   channel-from-below t,
@@ -86,26 +86,45 @@ channel-from-sub-channel-from : (t : ℕ) → channel-from-lts.Need-sub-channel-
 ) (channel-from-at t) channel-from.Post
 channel-from-sub-channel-from t c = search needs
 
+channel-from-part-channel-from-start : (t : ℕ) → channel-from-lts.Need-part-channel-from-start (
+  channel-from-below t,
+  channel-from.Post,
+) (channel-from-at t) channel-from.Post
+channel-from-part-channel-from-start t c = search needs
+
+channel-from-part-channel-from-end : (t : ℕ) → channel-from-lts.Need-part-channel-from-end (
+  channel-from-below t,
+  channel-from.Post,
+) (channel-from-at t) channel-from.Post
+channel-from-part-channel-from-end t c = search needs
+
+channel-from-add-channel-from : (t : ℕ) → channel-from-lts.Need-add-channel-from (
+  channel-from-below t,
+  channel-from.Post,
+) (channel-from-at t) channel-from.Post
+channel-from-add-channel-from t c = search needs
+
+channel-from-sub-channel-from-2 : (t : ℕ) → channel-from-lts.Need-sub-channel-from-2 (
+  channel-from-below t,
+  channel-from.Post,
+) (channel-from-at t) channel-from.Post
+channel-from-sub-channel-from-2 t c = search needs
+
 channel-from-channel-from-requires : (t : ℕ) → channel-from-lts.Need-channel-from-requires (
   channel-from-below t,
   channel-from.Post,
 ) (channel-from-at t) channel-from.Post
 channel-from-channel-from-requires t c κs =
-    let p = c .before .before .before .before .before in
-    (omega arith, room 128 (2 ^ 28) _ _ _ (c .before .before .before .if1 .left) (mod-lt _ (lit< tt)) (p .pre .1))
-
-channel-from-returns-3 : (t : ℕ) → channel-from-lts.Need-returns-3 (
-  channel-from-below t,
-  channel-from.Post,
-) (channel-from-at t) channel-from.Post
-channel-from-returns-3 t c = channel-last _ _ _ _ (c .before .before .before .if1 .left) (c .before .before .if2 .left) (c .if3 .taken)
+    let at-octet = c .before .before .before in
+    (omega arith, (omega arith, room 128 (2 ^ 28) _ _ _ (at-octet .before .if1 .left) (mod-lt _ (lit< tt)) (at-octet .before .before .before .pre .1 .1)))
 
 channel-from-returns-4 : (t : ℕ) → channel-from-lts.Need-returns-4 (
   channel-from-below t,
   channel-from.Post,
 ) (channel-from-at t) channel-from.Post
 channel-from-returns-4 t c =
-    c .channel-from .ensures ∙ channel-more _ _ _ _ (c .before .before .before .before .if1 .left) (c .before .before .before .if2 .left) (c .before .if3 .left)
+    let at-octet = c .before .before .before .before in
+    c .channel-from .ensures ∙ simp rest-is (channel-more _ _ _ _ (at-octet .before .if1 .left) (at-octet .if2 .left) (c .before .before .if3 .left))
 
 pub +channel-from-spec : {M : Type 1} → statement M
 +channel-from-spec = close μ-channel-from λ t. channel-from-lts.spec (
@@ -121,8 +140,11 @@ pub +channel-from-spec : {M : Type 1} → statement M
     (channel-from-cast-more t)
     (channel-from-add-more t)
     (channel-from-add-t14 t)
-    (channel-from-add-channel-from t)
-    (channel-from-sub-channel-from t)
-    (channel-from-channel-from-requires t)
     (channel-from-returns-3 t)
+    (channel-from-sub-channel-from t)
+    (channel-from-part-channel-from-start t)
+    (channel-from-part-channel-from-end t)
+    (channel-from-add-channel-from t)
+    (channel-from-sub-channel-from-2 t)
+    (channel-from-channel-from-requires t)
     (channel-from-returns-4 t)

@@ -1,4 +1,4 @@
--- By the answer of `channel_number`; the length stands behind its octets.
+-- By the answer of `channel_from`; the length stands behind its octets.
 use mathlib.Core.Path.{sym, _∙_}
 use native.Mathlib.Omega.{arith}
 use Rattle.heads.specs.Head.{groupHead}
@@ -7,23 +7,23 @@ use borrow.Author.Needs.{needs}
 use Rattle.heads.proofs.group_head.Statement.{statement}
 use Rattle.heads.proofs.group_head.Tie as tie
 
-channel-number-requires : tie.Need-channel-number-requires
-channel-number-requires c κs = search needs
+channel-from-requires : tie.Need-channel-from-requires
+channel-from-requires c κs = search needs
 
 enum-known-value : tie.Need-enum-known-value
 enum-known-value c = search needs
 
 sub-group-length : tie.Need-sub-group-length
-sub-group-length c = omega (arith, channel-found _ (c .before .before .before .channel-number .ensures) (c .before .value .given .1))
+sub-group-length c = omega (arith, channel-found _ (c .before .before .before .channel-from .ensures) (c .before .value .given .1))
 
 part-group-length-start : tie.Need-part-group-length-start
-part-group-length-start c = omega (arith, channel-found _ (c .before .before .before .channel-number .ensures) (c .before .value .given .1))
+part-group-length-start c = omega (arith, channel-found _ (c .before .before .before .channel-from .ensures) (c .before .value .given .1))
 
 part-group-length-end : tie.Need-part-group-length-end
 part-group-length-end c = search needs
 
 group-length-requires : tie.Need-group-length-requires
-group-length-requires c κs = omega (arith, channel-found _ (c .before .before .before .before .channel-number .ensures) (c .before .before .value .given .1))
+group-length-requires c κs = omega (arith, channel-found _ (c .before .before .before .before .channel-from .ensures) (c .before .before .value .given .1))
 
 enum-told : tie.Need-enum-told
 enum-told c = search needs
@@ -33,21 +33,21 @@ enum-told-2 c = search needs
 
 returns : tie.Need-returns
 unfolding groupHead
-returns c = c .group-length .ensures ∙ simp (rest-is, sym (c .before .before .before .before .before .channel-number .ensures) ∙ c .before .before .before .value .given .1)
+returns c = c .group-length .ensures ∙ simp (rest-is, sym (c .before .before .before .before .before .channel-from .ensures) ∙ c .before .before .before .value .given .1)
 
 returns-2 : tie.Need-returns-2
 unfolding groupHead
-returns-2 c = simp (sym (c .before .before .channel-number .ensures) ∙ c .enum-told .given .1)
+returns-2 c = simp (sym (c .before .before .channel-from .ensures) ∙ c .enum-told .given .1)
 
 returns-3 : tie.Need-returns-3
 unfolding groupHead
-returns-3 c = simp (sym (c .before .before .channel-number .ensures) ∙ c .enum-told2 .given .1)
+returns-3 c = simp (sym (c .before .before .channel-from .ensures) ∙ c .enum-told2 .given .1)
 
 pub group-head-spec : {M : Type 1} → statement M
 group-head-spec =
     tie.close
     (tie.spec
-    channel-number-requires
+    channel-from-requires
     enum-known-value
     sub-group-length
     part-group-length-start
