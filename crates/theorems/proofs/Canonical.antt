@@ -1,12 +1,10 @@
 -- The canonical files of recordings.
 --     recordingOf, recording-is    the recording that a file holds
 --     canonical-read     the canonical file of an accepted file is accepted, and holds the same recording
---     canonical-again    so that its own canonical file is itself
---     same-exactly       two canonical files are equal exactly when the recordings are
 --     writes             the writer answers 23 exactly when the canonical file does not fit, and else its length
---     written-out, written-file    what it leaves then
---     refusal-leaves     a refusal changes no octet of the buffer
---     written-again      the canonical file in the buffer, read and written again
+--     wrote-out          what mfer_canonical does, write_canonical does
+--     written-file       the canonical file in the buffer that a call left
+--     written-again      that file, read and written again
 --     same-written       the canonical files in two buffers are equal exactly when the recordings are
 -- Assumes nothing.
 use Prim.Native.Nat.{ℕ, _≤_, _<_}
@@ -50,10 +48,6 @@ pub recording-is : (s : List ℕ) (fs : List Frame) → verdict s ≡ accepted f
 unfolding recordingOf recordingIn
 recording-is s fs e = ap recordingIn e
 
--- Each number of a file is an octet.
-abbrev pub AllOctets : List ℕ → Type 0
-AllOctets s = (i : ℕ) → getD s i 0 < 256
-
 -- ---- reading
 
 -- A file holds one recording.
@@ -66,17 +60,19 @@ recording-long : (fs : List Frame) → length (recording fs) ≡ length fs
 unfolding recording
 recording-long fs = length-map fs recordedFrame
 
-module _ (s : List ℕ) (octets : AllOctets s) (fs : List Frame) (e : verdict s ≡ accepted fs) (short : length (canonical (recording fs)) ≤ octetsLimit) where
-  pub canonical-read : Reads (canonical (recording fs)) (recording fs)
-  canonical-read = read-back (recording fs) (accepted-recorded s octets fs e) (rw recording-long (accepted-few s fs e)) short
+-- Past its end a list of octets is read as 0.
+octets-all : (s : List ℕ) → Octets s → (i : ℕ) → getD s i 0 < 256
+octets-all s o i = by (decLt i (length s))
+  where
+    by : Dec (i < length s) → getD s i 0 < 256
+    by (yes h) = o i h
+    by (no h) = let z : getD s i 0 ≡ 0 = List·getD-eq-default s 0 (omega arith) in omega arith
 
-  -- Its own canonical file is itself.
-  pub canonical-again : canonical (recording (canonical-read .frames)) ≡ canonical (recording fs)
-  canonical-again = ap canonical (canonical-read .recorded)
-
-pub same-exactly : (s t : List ℕ) → AllOctets s → AllOctets t → (fs gs : List Frame) → verdict s ≡ accepted fs → verdict t ≡ accepted gs → length (canonical (recording fs)) ≤ octetsLimit → length (canonical (recording gs)) ≤ octetsLimit → (canonical (recording fs) ≡ canonical (recording gs)) ↔ (recording fs ≡ recording gs)
-same-exactly s t os ot fs gs e g h k =
-    (λ q. reads-one (canonical (recording gs)) (recording fs) (recording gs) (rw q at (canonical-read s os fs e h)) (canonical-read t ot gs g k), ap canonical)
+-- The canonical file of an accepted file is accepted, and holds the same recording.
+pub canonical-read : (s : List ℕ) → Octets s → (fs : List Frame) → verdict s ≡ accepted fs → length (canonical (recording fs)) ≤ octetsLimit
+    → Reads (canonical (recording fs)) (recording fs)
+canonical-read s octets fs e short =
+    read-back (recording fs) (accepted-recorded s (octets-all s octets) fs e) (rw recording-long (accepted-few s fs e)) short
 
 -- ---- writing
 
@@ -194,14 +190,6 @@ written-out s d m h = by (verdict s) refl
 
 -- ---- calls
 
--- Past its end a list of octets is read as 0.
-octets-all : (s : List ℕ) → Octets s → AllOctets s
-octets-all s o i = by (decLt i (length s))
-  where
-    by : Dec (i < length s) → getD s i 0 < 256
-    by (yes h) = o i h
-    by (no h) = let z : getD s i 0 ≡ 0 = List·getD-eq-default s 0 (omega arith) in omega arith
-
 -- A call of mfer_canonical whose result is 0 is as one of write_canonical that answers the length handed out.
 pub wrote-out : {s d left : List ℕ} {place m : ℕ} → ((number at : ℕ) → writtenOf s d ≡ refusedAs number at → 0 < number)
     → CanonicalOut s d (outputs 0 place m) left → Wrote s d (answered m) left
@@ -223,7 +211,7 @@ module _ {s d left : List ℕ} {m : ℕ} (w : Wrote s d (answered m) left) where
   written-read : Reads (take m left) (recordingOf s)
   written-read =
       let o = out-is in
-      rw (w .leaves, o .file, recording-is s (o .frames) (o .is)) (canonical-read s (octets-all s (w .octets)) (o .frames) (o .is) (omega (arith, o .long, o .small)))
+      rw (w .leaves, o .file, recording-is s (o .frames) (o .is)) (canonical-read s (w .octets) (o .frames) (o .is) (omega (arith, o .long, o .small)))
 
   file-long : length (take m left) ≡ m
   file-long = rw (w .leaves, out-is .file) (out-is .long)

@@ -19,7 +19,7 @@ use Rattle.reader.specs.Answer.{attributesOf, sampleOf, seenOf, placedOf}
 use Rattle.reader.proofs.Order.{asked-refused}
 use Rattle.canonical.specs.Write.{outputIn, writtenOf, leftOf, Wrote}
 use Rattle.bulk.specs.Samples.{bitsOf, readOf}
-use Rattle.mfer.specs.Answers.{Outputs, outputs, handedOut, countOut, CanonicalOut, AttributesOut, attributesValues, attributesOut, SampleOut, sampleValues, sampleOut}
+use Rattle.mfer.specs.Answers.{Outputs, outputs, handedOut, countOut, CanonicalOut, attributesValues, attributesOut, sampleValues, sampleOut}
 
 -- ---- a refused file
 
