@@ -104,31 +104,36 @@ extern "C" {
 #endif
 
 /*
- * Refusals. Where several apply to a file, 15 comes first; then the first refused item in file order
+ * Refusals, in the words of document 01, whose table of attributes has the lengths and values of
+ * each tag. Where several apply to a file, 15 comes first; then the first refused item in file order
  * decides, and within an item the order 1, 5, channel number (4 or 3 as met), 2, 3, 9, 8, 6, 7; at
  * a waveform 11, 12, 13, 14.
  */
 #define MFER_OK 0u              /* no refusal */
-#define MFER_CONTEXT_TAG 1u     /* context tag other than 3F */
-#define MFER_LENGTH_OCTET 2u    /* length octet 85 to FF, or 80 on another tag than 3F */
-#define MFER_PAST_END 3u        /* channel number, length or value runs past the file or the
-                                   definite group around it */
-#define MFER_LONG_CHANNEL 4u    /* the fourth octet of a channel number has its top bit set */
-#define MFER_BARRED_TAG 5u      /* 01, 05, 06, 07, 0E, 1E or 3F inside a group */
-#define MFER_LENGTH 6u          /* length that the tag does not allow */
-#define MFER_VALUE 7u           /* value that the tag does not allow */
-#define MFER_CHANNEL_NUMBER 8u  /* group of a channel that is not below the channel count */
-#define MFER_COMPRESSED 9u      /* 0E of length above 0: compressed data */
-#define MFER_UNENDED_GROUP 10u  /* the file ends between two items of an open group */
-#define MFER_FRAMES 11u         /* a frame after MFER_MAX_FRAMES frames */
-#define MFER_SAMPLE_WIDTH 12u   /* a channel whose offset or null has not the width of its samples */
-#define MFER_START 13u          /* start pointer outside signed 32 bits */
-#define MFER_SHORT_WAVEFORM 14u /* waveform shorter than its sequences */
-#define MFER_LONG_FILE 15u      /* file of more than MFER_MAX_OCTETS octets */
+#define MFER_CONTEXT_TAG 1u     /* context tag other than 3Fh */
+#define MFER_LENGTH_OCTET 2u    /* length octet 85h to FFh, or 80h not on 3Fh */
+#define MFER_PAST_END 3u        /* channel number, length or value runs past the file or definite
+                                   group around it */
+#define MFER_LONG_CHANNEL 4u    /* fourth channel octet has its top bit set */
+#define MFER_BARRED_TAG 5u      /* tag 01, 05, 06, 07, 0E, 1E or 3F inside a group */
+#define MFER_UNFIT_LENGTH 6u    /* length of a tag in the table of attributes that isn't among
+                                   those given there */
+#define MFER_UNFIT_VALUE 7u     /* value not in the table of attributes */
+#define MFER_CHANNEL_NUMBER 8u  /* channel number not below the channel count */
+#define MFER_COMPRESSED 9u      /* 0Eh of length above 0 (compressed data) */
+#define MFER_UNENDED_GROUP 10u  /* open group: file ends between two of its items */
+#define MFER_MANY_FRAMES 11u    /* a frame after 4,096 frames */
+#define MFER_SAMPLE_WIDTH 12u   /* a channel below the count whose defined offset or null hasn't
+                                   its sample width */
+#define MFER_START_RANGE 13u    /* start pointer outside signed 32 bits */
+#define MFER_SHORT_WAVEFORM 14u /* waveform shorter than sequences times G (the octets of a
+                                   sequence) */
+#define MFER_LONG_FILE 15u      /* file above 2,147,483,647 octets */
 #define MFER_NO_FRAME 20u       /* no such frame */
-#define MFER_NO_CHANNEL 21u     /* no such channel in the frame */
-#define MFER_NO_SAMPLE 22u      /* no such sample of the channel */
-#define MFER_NO_ROOM 23u        /* canonical file longer than the buffer or than MFER_MAX_OCTETS */
+#define MFER_NO_CHANNEL 21u     /* no such channel */
+#define MFER_NO_SAMPLE 22u      /* no such sample */
+#define MFER_NO_ROOM 23u        /* canonical file longer than the output buffer or than 15's
+                                   limit (2,147,483,647 octets) */
 
 /* Limits. */
 #define MFER_MAX_OCTETS 2147483647u    /* octets of a file */
@@ -187,12 +192,12 @@ uint32_t mfer_attributes(const uint8_t *file, size_t file_len, uint32_t frame, u
                          int64_t numbers[MFER_NUMBERS], uint64_t bits[2], uint64_t *place);
 
 /* Kinds of values. */
-#define MFER_WHOLE 0u      /* a whole number, of the types 0 to 3, 5 and 6 */
-#define MFER_STATUS 1u     /* sixteen status bits, of type 4 */
-#define MFER_SINGLE 2u     /* IEEE 754, 32 bits, of type 7; infinities are among them */
-#define MFER_DOUBLE 3u     /* IEEE 754, 64 bits, of type 8; infinities are among them */
-#define MFER_NOT_NUMBER 4u /* a single or double that is no number */
-#define MFER_NULL 5u       /* the sample's bits are the null bits, whatever its type */
+#define MFER_WHOLE 0u      /* whole: a number of the types 0 to 3, 5 and 6 */
+#define MFER_STATUS 1u     /* status: sixteen bits, of type 4 */
+#define MFER_SINGLE 2u     /* single: IEEE 754, 32 bits, of type 7; infinities are among them */
+#define MFER_DOUBLE 3u     /* double: IEEE 754, 64 bits, of type 8; infinities are among them */
+#define MFER_NOT_NUMBER 4u /* not-a-number: a single or double that is no number */
+#define MFER_NULL 5u       /* null: the sample's bits are the null bits, whatever its type */
 
 /*
  * The place and value of a sample. Values are raw: neither offset nor resolution is applied.

@@ -161,13 +161,13 @@ static void check_refusals(void)
         {MFER_PAST_END, 0, 2, {0x0A, 0x01}},
         {MFER_LONG_CHANNEL, 0, 5, {0x3F, 0x80, 0x80, 0x80, 0x80}},
         {MFER_BARRED_TAG, 3, 5, {0x3F, 0x00, 0x02, 0x05, 0x00}},
-        {MFER_LENGTH, 0, 4, {0x0A, 0x02, 0x00, 0x00}},
-        {MFER_VALUE, 0, 3, {0x0A, 0x01, 0x09}},
+        {MFER_UNFIT_LENGTH, 0, 4, {0x0A, 0x02, 0x00, 0x00}},
+        {MFER_UNFIT_VALUE, 0, 3, {0x0A, 0x01, 0x09}},
         {MFER_CHANNEL_NUMBER, 3, 6, {0x05, 0x01, 0x02, 0x3F, 0x02, 0x00}},
         {MFER_COMPRESSED, 0, 3, {0x0E, 0x01, 0x00}},
         {MFER_UNENDED_GROUP, 0, 3, {0x3F, 0x00, 0x80}},
         {MFER_SAMPLE_WIDTH, 3, 7, {0x0D, 0x01, 0x01, 0x1E, 0x02, 0x00, 0x05}},
-        {MFER_START, 10, 12, {0x07, 4, 0x7F, 0xFF, 0xFF, 0xFF, 0x1E, 2, 0, 5, 0x1E, 0}},
+        {MFER_START_RANGE, 10, 12, {0x07, 4, 0x7F, 0xFF, 0xFF, 0xFF, 0x1E, 2, 0, 5, 0x1E, 0}},
         {MFER_SHORT_WAVEFORM, 3, 7, {0x06, 0x01, 0x02, 0x1E, 0x02, 0x00, 0x05}},
     };
     size_t i;
@@ -191,7 +191,7 @@ static void too_many_frames(void)
         file[i + 1] = 0;
     }
     expect_check(file, length - 2, MFER_OK, MFER_MAX_FRAMES, 0);
-    expect_check(file, length, MFER_FRAMES, 0, 2 * MFER_MAX_FRAMES);
+    expect_check(file, length, MFER_MANY_FRAMES, 0, 2 * MFER_MAX_FRAMES);
     free(file);
 }
 

@@ -25,7 +25,7 @@ use Rattle.reader.specs.Answer.{placeSeen, placedOf}
 use Rattle.reader.proofs.Answers.{Located, PlacedAt, countSeen, frameIn, settings-seen, count-seen, place-is}
 use Rattle.reader.proofs.Answers as answers
 use Rattle.reader.proofs.Order.{sample-found, sample-refused}
-use Rattle.reader.proofs.Every.{every-at}
+use Rattle.pass.proofs.Every.{every-at}
 use Rattle.reader.proofs.Good.{GoodSettings, accepted-good}
 use Rattle.reader.proofs.Ordered.{accepted-lies, accepted-small}
 use Rattle.settings.specs.Settings.{zeroSettings}

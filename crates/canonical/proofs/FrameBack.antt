@@ -123,8 +123,8 @@ module _ (s : List ℕ) (short : length s ≤ octetsLimit) (fs : List Frame) whe
           let some = sequence-some (r .channels) (good .channels) (good .some) in
           let enough = le-ltb (r .sequences * octets) (r .sequences * octets) (omega arith) in
           rw (all-agree (r .channels) (good .channels))
-          (sym (framed-taken (length fs) (standingAt r continued) true octets (length (waveformOf r)) (λ z. omega arith) long few refl (good .start)
-          (r .sequences) (pointerBehind r continued) (rw waveform-long (sequences-back (r .sequences) octets)) (rw waveform-long enough) refl))
+          (sym (framed-taken (length fs) (standingAt r continued) true octets (length (waveformOf r)) few refl (good .start)
+          (r .sequences) (rw waveform-long (sequences-back (r .sequences) octets)) (rw waveform-long enough)))
 
       waveform-led : (at : ℕ) (post : List ℕ) → drop at s ≡ item 0x1E (waveformOf r) ++ post → Led s (state (standingAt r continued) table fs) (cursor at Root) (state (standingBehind r continued) table (fs ++ (frameOf r (startAt at (length (waveformOf r))) ∷ []))) post
       unfolding usual tagged rootEffect carried withFrame

@@ -47,18 +47,21 @@ use Rattle.standing.specs.declared.Standing.{Standing}
 use Rattle.effects.specs.declared.Effect.{Effect}
 use Rattle.framing.specs.declared.Framed.{Framed}
 use Rattle.framing.specs.declared.Framed.the-variants.{Taken}
-use Rattle.standing.specs.Standing.{octetsLimit, firstStanding}
-use Rattle.effects.specs.Effects.{effectOf, valueAt, standingAfter}
-use Rattle.framing.specs.Framing.{channelsOf, framedAs}
+use Rattle.standing.specs.Standing.{octetsLimit, framesLimit, firstStanding}
+use Rattle.effects.specs.Effects.{effectOf, valueAt}
+use Rattle.framing.specs.Framing.{channelsOf}
+use Rattle.framing.specs.AnyNumbers.{framedBy}
 use Rattle.pass.specs.Verdict.{State, state, Outcome, goes, refuses, frameAt, withFrame, carried, placeAt, Verdict, accepted, refused, interpret, verdict}
 use Rattle.pass.specs.Scan.{zeroFrame, sizeOf, sizes, scannedIn, scanOf}
 use Rattle.pass.specs.declared.Asked.{Asked}
 use Rattle.pass.specs.declared.Checked.{Checked}
 use Rattle.pass.specs.declared.Scan.{Scan}
-use Rattle.pass.proofs.Keeps.{Keeps, frames-kept, accepted-by, interpret-goes, interpret-refuses, interpret-finished, interpret-fault}
+use Rattle.pass.specs.Passing.{Reached, first, behind}
+use Rattle.pass.proofs.Keeps.{Keeps, frames-kept, interpret-refuses, interpret-finished, interpret-fault, reached-verdict}
+use Rattle.pass.proofs.Bounds.{reached-bounded}
 use Rattle.framing.proofs.Framings.{pointer-small}
 use Rattle.settings.proofs.Shown.{shown, shown-none}
-use Rattle.pass.proofs.Scans.{counted-kept, framed-found, shownBy, Records, Filling, shown-full, frame-shown}
+use Rattle.pass.proofs.Scans.{frame-carried, taken-few, taken-root, shownBy, Records, Filling, frame-shown}
 use Rattle.reader.proofs.Ordered.{Lies, accepted-lies, accepted-small}
 use Rattle.groups.specs.Item.{item}
 use Rattle.groups.specs.Head.{headItems}
@@ -189,27 +192,23 @@ pub record Writing (s d : List ℕ) (table : List Settings) (c : Cursor) (st : S
   pub is : verdict s ≡ accepted (framesIn (verdict s))
   pub some : length (framesIn (verdict s)) ≡ 0 → ⊥
   pub room : 3 + sizes (framesIn (verdict s)) ≤ length d
-  pub counted : st .counted ≤ channelLimit
-  pub full : length table ≡ channelLimit
   pub met : List Frame
+  pub reached : Reached s (state st table met) c
   pub count : frames ≡ length met
-  pub same : interpret s (state st table met) (itemsFrom s c) ≡ accepted (framesIn (verdict s))
   pub put : Put d 3 (writtenSoFar met) at e
 
 -- Before the first item.
 pub writing-first : {s d e : List ℕ} (table : List Settings) (c : Cursor) (st : Standing) {at : ℕ} → Ready s d → table ≡ defaultTable → c ≡ cursor 0 Root → st ≡ firstStanding → Put d 0 (0x01 ∷ 0x01 ∷ 0x00 ∷ []) at e → Writing s e table c st 0 at e
 unfolding framesOctets recording
-writing-first {s} table c st r et ec es p =
+writing-first table c st r et ec es p =
     rw (et, ec, es)
     record {
       is = r .is;
       some = r .some;
       room = omega (arith, r .room, put-long p);
-      counted = omega arith;
-      full = length-replicate channelLimit defaultSettings;
       met = [];
+      reached = first;
       count = refl;
-      same = accepted-by s (framesIn (verdict s)) (r .is) .1;
       put = record { next = p .next; stored = refl };
     }
 
@@ -217,33 +216,28 @@ module _ {s d : List ℕ} {table : List Settings} {c : Cursor} {st : Standing} {
   abbrev here : State
   here = state st table (p .met)
 
+  short : length s ≤ octetsLimit
+  short = accepted-small s (framesIn (verdict s)) (p .is)
+
+  left : interpret s here (itemsFrom s c) ≡ accepted (framesIn (verdict s))
+  left = reached-verdict s short (p .reached) ∙ p .is
+
   -- An item that gives no frame.
-  pub writing-goes : {n : Next} {i : Item} {d' : Cursor} {table' : List Settings} {st' : Standing} → n ≡ nextOf s c → n ≡ Found i d' → st' .counted ≤ channelLimit → length table' ≡ channelLimit → carried s here (effectOf s st i) ≡ goes (state st' table' (p .met)) → Writing s d table' d' st' frames at e
-  writing-goes {i = i} {d' = d'} {table' = table'} {st' = st'} a b hc hl g =
-      record {
-        is = p .is;
-        some = p .some;
-        room = p .room;
-        counted = hc;
-        full = hl;
-        met = p .met;
-        count = p .count;
-        same = sym (interpret-goes s here i (itemsFrom s d') (state st' table' (p .met)) g) ∙ ap (interpret s here) (sym (items-found s c i d' (sym a ∙ b))) ∙ p .same;
-        put = p .put;
-      }
+  pub writing-goes : {n : Next} {i : Item} {d' : Cursor} {table' : List Settings} {st' : Standing} → n ≡ nextOf s c → n ≡ Found i d' → carried s here (effectOf s st i) ≡ goes (state st' table' (p .met)) → Writing s d table' d' st' frames at e
+  writing-goes a b g = record { is = p .is; some = p .some; room = p .room; met = p .met; reached = behind (p .reached) (sym a ∙ b) g; count = p .count; put = p .put }
 
   -- The end.
   pub written-end : {n : Next} {o : List ℕ} {k : ℕ} → n ≡ nextOf s c → n ≡ End → Put o 0 (0x01 ∷ 0x01 ∷ 0x00 ∷ []) k d → Put o 0 (canonicalOf s) at e
   unfolding canonicalOf
   written-end a b q =
-      let v : accepted (p .met) ≡ accepted (framesIn (verdict s)) = sym (interpret-finished s here) ∙ ap (interpret s here) (sym (items-end s c (sym a ∙ b))) ∙ p .same in
+      let v : accepted (p .met) ≡ accepted (framesIn (verdict s)) = sym (interpret-finished s here) ∙ ap (interpret s here) (sym (items-end s c (sym a ∙ b))) ∙ left in
       let f : p .met ≡ framesIn (verdict s) = cc in
       put-as (ap (λ (fs : List Frame). (0x01 ∷ 0x01 ∷ 0x00 ∷ []) ++ writtenSoFar fs) f ∙ so-far-all (framesIn (verdict s)) (p .some)) (put-then {u = 0x01 ∷ 0x01 ∷ 0x00 ∷ []} (record { next = refl; stored = q .stored }) (p .put))
 
   -- An accepted file has no fault of form.
   pub never-fault : {n : Next} (r : Refusal) → n ≡ nextOf s c → n ≡ Next.Refused r → ⊥
   never-fault r a b =
-      let v : refused r ≡ accepted (framesIn (verdict s)) = sym (interpret-fault s here r) ∙ ap (interpret s here) (sym (items-refused s c r (sym a ∙ b))) ∙ p .same in
+      let v : refused r ≡ accepted (framesIn (verdict s)) = sym (interpret-fault s here r) ∙ ap (interpret s here) (sym (items-refused s c r (sym a ∙ b))) ∙ left in
       let z : _≡_ {A = ℕ} 0 1 = cc in
       omega arith
 
@@ -256,7 +250,7 @@ module _ {s d : List ℕ} {table : List Settings} {c : Cursor} {st : Standing} {
   -- Nor has it a refused item.
   pub never-refuses : {n : Next} {i : Item} {d' : Cursor} (k : ℕ) → n ≡ nextOf s c → n ≡ Found i d' → carried s here (effectOf s st i) ≡ refuses k → ⊥
   never-refuses {i = i} {d' = d'} k a b g =
-      let v : refused (refusal k (placeAt i)) ≡ accepted (framesIn (verdict s)) = sym (interpret-refuses s here i (itemsFrom s d') k g) ∙ ap (interpret s here) (sym (items-found s c i d' (sym a ∙ b))) ∙ p .same in
+      let v : refused (refusal k (placeAt i)) ≡ accepted (framesIn (verdict s)) = sym (interpret-refuses s here i (itemsFrom s d') k g) ∙ ap (interpret s here) (sym (items-found s c i d' (sym a ∙ b))) ∙ left in
       let z : _≡_ {A = ℕ} 0 1 = cc in
       omega arith
 
@@ -264,17 +258,17 @@ module _ {s d : List ℕ} {table : List Settings} {c : Cursor} {st : Standing} {
 
 module _ {s d : List ℕ} {table : List Settings} {c : Cursor} {st : Standing} {frames at : ℕ} {e : List ℕ} (p : Writing s d table c st frames at e)
     (count : ℕ) (l : Layout) (ec : count ≡ channelsOf (st .counted)) (el : l ≡ layoutOf 0 (take count table)) where
+  counted : l ≡ layoutOf 0 (take (channelsOf (st .counted)) table)
+  counted = el ∙ ap (λ (k : ℕ). layoutOf 0 (take k table)) ec
+
   -- What the frame's waveform gives, as the pass computes it.
-  pub framed-carried : (i : Item) (start len : ℕ) {x : Effect} {r f : Framed} → x ≡ effectOf s st i → x ≡ Effect.Frame start len → r ≡ framedAs frames st (l .agree) (l .octets) len → r ≡ f → carried s (state st table (p .met)) (effectOf s st i) ≡ withFrame s (state st table (p .met)) start len f
-  unfolding carried layoutOf
-  framed-carried i start len a b u v =
-      ap (carried s (state st table (p .met))) (sym a ∙ b)
-      ∙ ap (withFrame s (state st table (p .met)) start len) (sym (rw (el, p .count, ec) at u) ∙ v)
+  pub framed-carried : (i : Item) (start len : ℕ) {x : Effect} {r f : Framed} → x ≡ effectOf s st i → x ≡ Effect.Frame start len → r ≡ framedBy frames st (l .agree) (l .octets) len → r ≡ f → carried s (state st table (p .met)) (effectOf s st i) ≡ withFrame s (state st table (p .met)) start len f
+  framed-carried i start len a b = frame-carried (short p) (p .reached) (p .count) 0 l counted i start len (sym b ∙ a)
 
   module _ {n : Next} {i : Item} {d' : Cursor} {start len sequences : ℕ} {x : Standing} {f : Effect} {r : Framed}
       (en : n ≡ nextOf s c) (fn : n ≡ Found i d')
       (ee : f ≡ effectOf s st i) (fe : f ≡ Effect.Frame start len)
-      (er : r ≡ framedAs frames st (l .agree) (l .octets) len) (fr : r ≡ Taken sequences x) where
+      (er : r ≡ framedBy frames st (l .agree) (l .octets) len) (fr : r ≡ Taken sequences x) where
     abbrev there : Frame
     there = frameAt s (state st table (p .met)) start len sequences
 
@@ -285,8 +279,11 @@ module _ {s d : List ℕ} {table : List Settings} {c : Cursor} {st : Standing} {
     unfolding withFrame
     taken = framed-carried i start len ee fe er fr
 
+    reached-after : Reached s (state x table (p .met ++ (there ∷ []))) d'
+    reached-after = behind (p .reached) (sym en ∙ fn) taken
+
     same-after : interpret s (state x table (p .met ++ (there ∷ []))) (itemsFrom s d') ≡ accepted all
-    same-after = sym (interpret-goes s (state st table (p .met)) i (itemsFrom s d') (state x table (p .met ++ (there ∷ []))) taken) ∙ ap (interpret s (state st table (p .met))) (sym (items-found s c i d' (sym en ∙ fn))) ∙ p .same
+    same-after = reached-verdict s (short p) reached-after ∙ p .is
 
     grown : (rest : List Frame) × (all ≡ (p .met ++ (there ∷ [])) ++ rest)
     grown = frames-grow s (state x table (p .met ++ (there ∷ []))) d' all same-after
@@ -309,6 +306,12 @@ module _ {s d : List ℕ} {table : List Settings} {c : Cursor} {st : Standing} {
 
     octets-there : sequences * sequenceOctets (take count table) ≡ sequences * sequenceOctets (there .channels)
     octets-there = ap (λ (cs : List Settings). sequences * sequenceOctets cs) same-there
+
+    pub frame-few : frames < framesLimit
+    frame-few = taken-few (short p) (p .reached) (p .count) 0 l counted i (sym fe ∙ ee) er fr
+
+    pub frame-root : x .root ≡ st .root
+    frame-root = taken-root (short p) (p .reached) (p .count) 0 l counted i (sym fe ∙ ee) er fr
 
     start-small : mag (st .start) < 2147483648
     start-small = pointer-small (st .start) (lies .pointer)
@@ -333,16 +336,13 @@ module _ {s d : List ℕ} {table : List Settings} {c : Cursor} {st : Standing} {
         (λ i. frameParts (narrow-is (st .start) start-small i) sequences (same-there i) (samplesTurned (st .little) (same-there i) sequences (ew i)))
         ∙ ap (frameParts (there .start) sequences (there .channels)) (samples-are s there lies (take-octets len (drop start s) (drop-octets start s o)))
         ∙ sym (frame-is there) in
-        let w' = framed-found frames st (l .agree) (l .octets) len er fr in
         record {
           is = p .is;
           some = p .some;
           room = p .room;
-          counted = rw (w' .3) (p .counted);
-          full = p .full;
           met = p .met ++ (there ∷ []);
+          reached = reached-after;
           count = simp length-append (omega (arith, p .count));
-          same = same-after;
           put = put-as (so-far-more (p .met) there) (put-then (p .put) (put-as k (frame-put (narrowed (st .start)) (st .little) sequences (take count table) w held few frame-room q)));
         }
 
@@ -365,13 +365,12 @@ module _ {s d : List ℕ} {table : List Settings} {own : ℕ} {c : Cursor} {st :
   pub going-filled : {own' : ℕ} {table' : List Settings} → Filling (st .root) own table own' table' → Going s d table' own' c st frames at e
   going-filled f = record { records = f .records; pass = subst (λ (t : List Settings). Writing s d t c st frames at e) (sym (f .same)) (p .pass) }
 
-  -- An item that gives no frame.
-  pub going-stands : {n : Next} {i : Item} {d' : Cursor} {own' : ℕ} {table' : List Settings} {st' : Standing} {f : Effect} → n ≡ nextOf s c → n ≡ Found i d' → Records own' table' → f ≡ effectOf s st i → st' ≡ standingAfter st f → carried s (state st (shownBy st own table) (p .pass .met)) (effectOf s st i) ≡ goes (state st' (shownBy st' own' table') (p .pass .met)) → Going s d table' own' d' st' frames at e
-  going-stands {i = i} {st' = st'} {f = f} a b k w v g =
-      record { records = k; pass = writing-goes (p .pass) a b (subst (λ (x : Standing). x .counted ≤ channelLimit) (sym v) (counted-kept s st i f w (p .pass .counted))) (shown-full k st') g }
+  pub going-counted : st .counted ≤ channelLimit
+  going-counted = reached-bounded s (p .pass .reached) .counted
 
-  pub going-goes : {n : Next} {i : Item} {d' : Cursor} {own' : ℕ} {table' : List Settings} {st' : Standing} → n ≡ nextOf s c → n ≡ Found i d' → Records own' table' → st' .counted ≤ channelLimit → carried s (state st (shownBy st own table) (p .pass .met)) (effectOf s st i) ≡ goes (state st' (shownBy st' own' table') (p .pass .met)) → Going s d table' own' d' st' frames at e
-  going-goes {st' = st'} a b k h g = record { records = k; pass = writing-goes (p .pass) a b h (shown-full k st') g }
+  -- An item that gives no frame.
+  pub going-goes : {n : Next} {i : Item} {d' : Cursor} {own' : ℕ} {table' : List Settings} {st' : Standing} → n ≡ nextOf s c → n ≡ Found i d' → Records own' table' → carried s (state st (shownBy st own table) (p .pass .met)) (effectOf s st i) ≡ goes (state st' (shownBy st' own' table') (p .pass .met)) → Going s d table' own' d' st' frames at e
+  going-goes a b k g = record { records = k; pass = writing-goes (p .pass) a b g }
 
   module _ (count : ℕ) (l : Layout) (ec : count ≡ channelsOf (st .counted)) (el : l ≡ layoutOf 0 (take count table)) (few : count ≤ own) where
     same-taken : take count table ≡ take count (shownBy st own table)
@@ -380,21 +379,23 @@ module _ {s d : List ℕ} {table : List Settings} {own : ℕ} {c : Cursor} {st :
     laid : l ≡ layoutOf 0 (take count (shownBy st own table))
     laid = el ∙ ap (layoutOf 0) same-taken
 
-    pub going-carried : (i : Item) (start len : ℕ) {x : Effect} {r f : Framed} → x ≡ effectOf s st i → x ≡ Effect.Frame start len → r ≡ framedAs frames st (l .agree) (l .octets) len → r ≡ f → carried s (state st (shownBy st own table) (p .pass .met)) (effectOf s st i) ≡ withFrame s (state st (shownBy st own table) (p .pass .met)) start len f
+    pub going-carried : (i : Item) (start len : ℕ) {x : Effect} {r f : Framed} → x ≡ effectOf s st i → x ≡ Effect.Frame start len → r ≡ framedBy frames st (l .agree) (l .octets) len → r ≡ f → carried s (state st (shownBy st own table) (p .pass .met)) (effectOf s st i) ≡ withFrame s (state st (shownBy st own table) (p .pass .met)) start len f
     going-carried = framed-carried (p .pass) count l ec laid
 
     module _ {n : Next} {i : Item} {d' : Cursor} {start len sequences : ℕ} {x : Standing} {f : Effect} {r : Framed}
         (en : n ≡ nextOf s c) (fn : n ≡ Found i d')
         (ee : f ≡ effectOf s st i) (fe : f ≡ Effect.Frame start len)
-        (er : r ≡ framedAs frames st (l .agree) (l .octets) len) (fr : r ≡ Taken sequences x) where
+        (er : r ≡ framedBy frames st (l .agree) (l .octets) len) (fr : r ≡ Taken sequences x) where
+      pub going-few : frames < framesLimit
+      going-few = frame-few (p .pass) count l ec laid en fn ee fe er fr
+
       pub going-start : SFits w32 (widened (st .start))
       going-start = frame-start (p .pass) count l ec laid en fn ee fe er fr
 
       pub going-frame : {w : List ℕ} {at' : ℕ} {e' : List ℕ} → ((k : ℕ) → getD s k 0 < 256) → w ≡ valueAt s start len → Putting e at (frameGiven (narrowed (st .start)) (st .little) sequences (take count table) w) at' e' → Going s d table own d' x (frames + 1) at' e'
       going-frame {w} {at'} {e'} o ew q =
-          let z = framed-found frames st (l .agree) (l .octets) len er fr in
           let g = writing-frame (p .pass) count l ec laid en fn ee fe er fr o ew (rw same-taken at q) in
-          record { records = p .records; pass = subst (λ (r : Settings). Writing s d (shown channelLimit r own table) d' x (frames + 1) at' e') (sym (z .4)) g }
+          record { records = p .records; pass = subst (λ (r : Settings). Writing s d (shown channelLimit r own table) d' x (frames + 1) at' e') (sym (frame-root (p .pass) count l ec laid en fn ee fe er fr)) g }
 
 -- ---- what the writer answers
 

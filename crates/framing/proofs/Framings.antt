@@ -1,11 +1,11 @@
 -- Laws of what a waveform gives.
 --     sequences-..      the ways of the number of sequences, and that it is small
 --     short-..          a waveform shorter than its sequences, by a division
---     framed-..         the ways of a frame
+--     framed-..         the ways of a frame, and that for all that a file has `frame_of` answers document 01's rule
 -- Assumes nothing.
 use mathlib.Core.Path.{_≡_, refl, sym, ap, _∙_}
 use mathlib.Core.Bool.{Bool, true, false, not, cond}
-use Prim.Native.Nat.{ℕ, suc, _+_, _-_, _*_, _/_, _≤_, _<_}
+use Prim.Native.Nat.{ℕ, suc, _+_, _-_, _*_, _/_, _^_, _≤_, _<_}
 use native.Mathlib.Nat.{div-lt-iff-lt-mul, le-mul-of-pos-right, le-trans}
 use native.Mathlib.Omega.{arith}
 use borrow.Author.Tests.{lt-ltb, le-ltb, le-leb, lt-leb, eq-eqb, ne-eqb, leb-true, ltb-true, ltb-false}
@@ -18,6 +18,7 @@ use Rattle.standing.specs.declared.Standing.{Standing}
 use Rattle.framing.specs.declared.Framed.the-variants.{Taken, Refused}
 use Rattle.standing.specs.Standing.{octetsLimit, framesLimit, withContinued}
 use Rattle.framing.specs.Framing.{sequencesOf, pointerFits, pointerAfter, framedAs}
+use Rattle.framing.specs.AnyNumbers.{framedBy}
 
 module _ (set long octets : ℕ) where
   pub sequences-set : (set ≡ 0 → ⊥) → set ≡ sequencesOf set long octets
@@ -48,12 +49,12 @@ short-by long sequences octets p =
     (e .0) (e .1)
 
 -- Signed 32 bits.
-pub pointer-small : (z : ℤ) → pointerFits z ≡ true → mag z < 2147483648
+pub pointer-small : (z : ℤ) → pointerFits z ≡ true → mag z < 2 ^ 31
 unfolding pointerFits
 pointer-small (pos n) h = omega (arith, leb-true n 2147483647 h)
 pointer-small (negsuc n) h = by (leb n 2147483647) refl h
   where
-    by : (b : Bool) → leb n 2147483647 ≡ b → both b true ≡ true → n < 2147483648
+    by : (b : Bool) → leb n 2147483647 ≡ b → both b true ≡ true → n < 2 ^ 31
     by true e t = omega (arith, leb-true n 2147483647 e)
     by false e t = let z : _≡_ {A = ℕ} 0 1 = cc in omega arith
 
@@ -71,31 +72,37 @@ pub sequences-few : (n octets long : ℕ) → 0 < octets → ltb long (n * octet
 sequences-few n octets long p t = le-trans (le-mul-of-pos-right n p) (ltb-false long (n * octets) t)
 
 module _ (frames : ℕ) (st : Standing) (agree : Bool) (octets long : ℕ) where
-  pub framed-empty : octets ≡ 0 → Refused longFile ≡ framedAs frames st agree octets long
-  unfolding framedAs
+  pub framed-empty : octets ≡ 0 → Refused longFile ≡ framedBy frames st agree octets long
+  unfolding framedBy
   framed-empty z = simp (eq-eqb octets 0 z)
 
-  pub framed-large : (octets ≡ 0 → ⊥) → octetsLimit < long → Refused longFile ≡ framedAs frames st agree octets long
-  unfolding framedAs
-  framed-large z h = simp (ne-eqb octets 0 z, lt-ltb octetsLimit long h)
+  pub framed-large : 0 < octets → octetsLimit < long → Refused longFile ≡ framedBy frames st agree octets long
+  unfolding framedBy
+  framed-large z h = simp (ne-eqb octets 0 (λ e. omega arith), lt-ltb octetsLimit long h)
 
-  pub framed-limit : (octets ≡ 0 → ⊥) → long ≤ octetsLimit → framesLimit ≤ frames → Refused manyFrames ≡ framedAs frames st agree octets long
-  unfolding framedAs
-  framed-limit z h k = simp (ne-eqb octets 0 z, le-ltb octetsLimit long h, le-leb framesLimit frames k)
+  -- Of all that a file has.
+  pub framed-same : 0 < octets → long ≤ octetsLimit → framedBy frames st agree octets long ≡ framedAs frames st agree octets long
+  unfolding framedBy
+  framed-same z h = simp (ne-eqb octets 0 (λ e. omega arith), le-ltb octetsLimit long h)
 
-  pub framed-width : (octets ≡ 0 → ⊥) → long ≤ octetsLimit → frames < framesLimit → not agree ≡ true → Refused sampleWidth ≡ framedAs frames st agree octets long
+  pub framed-limit : framesLimit ≤ frames → Refused manyFrames ≡ framedAs frames st agree octets long
   unfolding framedAs
-  framed-width z h k a = simp (ne-eqb octets 0 z, le-ltb octetsLimit long h, lt-leb framesLimit frames k, a)
+  framed-limit k = simp (le-leb framesLimit frames k)
 
-  pub framed-pointer : (octets ≡ 0 → ⊥) → long ≤ octetsLimit → frames < framesLimit → not agree ≡ false → pointerFits (st .start) ≡ false → Refused startRange ≡ framedAs frames st agree octets long
-  unfolding framedAs
-  framed-pointer z h k a p = simp (ne-eqb octets 0 z, le-ltb octetsLimit long h, lt-leb framesLimit frames k, a, p)
-
-  module _ (z : octets ≡ 0 → ⊥) (h : long ≤ octetsLimit) (k : frames < framesLimit) (a : not agree ≡ false) (p : pointerFits (st .start) ≡ true) where
-    pub framed-short : (n : ℕ) → n ≡ sequencesOf (st .sequences) long octets → ltb long (n * octets) ≡ true → Refused shortWaveform ≡ framedAs frames st agree octets long
+  module _ (k : frames < framesLimit) where
+    pub framed-width : not agree ≡ true → Refused sampleWidth ≡ framedAs frames st agree octets long
     unfolding framedAs
-    framed-short n e t = simp (ne-eqb octets 0 z, le-ltb octetsLimit long h, lt-leb framesLimit frames k, a, p, ap (λ (m : ℕ). ltb long (m * octets)) (sym e) ∙ t)
+    framed-width a = simp (lt-leb framesLimit frames k, a)
 
-    pub framed-taken : (n : ℕ) (y : ℤ) → n ≡ sequencesOf (st .sequences) long octets → ltb long (n * octets) ≡ false → y ≡ pointerAfter st n → Taken n (withContinued y st) ≡ framedAs frames st agree octets long
+    pub framed-pointer : not agree ≡ false → pointerFits (st .start) ≡ false → Refused startRange ≡ framedAs frames st agree octets long
     unfolding framedAs
-    framed-taken n y e t q = rw (q, e) (simp (ne-eqb octets 0 z, le-ltb octetsLimit long h, lt-leb framesLimit frames k, a, p, ap (λ (m : ℕ). ltb long (m * octets)) (sym e) ∙ t))
+    framed-pointer a p = simp (lt-leb framesLimit frames k, a, p)
+
+    module _ (a : not agree ≡ false) (p : pointerFits (st .start) ≡ true) (n : ℕ) (e : n ≡ sequencesOf (st .sequences) long octets) where
+      pub framed-short : ltb long (n * octets) ≡ true → Refused shortWaveform ≡ framedAs frames st agree octets long
+      unfolding framedAs
+      framed-short t = simp (lt-leb framesLimit frames k, a, p, ap (λ (m : ℕ). ltb long (m * octets)) (sym e) ∙ t)
+
+      pub framed-taken : ltb long (n * octets) ≡ false → Taken n (withContinued (pointerAfter st n) st) ≡ framedAs frames st agree octets long
+      unfolding framedAs
+      framed-taken t = rw e (simp (lt-leb framesLimit frames k, a, p, ap (λ (m : ℕ). ltb long (m * octets)) (sym e) ∙ t))

@@ -5,11 +5,11 @@ use lib.Dec.{eqb, leb, ltb}
 use lib.IntN.{ℤ, pos, negsuc, _+ℤ_}
 use lib.Signed.{leZ}
 use Rattle.octets.specs.Pick.{pick, both}
-use Rattle.heads.specs.Refusals.{longFile, manyFrames, sampleWidth, startRange, shortWaveform}
+use Rattle.heads.specs.Refusals.{manyFrames, sampleWidth, startRange, shortWaveform}
 use Rattle.standing.specs.declared.Standing.{Standing}
 use Rattle.framing.specs.declared.Framed.{Framed}
 use Rattle.framing.specs.declared.Framed.the-variants.{Taken, Refused}
-use Rattle.standing.specs.Standing.{octetsLimit, framesLimit, withContinued}
+use Rattle.standing.specs.Standing.{framesLimit, withContinued}
 
 -- How many channels a frame has: as counted; 1 where no count stands.
 unfoldable pub channelsOf : ℕ → ℕ
@@ -28,15 +28,12 @@ unfoldable pub pointerAfter : Standing → ℕ → ℤ
 pointerAfter st sequences = st .start +ℤ pos (st .root .block * sequences)
 
 -- What a waveform of `long` octets gives after `frames` frames, where a sequence takes `octets` octets: 11, 12, 13, 14, or a frame with
--- its sequences and what stands after it. (The first two tests are never met, as reader/proofs/Never.antt shows: a sequence has octets, since block lengths and widths are
--- at least 1, and no waveform is longer than a file may be, since 15 has come first.)
+-- its sequences and what stands after it.
 unfoldable pub framedAs : ℕ → Standing → Bool → ℕ → ℕ → Framed
 framedAs frames st agree octets long =
     let sequences = sequencesOf (st .sequences) long octets in
-    pick (eqb octets 0) (Refused longFile)
-    (pick (ltb octetsLimit long) (Refused longFile)
-    (pick (leb framesLimit frames) (Refused manyFrames)
+    pick (leb framesLimit frames) (Refused manyFrames)
     (pick (not agree) (Refused sampleWidth)
     (pick (not (pointerFits (st .start))) (Refused startRange)
     (pick (ltb long (sequences * octets)) (Refused shortWaveform)
-    (Taken sequences (withContinued (pointerAfter st sequences) st)))))))
+    (Taken sequences (withContinued (pointerAfter st sequences) st)))))

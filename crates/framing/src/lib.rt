@@ -1,14 +1,16 @@
 // What a waveform gives.
 //
-// Promises, for any numbers at all: `frame_of` answers the sequences of a waveform and what stands after it, or 11 to 14;
-// `channels_of` answers how many channels a frame has. Nothing is carried out here.
-// Read first: specs/Framing.antt; what stands is in crate standing.
+// Promises, for any numbers at all: `frame_of` answers the sequences of a waveform and what stands after it, or 11 to 14, and 15 for
+// numbers that no file has; `channels_of` answers how many channels a frame has. Nothing is carried out here.
+// Read first: specs/Framing.antt (the rule), then specs/AnyNumbers.antt; what stands is in crate standing.
+ghost use mathlib.Core.Bool.{true};
 ghost use mathlib.Core.Path.{_≡_};
-ghost use Prim.Native.Nat.{_*_, _<_};
+ghost use Prim.Native.Nat.{_*_, _≤_, _<_};
 ghost use lib.Dec.{ltb};
 ghost use lib.IntN.{pos, _+ℤ_};
-ghost use lib.Signed.{mag};
-ghost use Rattle.framing.specs.Framing.{channelsOf, sequencesOf, pointerFits, framedAs};
+ghost use Rattle.standing.specs.Standing.{octetsLimit};
+ghost use Rattle.framing.specs.Framing.{channelsOf, sequencesOf, pointerFits};
+ghost use Rattle.framing.specs.AnyNumbers.{framedBy};
 use heads::Refusal;
 use standing::Standing;
 
@@ -45,7 +47,7 @@ fn pointer_fits(z: i64) -> bool
 
 // The pointer after a frame: its start plus root block length times its sequences.
 fn pointer_after(start: i64, block: u32, sequences: u64) -> i64
-    requires { ⌜ (mag start < 2147483648) × (sequences < 2147483648) ⌝ }
+    requires { ⌜ (pointerFits start ≡ true) × (sequences ≤ octetsLimit) ⌝ }
     ensures { λ r. ⌜ r ≡ start +ℤ pos (block * sequences) ⌝ }
 {
     start + (block as u64 * sequences) as i64
@@ -61,7 +63,7 @@ fn too_short(long: usize, sequences: u64, octets: u64) -> bool
 
 // A waveform of `long` octets after `frames` frames, where a sequence takes `octets` octets.
 pub fn frame_of(frames: u32, st: Standing, agree: bool, octets: u64, long: usize) -> Framed
-    ensures { λ r. ⌜ r ≡ framedAs frames st agree octets long ⌝ }
+    ensures { λ r. ⌜ r ≡ framedBy frames st agree octets long ⌝ }
 {
     if octets == 0 {
         return Framed::Refused(Refusal::LONG_FILE);

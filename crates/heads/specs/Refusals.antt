@@ -1,4 +1,5 @@
--- The numbers of document 01's table, "What comes back when it is no", each named once.
+-- The numbers of document 01's table, "What comes back when it is no", each named once, with the words that every reader of a refusal is
+-- told. They are the table's; what it leans on elsewhere stands in parentheses, and its "table above" is that of attributes.
 use Prim.Native.Nat.{ℕ}
 
 -- 1: context tag other than 3Fh
@@ -17,15 +18,15 @@ pastEnd = 3
 abbrev pub longChannel : ℕ
 longChannel = 4
 
--- 5: 01, 05, 06, 07, 0E, 1E or 3F inside a group
+-- 5: tag 01, 05, 06, 07, 0E, 1E or 3F inside a group
 abbrev pub barredTag : ℕ
 barredTag = 5
 
--- 6: length of a tag in the table that isn't among those given there
+-- 6: length of a tag in the table of attributes that isn't among those given there
 abbrev pub unfitLength : ℕ
 unfitLength = 6
 
--- 7: value not in the table
+-- 7: value not in the table of attributes
 abbrev pub unfitValue : ℕ
 unfitValue = 7
 
@@ -33,7 +34,7 @@ unfitValue = 7
 abbrev pub channelNumber : ℕ
 channelNumber = 8
 
--- 9: 0Eh of length above 0
+-- 9: 0Eh of length above 0 (compressed data)
 abbrev pub compressed : ℕ
 compressed = 9
 
@@ -53,7 +54,7 @@ sampleWidth = 12
 abbrev pub startRange : ℕ
 startRange = 13
 
--- 14: waveform shorter than sequences times G
+-- 14: waveform shorter than sequences times G (the octets of a sequence)
 abbrev pub shortWaveform : ℕ
 shortWaveform = 14
 
@@ -61,16 +62,18 @@ shortWaveform = 14
 abbrev pub longFile : ℕ
 longFile = 15
 
--- 20, 21, 22: no such frame, channel, sample
+-- 20: no such frame
 abbrev pub noFrame : ℕ
 noFrame = 20
 
+-- 21: no such channel
 abbrev pub noChannel : ℕ
 noChannel = 21
 
+-- 22: no such sample
 abbrev pub noSample : ℕ
 noSample = 22
 
--- 23: canonical file longer than the output buffer or than 15's limit
+-- 23: canonical file longer than the output buffer or than 15's limit (2,147,483,647 octets)
 abbrev pub noRoom : ℕ
 noRoom = 23

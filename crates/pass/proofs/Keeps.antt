@@ -3,13 +3,14 @@
 --     verdict-law     what holds of each way to stop holds of the interpretation's verdict
 --     frames-kept     the frames of an accepted interpretation are those of a state that is reached
 --     accepted-by, accepted-kept    the same of an accepted file, which is no longer than the limit
+--     reached-keeps, reached-verdict    what every item keeps holds where a file's items lead; what is left of the file there gives the verdict
 -- Assumes nothing.
-use mathlib.Core.Path.{_≡_, refl, ap, _∙_}
+use mathlib.Core.Path.{_≡_, refl, sym, ap, _∙_}
 use mathlib.Core.List.{List}
 use mathlib.Core.Bool.{Bool, true, false}
 use Prim.Native.Nat.{ℕ, zero, suc, _-_, _≤_, _<_}
 use native.Mathlib.Omega.{arith}
-use borrow.Author.Tests.{ltb-false}
+use borrow.Author.Tests.{ltb-false, le-ltb}
 use lib.Dec.{ltb}
 use lib.ListN.{length}
 use Rattle.octets.specs.Pick.{pick}
@@ -26,6 +27,7 @@ use Rattle.layout.specs.Frame.{Frame}
 use Rattle.effects.specs.Effects.{effectOf}
 use Rattle.standing.specs.Standing.{octetsLimit}
 use Rattle.pass.specs.Verdict.{State, firstState, Outcome, goes, refuses, carried, placeAt, Verdict, accepted, refused, afterItem, interpret, verdict}
+use Rattle.pass.specs.Passing.{Reached, first, behind}
 
 -- What an item does.
 abbrev pub meaning : List ℕ → State → Item → Outcome
@@ -118,3 +120,19 @@ accepted-by s fs e = rw (← items-first s) (limit-by s fs (ltb octetsLimit (len
 
 pub accepted-kept : (s : List ℕ) (I : State → Cursor → Type 0) → Keeps s I → I firstState firstCursor → (fs : List Frame) → verdict s ≡ accepted fs → Kept I fs
 accepted-kept s I keeps p fs e = frames-kept s I keeps firstState firstCursor fs p (accepted-by s fs e .1)
+
+-- ---- where a file's items lead
+
+module _ (s : List ℕ) where
+  pub reached-keeps : (I : State → Cursor → Type 0) → Keeps s I → I firstState firstCursor → {x : State} {c : Cursor} → Reached s x c → I x c
+  reached-keeps I keeps h first = h
+  reached-keeps I keeps h (behind {x} {c} {i} {d} {y} r e g) = keeps x c i d y (reached-keeps I keeps h r) e g
+
+  reached-same : {x : State} {c : Cursor} → Reached s x c → interpret s x (itemsFrom s c) ≡ interpret s firstState (itemsFrom s firstCursor)
+  reached-same first = refl
+  reached-same (behind {x} {c} {i} {d} {y} r e g) =
+      sym (interpret-goes s x i (itemsFrom s d) y g) ∙ ap (interpret s x) (sym (items-found s c i d e)) ∙ reached-same r
+
+  pub reached-verdict : {x : State} {c : Cursor} → length s ≤ octetsLimit → Reached s x c → interpret s x (itemsFrom s c) ≡ verdict s
+  unfolding verdict itemsOf
+  reached-verdict h r = reached-same r ∙ simp (le-ltb octetsLimit (length s) h)

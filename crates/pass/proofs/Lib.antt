@@ -1,5 +1,9 @@
 pub mod Keeps
 pub mod Steps
+pub mod Every
+pub mod Tables
+pub mod Bounds
 pub mod Scans
+pub mod Turns
 pub mod Stretches
 pub mod Ahead

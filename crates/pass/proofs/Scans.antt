@@ -1,20 +1,21 @@
 -- Laws of the one pass over a file.
---     framed-with      what is known of a frame that is taken
---     scanning-first, -goes, -frame    before the first item, after an item, after a frame
+--     scanning-first, -on, -frame    before the first item, behind items that give no frame, behind a frame
 --     scanned-end, -refuses, -fault    the three ways out
 -- Assumes nothing.
-use mathlib.Core.Path.{_≡_, refl, sym, ap, subst, _∙_}
+use mathlib.Core.Path.{_≡_, refl, sym, ap, _∙_}
+use mathlib.Core.Logic.{_⊎_, ⊎-elim}
 use mathlib.Core.List.{List, [], _∷_, _++_}
 use mathlib.Core.Bool.{Bool, not}
-use Prim.Native.Nat.{ℕ, _+_, _-_, _*_, _^_, _≤_, _<_, min}
+use Prim.Native.Nat.{ℕ, _+_, _-_, _*_, _≤_, _<_, min}
 use native.Mathlib.Nat.{add-zero, add-assoc, zero-add}
 use native.Mathlib.Omega.{arith}
 use native.Mathlib.Decide.{decLt}
-use types.Run.{OneOf, hit, miss}
+use types.Run.{OneOf, miss}
+use mir.Val.{hasKey}
 use denote.Enum.Declared.{tagOf}
-use borrow.Author.Tests.{lt-ltb, le-ltb, ltb-true, ltb-false, leb-false, eqb-true, eqb-false, eq-eqb, ne-eqb}
-use lib.Dec.{ltb, leb, eqb}
-use lib.ListN.{length, getD, take, set, replicate, length-append, length-set, length-replicate, List·getD-append}
+use borrow.Author.Tests.{lt-ltb, le-ltb, ltb-true, eqb-true, eqb-false, eq-eqb, ne-eqb}
+use lib.Dec.{T, ltb, eqb}
+use lib.ListN.{length, getD, take, set, length-append, length-set, List·getD-append}
 use lib.Seq.{length-take-le, getD-append-seam, getD-take, set-out}
 use Rattle.octets.specs.Pick.{pick}
 use Rattle.octets.proofs.Pick.{pick-cases}
@@ -25,7 +26,7 @@ use Rattle.items.specs.declared.Next.{Next}
 use Rattle.items.specs.declared.Next.the-variants.{Found as FoundItem, End}
 use Rattle.items.specs.declared.Within.the-variants.{Root}
 use Rattle.heads.specs.Refusals.{longFile}
-use Rattle.items.specs.Walk.{nextOf, itemsFrom, itemsOf, cursor, refusal}
+use Rattle.items.specs.Walk.{nextOf, itemsFrom, cursor, refusal}
 use Rattle.items.proofs.Walks.{items-found, items-end, items-refused}
 use Rattle.settings.specs.declared.Settings.{Settings}
 use Rattle.settings.specs.declared.Change.{Change}
@@ -42,107 +43,80 @@ use Rattle.effects.specs.declared.Effect.{Effect}
 use Rattle.framing.specs.declared.Framed.{Framed}
 use Rattle.framing.specs.declared.Framed.the-variants.{Taken}
 use Rattle.pass.specs.declared.Asked.{Asked}
-use Rattle.pass.specs.declared.View.{View}
 use Rattle.pass.specs.declared.Found.{Found}
-use Rattle.pass.specs.declared.Found.the-variants.{Nothing}
 use Rattle.pass.specs.declared.Checked.{Checked}
 use Rattle.standing.specs.Standing.{octetsLimit, framesLimit, firstStanding}
-use Rattle.effects.specs.Effects.{valueAt, effectOf, standingAfter}
+use Rattle.effects.specs.Effects.{effectOf, standingAfter}
 use Rattle.effects.proofs.Effect.{the-type}
 use Rattle.effects.specs.Reach.{reachOf}
-use Rattle.framing.specs.Framing.{channelsOf, pointerFits, framedAs}
+use Rattle.framing.specs.Framing.{channelsOf, framedAs}
+use Rattle.framing.specs.AnyNumbers.{framedBy}
+use Rattle.framing.proofs.Framings.{framed-same}
 use Rattle.pass.specs.Verdict.{State, state, goes, refuses, oneChanged, frameAt, withFrame, carried, placeAt, accepted, refused, interpret, verdict}
 use Rattle.pass.specs.declared.Met.{Met}
-use Rattle.pass.specs.Passing.{Scanning, noneMet, metWith}
-use Rattle.pass.proofs.Keeps.{interpret-goes, interpret-refuses}
-use Rattle.pass.proofs.Steps.{count-found}
+use Rattle.pass.specs.Passing.{Reached, first, behind, Scanning, noneMet, metScan, viewMet, metWith}
+use Rattle.pass.proofs.Keeps.{interpret-refuses, reached-verdict}
+use Rattle.pass.proofs.Steps.{TakenBy, taken-found, waveform-found, waveform-short}
+use Rattle.pass.proofs.Bounds.{Bounded, reached-bounded, channels-between, octets-some}
 use Rattle.pass.specs.Scan.{zeroFrame, viewOf, foundIn, sizeOf, sizes, refusedScan, scannedIn, scanOf}
-
--- ---- a frame that is taken
-
-abbrev TakenWith : Standing → ℕ → ℕ → ℕ → Framed → Type 0
-TakenWith st frames octets long (Framed.Taken n x) =
-    (n * octets ≤ long) × (long ≤ octetsLimit) × (frames < framesLimit) × (x .counted ≡ st .counted) × (x .root ≡ st .root)
-TakenWith st frames octets long (Framed.Refused k) = Unit {0}
-
-framed-with : (frames : ℕ) (st : Standing) (agree : Bool) (octets long : ℕ) → TakenWith st frames octets long (framedAs frames st agree octets long)
-unfolding framedAs
-framed-with frames st agree octets long =
-    pick-cases (TakenWith st frames octets long) (eqb octets 0) (λ _. tt)
-    (λ _. pick-cases (TakenWith st frames octets long) (ltb octetsLimit long) (λ _. tt)
-    (λ a. pick-cases (TakenWith st frames octets long) (leb framesLimit frames) (λ _. tt)
-    (λ b. pick-cases (TakenWith st frames octets long) (not agree) (λ _. tt)
-    (λ _. pick-cases (TakenWith st frames octets long) (not (pointerFits (st .start))) (λ _. tt)
-    (λ _. pick-cases (TakenWith st frames octets long) (ltb long _) (λ _. tt)
-    (λ d. (ltb-false long _ d, ltb-false octetsLimit long a, leb-false framesLimit frames b, refl, refl)))))))
-
-pub framed-found : (frames : ℕ) (st : Standing) (agree : Bool) (octets long : ℕ) {r f : Framed} → r ≡ framedAs frames st agree octets long → r ≡ f → TakenWith st frames octets long f
-framed-found frames st agree octets long p q = subst (TakenWith st frames octets long) (sym p ∙ q) (framed-with frames st agree octets long)
-
--- A frame has at least one channel and at most 256.
-pub channels-few : (counted : ℕ) → counted ≤ channelLimit → channelsOf counted ≤ channelLimit
-unfolding channelsOf
-channels-few counted h = pick-cases (λ (n : ℕ). n ≤ channelLimit) (eqb counted 0) (λ _. omega arith) (λ _. h)
 
 -- ---- the pass
 
 -- Before the first item.
-pub scanning-first : (s : List ℕ) (q : Asked) (table : List Settings) (c : Cursor) (st : Standing) → length s ≤ octetsLimit → table ≡ defaultTable → c ≡ cursor 0 Root → st ≡ firstStanding → Scanning s q table c st 0 Nothing 0
-unfolding foundIn sizes verdict itemsOf
+pub scanning-first : (s : List ℕ) (q : Asked) (table : List Settings) (c : Cursor) (st : Standing) → length s ≤ octetsLimit → table ≡ defaultTable → c ≡ cursor 0 Root → st ≡ firstStanding → Scanning s q table c st noneMet
+unfolding foundIn sizes
 scanning-first s q table c st h et ec es =
     rw (et, ec, es)
     record {
       long = h;
-      counted = omega arith;
-      full = length-replicate channelLimit defaultSettings;
       met = [];
+      reached = first;
       count = refl;
-      limit = omega arith;
       kept = simp (le-ltb (q .frame) 0 (omega arith));
       sized = refl;
       room = omega arith;
-      same = simp (le-ltb octetsLimit (length s) h);
     }
 
-module _ {s : List ℕ} {q : Asked} {table : List Settings} {c : Cursor} {st : Standing} {frames : ℕ} {found : Found} {size : ℕ} (p : Scanning s q table c st frames found size) where
+module _ {s : List ℕ} {q : Asked} {table : List Settings} {c : Cursor} {st : Standing} {m : Met} (p : Scanning s q table c st m) where
   abbrev here : State
   here = state st table (p .met)
 
-  -- An item that gives no frame.
-  pub scanning-goes : {n : Next} {i : Item} {d : Cursor} {table' : List Settings} {st' : Standing} → n ≡ nextOf s c → n ≡ FoundItem i d → st' .counted ≤ channelLimit → length table' ≡ channelLimit → carried s here (effectOf s st i) ≡ goes (state st' table' (p .met)) → Scanning s q table' d st' frames found size
-  scanning-goes {i = i} {d = d} {table' = table'} {st' = st'} e f hc hl g =
-      record {
-        long = p .long;
-        counted = hc;
-        full = hl;
-        met = p .met;
-        count = p .count;
-        limit = p .limit;
-        kept = p .kept;
-        sized = p .sized;
-        room = p .room;
-        same = sym (interpret-goes s here i (itemsFrom s d) (state st' table' (p .met)) g) ∙ ap (interpret s here) (sym (items-found s c i d (sym e ∙ f))) ∙ p .same;
-      }
+  bounds : Bounded here
+  bounds = reached-bounded s (p .reached)
+
+  pub scanning-counted : st .counted ≤ channelLimit
+  scanning-counted = bounds .counted
+
+  pub scanning-few : m .frames ≤ framesLimit
+  scanning-few = rw (p .count) (bounds .few)
+
+  -- The items go on, and none of them gives a frame.
+  pub scanning-on : {d : Cursor} {table' : List Settings} {st' : Standing} → Reached s (state st' table' (p .met)) d → Scanning s q table' d st' m
+  scanning-on r =
+      record { long = p .long; met = p .met; reached = r; count = p .count; kept = p .kept; sized = p .sized; room = p .room }
+
+  left : interpret s here (itemsFrom s c) ≡ verdict s
+  left = reached-verdict s (p .long) (p .reached)
 
   -- The end.
-  pub scanned-end : {n : Next} → n ≡ nextOf s c → n ≡ End → record { checked = Checked.Frames frames; found = found; size = size } ≡ scanOf q s
+  pub scanned-end : {n : Next} → n ≡ nextOf s c → n ≡ End → metScan m ≡ scanOf q s
   unfolding scanOf scannedIn interpret
   scanned-end e f =
-      let v : accepted (p .met) ≡ verdict s = ap (interpret s here) (sym (items-end s c (sym e ∙ f))) ∙ p .same in
+      let v : accepted (p .met) ≡ verdict s = ap (interpret s here) (sym (items-end s c (sym e ∙ f))) ∙ left in
       (λ k. record { checked = Checked.Frames (p .count k); found = p .kept k; size = p .sized k }) ∙ ap (scannedIn q) v
 
   -- A fault of form.
   pub scanned-fault : {n : Next} (r : Refusal) → n ≡ nextOf s c → n ≡ Next.Refused r → refusedScan r ≡ scanOf q s
   unfolding scanOf scannedIn interpret
   scanned-fault r e f =
-      ap (scannedIn q) (ap (interpret s here) (sym (items-refused s c r (sym e ∙ f))) ∙ p .same)
+      ap (scannedIn q) (ap (interpret s here) (sym (items-refused s c r (sym e ∙ f))) ∙ left)
 
   -- A refused item.
   pub scanned-refuses : {n : Next} {i : Item} {d : Cursor} (k place : ℕ) → n ≡ nextOf s c → n ≡ FoundItem i d → place ≡ placeAt i → carried s here (effectOf s st i) ≡ refuses k → refusedScan (refusal k place) ≡ scanOf q s
   unfolding scanOf scannedIn
   scanned-refuses {i = i} {d = d} k place e f ep g =
       ap (λ (x : ℕ). scannedIn q (refused (refusal k x))) ep
-      ∙ ap (scannedIn q) (sym (interpret-refuses s here i (itemsFrom s d) k g) ∙ ap (interpret s here) (sym (items-found s c i d (sym e ∙ f))) ∙ p .same)
+      ∙ ap (scannedIn q) (sym (interpret-refuses s here i (itemsFrom s d) k g) ∙ ap (interpret s here) (sym (items-found s c i d (sym e ∙ f))) ∙ left)
 
 -- ---- a frame
 
@@ -187,60 +161,86 @@ channel-seen channel count table h l =
     simp (t, m, getD-take count table channel zeroSettings k))
     (λ t. simp t))
 
-module _ {s : List ℕ} {q : Asked} {table : List Settings} {c : Cursor} {st : Standing} {frames : ℕ} {found : Found} {size : ℕ} (p : Scanning s q table c st frames found size)
-    (count : ℕ) (l : Layout) (ec : count ≡ channelsOf (st .counted)) (el : l ≡ layoutOf (q .channel) (take count table)) where
-  -- What the frame's waveform gives, as the pass computes it.
-  pub frame-carried : (i : Item) (start len : ℕ) {e : Effect} {r f : Framed} → e ≡ effectOf s st i → e ≡ Effect.Frame start len → r ≡ framedAs frames st (l .agree) (l .octets) len → r ≡ f → carried s (state st table (p .met)) (effectOf s st i) ≡ withFrame s (state st table (p .met)) start len f
-  unfolding carried layoutOf
-  frame-carried i start len a b u v =
-      ap (carried s (state st table (p .met))) (sym a ∙ b)
-      ∙ ap (withFrame s (state st table (p .met)) start len) (sym (rw (el, p .count, ec) at u) ∙ v)
+-- What is known of a frame where the file's items lead: l is the layout of its channels.
+module _ {s : List ℕ} {table : List Settings} {c : Cursor} {st : Standing} {met : List Frame} (long : length s ≤ octetsLimit) (reached : Reached s (state st table met) c)
+    {frames : ℕ} (counts : frames ≡ length met) (channel : ℕ) (l : Layout) (el : l ≡ layoutOf channel (take (channelsOf (st .counted)) table)) where
+  abbrev there : State
+  there = state st table met
 
-  count-few : count ≤ channelLimit
-  count-few = rw ec (channels-few (st .counted) (p .counted))
+  abbrev count : ℕ
+  count = channelsOf (st .counted)
+
+  bounded : Bounded there
+  bounded = reached-bounded s reached
+
+  octets-here : 0 < l .octets
+  unfolding layoutOf
+  octets-here = rw el (octets-some there bounded)
+
+  -- A file's frame, of which `frame_of` answers document 01's rule.
+  framed-here : (i : Item) (start len : ℕ) → Effect.Frame start len ≡ effectOf s st i → framedBy frames st (l .agree) (l .octets) len ≡ framedAs frames st (l .agree) (l .octets) len
+  framed-here i start len a = framed-same frames st (l .agree) (l .octets) len octets-here (omega (arith, waveform-short s (waveform-found s st i a refl)))
+
+  -- What the frame's waveform gives, as the pass computes it.
+  pub frame-carried : (i : Item) (start len : ℕ) {r f : Framed} → Effect.Frame start len ≡ effectOf s st i → r ≡ framedBy frames st (l .agree) (l .octets) len → r ≡ f → carried s there (effectOf s st i) ≡ withFrame s there start len f
+  unfolding carried layoutOf
+  frame-carried i start len a u v =
+      ap (carried s there) (sym a)
+      ∙ ap (withFrame s there start len) (sym (rw (el, counts) at (u ∙ framed-here i start len a)) ∙ v)
+
+  pub count-few : count ≤ channelLimit
+  count-few = channels-between (st .counted) (bounded .counted) .1
+
+  pub counts-there : length (take count table) ≡ count
+  counts-there = length-take-le count table (omega (arith, count-few, bounded .full))
 
   -- What the waveform and its groups take is small.
   pub groups-small : l .groups ≤ 16384
   unfolding layoutOf
-  groups-small =
-      let e : length (take count table) ≡ count = length-take-le count table (omega (arith, count-few, p .full)) in
-      rw el (omega (arith, groups-few 0 (take count table), count-few))
+  groups-small = rw el (omega (arith, groups-few 0 (take count table), counts-there, count-few))
 
-  pub scanning-frame : {n : Next} {i : Item} {d : Cursor} {start len sequences add : ℕ} {x : Standing} {view : View} {seen : Settings} {found' : Found} {e : Effect} {r : Framed}
-      → n ≡ nextOf s c → n ≡ FoundItem i d
-      → e ≡ effectOf s st i → e ≡ Effect.Frame start len
-      → r ≡ framedAs frames st (l .agree) (l .octets) len → r ≡ Taken sequences x
-      → seen ≡ pick (ltb (q .channel) count) (getD table (min (q .channel) 255) zeroSettings) defaultSettings
-      → view ≡ record { start = st .start; channels = count; sequences = sequences; little = st .little; place = start; octets = l .octets; below = l .below; settings = seen }
-      → found' ≡ pick (eqb frames (q .frame)) (Found.Frame view) found
-      → (add ≡ frameSize sequences (l .groups) (sequences * l .octets)) × (add < 4294967296)
-      → Scanning s q table d x (frames + 1) found' (size + add)
+  module _ (i : Item) {start len sequences : ℕ} {x : Standing} {r : Framed}
+      (ee : Effect.Frame start len ≡ effectOf s st i) (er : r ≡ framedBy frames st (l .agree) (l .octets) len) (fr : r ≡ Taken sequences x) where
+    taken : TakenBy frames st (l .agree) (l .octets) len sequences x
+    taken = taken-found frames st (l .agree) (l .octets) len (er ∙ framed-here i start len ee) fr
+
+    pub taken-few : frames < framesLimit
+    taken-few = taken .few
+
+    pub taken-small : sequences * l .octets ≤ octetsLimit
+    taken-small = omega (arith, taken .fits, waveform-short s (waveform-found s st i ee refl))
+
+    pub taken-root : x .root ≡ st .root
+    taken-root = ap (λ (y : Standing). y .root) (taken .after)
+
+module _ {s : List ℕ} {q : Asked} {table : List Settings} {c : Cursor} {st : Standing} {m : Met} (p : Scanning s q table c st m)
+    (l : Layout) (el : l ≡ layoutOf (q .channel) (take (channelsOf (st .counted)) table))
+    (i : Item) {start len sequences : ℕ} {x : Standing} {r : Framed}
+    (ee : Effect.Frame start len ≡ effectOf s st i) (er : r ≡ framedBy (m .frames) st (l .agree) (l .octets) len) (fr : r ≡ Taken sequences x) where
+  -- The frame is met; v are the settings of the channel that is asked for, where the frame has it.
+  pub scanning-frame : {d : Cursor} (v : Settings)
+      → nextOf s c ≡ FoundItem i d
+      → pick (ltb (q .channel) (channelsOf (st .counted))) v defaultSettings ≡ pick (ltb (q .channel) (channelsOf (st .counted))) (getD table (min (q .channel) 255) zeroSettings) defaultSettings
+      → frameSize sequences (l .groups) (sequences * l .octets) < 4294967296
+      → Scanning s q table d x (metWith q st sequences start l v m)
   unfolding withFrame layoutOf viewOf sizeOf
-  scanning-frame {i = i} {d = d} {start = start} {len = len} {sequences = sequences} {add = add} {x = x} {view = view} {seen = seen} en fn ee fe er fr es ev ef ea =
-      let here = state st table (p .met) in
-      let g = frameAt s here start len sequences in
-      let w = framed-found frames st (l .agree) (l .octets) len er fr in
-      let e : length (take count table) ≡ count = length-take-le count table (omega (arith, count-few, p .full)) in
-      let there : ℕ → Frame = λ m. record { start = st .start; place = start; little = st .little; sequences = sequences; channels = take m table; waveform = valueAt s start len } in
-      let vw : view ≡ viewOf (q .channel) g =
-      ev
-      ∙ (λ k. record { start = st .start; channels = sym e k; sequences = sequences; little = st .little; place = start; octets = el k .octets; below = el k .below; settings = (es ∙ channel-seen (q .channel) count table count-few (p .full)) k })
-      ∙ ap (λ (m : ℕ). viewOf (q .channel) (there m)) ec in
-      let sz : add ≡ sizeOf g =
-      ea .0
-      ∙ (λ k. frameSize sequences (el k .groups) (sequences * el k .octets))
-      ∙ ap (λ (m : ℕ). sizeOf (there m)) ec in
+  scanning-frame v en ev small =
+      let count = channelsOf (st .counted) in
+      let few = count-few (p .long) (p .reached) (p .count) (q .channel) l el in
+      let all = counts-there (p .long) (p .reached) (p .count) (q .channel) l el in
+      let g = frameAt s (here p) start len sequences in
+      let seen = ev ∙ channel-seen (q .channel) count table few (bounds p .full) in
+      let vw : viewMet (q .channel) st sequences start l v ≡ viewOf (q .channel) g =
+      λ k. record { start = st .start; channels = sym all k; sequences = sequences; little = st .little; place = start; octets = el k .octets; below = el k .below; settings = seen k } in
+      let sz : frameSize sequences (l .groups) (sequences * l .octets) ≡ sizeOf g = λ k. frameSize sequences (el k .groups) (sequences * el k .octets) in
       record {
         long = p .long;
-        counted = rw (w .3) (p .counted);
-        full = p .full;
         met = p .met ++ (g ∷ []);
+        reached = behind (p .reached) en (frame-carried (p .long) (p .reached) (p .count) (q .channel) l el i start len ee er fr);
         count = simp length-append (omega (arith, p .count));
-        limit = omega (arith, w .2);
-        kept = ef ∙ (λ k. pick (eqb (p .count k) (q .frame)) (Found.Frame (vw k)) (p .kept k)) ∙ found-more q (p .met) g;
+        kept = (λ k. pick (eqb (p .count k) (q .frame)) (Found.Frame (vw k)) (p .kept k)) ∙ found-more q (p .met) g;
         sized = (λ k. p .sized k + sz k) ∙ sym (sizes-more (p .met) g);
-        room = omega (arith, p .room, ea .1);
-        same = sym (interpret-goes s here i (itemsFrom s d) (state x table (p .met ++ (g ∷ []))) (frame-carried i start len ee fe er fr)) ∙ ap (interpret s here) (sym (items-found s c i d (sym en ∙ fn))) ∙ p .same;
+        room = omega (arith, p .room, small);
       }
 
 -- 15 comes first.
@@ -304,12 +304,12 @@ reached-one counted en ee h l = let r = en ∙ ap (reachOf counted) ee in omega 
 
 pub reached-frame : (counted : ℕ) {n own count start len : ℕ} {e : Effect} → n ≡ reachOf counted e → e ≡ Effect.Frame start len → n ≤ own → counted ≤ channelLimit → count ≡ channelsOf counted → count ≤ own
 unfolding reachOf
-reached-frame counted en ee h l ec = let r = en ∙ ap (reachOf counted) ee in omega (arith, channels-few counted l)
+reached-frame counted en ee h l ec = let r = en ∙ ap (reachOf counted) ee in omega (arith, channels-between counted l .1)
 
 -- A frame's channels are those that are looked at.
 pub reached-count : (counted : ℕ) {n count start len : ℕ} {e : Effect} → n ≡ reachOf counted e → e ≡ Effect.Frame start len → counted ≤ channelLimit → count ≡ channelsOf counted → n ≡ count
 unfolding reachOf
-reached-count counted en ee l ec = let r = en ∙ ap (reachOf counted) ee in omega (arith, channels-few counted l)
+reached-count counted en ee l ec = let r = en ∙ ap (reachOf counted) ee in omega (arith, channels-between counted l .1)
 
 -- ---- effects carried out
 
@@ -317,30 +317,26 @@ module _ (s : List ℕ) (x : State) (i : Item) {e : Effect} (a : e ≡ effectOf 
   pub carried-by : {f : Effect} → e ≡ f → carried s x (effectOf s (x .standing) i) ≡ carried s x f
   carried-by b = ap (carried s x) (sym a ∙ b)
 
--- What only stands, is carried out in what stands.
-stands-carried : (s : List ℕ) (st : Standing) (fs : List Frame) (own : ℕ) (table : List Settings) (e : Effect) → OneOf (0 ∷ 1 ∷ 3 ∷ 4 ∷ []) (tagOf the-type e) → carried s (state st (shownBy st own table) fs) e ≡ goes (state (standingAfter st e) (shownBy (standingAfter st e) own table) fs)
-unfolding carried
-stands-carried s st fs own table Effect.Pass h = refl
-stands-carried s st fs own table (Effect.Order little) h = refl
-stands-carried s st fs own table (Effect.Count n) h = absurd (miss (0 ∷ 1 ∷ 3 ∷ 4 ∷ []) 2 tt h)
-stands-carried s st fs own table (Effect.Sequences n) h = refl
-stands-carried s st fs own table (Effect.Start z) h = refl
-stands-carried s st fs own table (Effect.All c) h = absurd (miss (0 ∷ 1 ∷ 3 ∷ 4 ∷ []) 5 tt h)
-stands-carried s st fs own table (Effect.One channel c) h = absurd (miss (0 ∷ 1 ∷ 3 ∷ 4 ∷ []) 6 tt h)
-stands-carried s st fs own table (Effect.Frame start len) h = absurd (miss (0 ∷ 1 ∷ 3 ∷ 4 ∷ []) 7 tt h)
-stands-carried s st fs own table (Effect.Refused n) h = absurd (miss (0 ∷ 1 ∷ 3 ∷ 4 ∷ []) 8 tt h)
+-- The keys of an arm of effects that give no frame and set no record: none of them is a definition, a frame or a refusal.
+abbrev pub Plain : List ℕ → Type 0
+Plain ks = T (not (hasKey ks 5)) × T (not (hasKey ks 6)) × T (not (hasKey ks 7)) × T (not (hasKey ks 8))
 
--- No more channels are counted than there may be.
-pub counted-kept : (s : List ℕ) (st : Standing) (i : Item) (e : Effect) → e ≡ effectOf s st i → st .counted ≤ channelLimit → standingAfter st e .counted ≤ channelLimit
-counted-kept s st i Effect.Pass a h = h
-counted-kept s st i (Effect.Order little) a h = h
-counted-kept s st i (Effect.Count n) a h = count-found s st i a refl
-counted-kept s st i (Effect.Sequences n) a h = h
-counted-kept s st i (Effect.Start z) a h = h
-counted-kept s st i (Effect.All c) a h = h
-counted-kept s st i (Effect.One channel c) a h = h
-counted-kept s st i (Effect.Frame start len) a h = h
-counted-kept s st i (Effect.Refused n) a h = h
+-- Such an effect is carried out in what stands; a count sends every channel back to the root settings, which they hold where no record is laid down.
+stands-carried : (ks : List ℕ) → Plain ks → (s : List ℕ) (st : Standing) (fs : List Frame) (own : ℕ) (table : List Settings) → T (not (hasKey ks 2)) ⊎ (own ≡ 0) → (e : Effect) → OneOf ks (tagOf the-type e) → carried s (state st (shownBy st own table) fs) e ≡ goes (state (standingAfter st e) (shownBy (standingAfter st e) own table) fs)
+unfolding carried
+stands-carried ks b s st fs own table u Effect.Pass h = refl
+stands-carried ks b s st fs own table u (Effect.Order little) h = refl
+stands-carried ks b s st fs own table u (Effect.Count n) h =
+    ⊎-elim (λ k. absurd (miss ks 2 k h))
+    (λ z. ap (λ (t : List Settings). goes (state (standingAfter st (Effect.Count n)) t fs))
+    (sym (shown-none channelLimit (st .root) table) ∙ ap (λ (k : ℕ). shown channelLimit (st .root) k table) (sym z)))
+    u
+stands-carried ks b s st fs own table u (Effect.Sequences n) h = refl
+stands-carried ks b s st fs own table u (Effect.Start z) h = refl
+stands-carried ks b s st fs own table u (Effect.All c) h = absurd (miss ks 5 (b .0) h)
+stands-carried ks b s st fs own table u (Effect.One channel c) h = absurd (miss ks 6 (b .1) h)
+stands-carried ks b s st fs own table u (Effect.Frame start len) h = absurd (miss ks 7 (b .2) h)
+stands-carried ks b s st fs own table u (Effect.Refused n) h = absurd (miss ks 8 (b .3) h)
 
 module _ {own : ℕ} {table : List Settings} (k : Records own table) where
   pub shown-full : (st : Standing) → length (shownBy st own table) ≡ channelLimit
@@ -365,8 +361,8 @@ module _ {own : ℕ} {table : List Settings} (k : Records own table) where
     does-nothing b = carried-by s spoken i a b
 
     -- Only what stands changes.
-    pub does-stands : {st' : Standing} → OneOf (0 ∷ 1 ∷ 3 ∷ 4 ∷ []) (tagOf the-type e) → st' ≡ standingAfter st e → Does st' own table
-    does-stands b q = does-as own table q (carried-by s spoken i a refl ∙ stands-carried s st fs own table e b)
+    pub does-stands : (ks : List ℕ) → Plain ks → T (not (hasKey ks 2)) ⊎ (own ≡ 0) → {st' : Standing} → OneOf ks (tagOf the-type e) → st' ≡ standingAfter st e → Does st' own table
+    does-stands ks h u b q = does-as own table q (carried-by s spoken i a refl ∙ stands-carried ks h s st fs own table u e b)
 
     pub does-count : {n : ℕ} {st' : Standing} → e ≡ Effect.Count n → st' ≡ standingAfter st e → Does st' 0 table
     unfolding carried
@@ -407,94 +403,6 @@ module _ {own : ℕ} {table : List Settings} (k : Records own table) where
       (λ t. let l = ltb-true channel count t in simp t (sym (shown-get channelLimit (st .root) own table (min channel 255) own-low zeroSettings (omega (arith, k .low)))))
       (λ t. simp t)
 
--- Where no record is laid down, only what stands changes.
-pub does-bare : {table : List Settings} → Records 0 table → (s : List ℕ) (st : Standing) (fs : List Frame) (i : Item) (e : Effect) {st' : Standing} → e ≡ effectOf s st i → OneOf (0 ∷ 1 ∷ 2 ∷ 3 ∷ 4 ∷ []) (tagOf the-type e) → st' ≡ standingAfter st e → carried s (state st (shownBy st 0 table) fs) (effectOf s st i) ≡ goes (state st' (shownBy st' 0 table) fs)
-does-bare k s st fs i Effect.Pass a h q = does-stands k s st fs i a (hit (0 ∷ 1 ∷ 3 ∷ 4 ∷ []) 0 tt) q
-does-bare k s st fs i (Effect.Order little) a h q = does-stands k s st fs i a (hit (0 ∷ 1 ∷ 3 ∷ 4 ∷ []) 1 tt) q
-does-bare k s st fs i (Effect.Count n) a h q = does-count k s st fs i a refl q
-does-bare k s st fs i (Effect.Sequences n) a h q = does-stands k s st fs i a (hit (0 ∷ 1 ∷ 3 ∷ 4 ∷ []) 3 tt) q
-does-bare k s st fs i (Effect.Start z) a h q = does-stands k s st fs i a (hit (0 ∷ 1 ∷ 3 ∷ 4 ∷ []) 4 tt) q
-does-bare k s st fs i (Effect.All c) a h q = absurd (miss (0 ∷ 1 ∷ 2 ∷ 3 ∷ 4 ∷ []) 5 tt h)
-does-bare k s st fs i (Effect.One channel c) a h q = absurd (miss (0 ∷ 1 ∷ 2 ∷ 3 ∷ 4 ∷ []) 6 tt h)
-does-bare k s st fs i (Effect.Frame start len) a h q = absurd (miss (0 ∷ 1 ∷ 2 ∷ 3 ∷ 4 ∷ []) 7 tt h)
-does-bare k s st fs i (Effect.Refused n) a h q = absurd (miss (0 ∷ 1 ∷ 2 ∷ 3 ∷ 4 ∷ []) 8 tt h)
-
--- ---- the pass over the records
-
 -- An item is found with the cursor behind it, however that is kept.
 pub found-as : {n : Next} {i : Item} {d d' : Cursor} → n ≡ FoundItem i d → d' ≡ d → n ≡ FoundItem i d'
 found-as {i = i} e f = e ∙ ap (FoundItem i) (sym f)
-
--- What is known where the pass stands before the item at a cursor.
-pub record Passing (s : List ℕ) (q : Asked) (table : List Settings) (own : ℕ) (c : Cursor) (st : Standing) (frames : ℕ) (found : Found) (size : ℕ) : Type 0 where
-  pub records : Records own table
-  pub pass : Scanning s q (shownBy st own table) c st frames found size
-
-pub passing-first : (s : List ℕ) (q : Asked) (table : List Settings) (c : Cursor) (st : Standing) {m : Met} → length s ≤ octetsLimit → table ≡ defaultTable → c ≡ cursor 0 Root → st ≡ firstStanding → m ≡ noneMet → Passing s q table 0 c st (m .frames) (m .found) (m .size)
-passing-first s q table c st h et ec es em =
-    subst (λ (x : Met). Passing s q table 0 c st (x .frames) (x .found) (x .size)) (sym em)
-    (record {
-      records = record { low = omega arith; full = ap length et ∙ length-replicate channelLimit defaultSettings };
-      pass = scanning-first s q (shownBy st 0 table) c st h (shown-none channelLimit (st .root) table ∙ ap (λ (x : Standing). replicate channelLimit (x .root)) es) ec es;
-    })
-
-module _ {s : List ℕ} {q : Asked} {table : List Settings} {own : ℕ} {c : Cursor} {st : Standing} {frames : ℕ} {found : Found} {size : ℕ} (p : Passing s q table own c st frames found size) where
-  -- The same cursor, however it is kept.
-  pub passing-at : {d : Cursor} → d ≡ c → Passing s q table own d st frames found size
-  passing-at e = subst (λ (x : Cursor). Passing s q table own x st frames found size) (sym e) p
-
-  -- Some records more are laid down.
-  pub passing-filled : {own' : ℕ} {table' : List Settings} → Filling (st .root) own table own' table' → Passing s q table' own' c st frames found size
-  passing-filled f = record { records = f .records; pass = subst (λ (t : List Settings). Scanning s q t c st frames found size) (sym (f .same)) (p .pass) }
-
-  -- An item that gives no frame.
-  pub passing-goes : {n : Next} {i : Item} {d : Cursor} {own' : ℕ} {table' : List Settings} {st' : Standing} → n ≡ nextOf s c → n ≡ FoundItem i d → Records own' table' → st' .counted ≤ channelLimit → carried s (state st (shownBy st own table) (p .pass .met)) (effectOf s st i) ≡ goes (state st' (shownBy st' own' table') (p .pass .met)) → Passing s q table' own' d st' frames found size
-  passing-goes {st' = st'} e f k h g = record { records = k; pass = scanning-goes (p .pass) e f h (shown-full k st') g }
-
-  pub passing-stands : {n : Next} {i : Item} {d : Cursor} {own' : ℕ} {table' : List Settings} {st' : Standing} {e : Effect} → n ≡ nextOf s c → n ≡ FoundItem i d → Records own' table' → e ≡ effectOf s st i → st' ≡ standingAfter st e → carried s (state st (shownBy st own table) (p .pass .met)) (effectOf s st i) ≡ goes (state st' (shownBy st' own' table') (p .pass .met)) → Passing s q table' own' d st' frames found size
-  passing-stands {i = i} {e = e} en fn k a w g = passing-goes en fn k (subst (λ (x : Standing). x .counted ≤ channelLimit) (sym w) (counted-kept s st i e a (p .pass .counted))) g
-
-  module _ (count : ℕ) (l : Layout) (ec : count ≡ channelsOf (st .counted)) (el : l ≡ layoutOf (q .channel) (take count table)) (few : count ≤ own) where
-    laid : l ≡ layoutOf (q .channel) (take count (shownBy st own table))
-    laid = el ∙ ap (layoutOf (q .channel)) (frame-shown (p .records) st count few)
-
-    pub passing-carried : (i : Item) (start len : ℕ) {e : Effect} {r f : Framed} → e ≡ effectOf s st i → e ≡ Effect.Frame start len → r ≡ framedAs frames st (l .agree) (l .octets) len → r ≡ f → carried s (state st (shownBy st own table) (p .pass .met)) (effectOf s st i) ≡ withFrame s (state st (shownBy st own table) (p .pass .met)) start len f
-    passing-carried = frame-carried (p .pass) count l ec laid
-
-    pub passing-groups : l .groups ≤ 16384
-    passing-groups = groups-small (p .pass) count l ec laid
-
-    -- A frame.
-    pub passing-frame : {n : Next} {i : Item} {d : Cursor} {start len sequences add : ℕ} {x : Standing} {view : View} {seen : Settings} {found' : Found} {e : Effect} {r : Framed}
-        → n ≡ nextOf s c → n ≡ FoundItem i d
-        → e ≡ effectOf s st i → e ≡ Effect.Frame start len
-        → r ≡ framedAs frames st (l .agree) (l .octets) len → r ≡ Taken sequences x
-        → seen ≡ pick (ltb (q .channel) count) (getD table (min (q .channel) 255) zeroSettings) defaultSettings
-        → view ≡ record { start = st .start; channels = count; sequences = sequences; little = st .little; place = start; octets = l .octets; below = l .below; settings = seen }
-        → found' ≡ pick (eqb frames (q .frame)) (Found.Frame view) found
-        → (add ≡ frameSize sequences (l .groups) (sequences * l .octets)) × (add < 4294967296)
-        → Passing s q table own d x (frames + 1) found' (size + add)
-    passing-frame {d = d} {len = len} {add = add} {x = x} {found' = found'} en fn ee fe er fr es ev ef ea =
-        let w = framed-found frames st (l .agree) (l .octets) len er fr in
-        let g = scanning-frame (p .pass) count l ec laid en fn ee fe er fr (es ∙ seen-shown (p .records) st (q .channel) count few) ev ef ea in
-        record { records = p .records; pass = subst (λ (r : Settings). Scanning s q (shown channelLimit r own table) d x (frames + 1) found' (size + add)) (sym (w .4)) g }
-
--- A frame that is taken, and what the pass keeps of it.
-module _ {s : List ℕ} {q : Asked} {table : List Settings} {own : ℕ} {c : Cursor} {st : Standing} {m : Met} (p : Passing s q table own c st (m .frames) (m .found) (m .size))
-    (l : Layout) (el : l ≡ layoutOf (q .channel) (take (channelsOf (st .counted)) table)) (few : channelsOf (st .counted) ≤ own)
-    (len : ℕ) {sequences : ℕ} {x : Standing} {r : Framed} (er : r ≡ framedAs (m .frames) st (l .agree) (l .octets) len) (fr : r ≡ Taken sequences x) where
-  pub met-room : (m .frames ≤ framesLimit) × (m .size ≤ m .frames * 2 ^ 32) × (l .groups ≤ 16384) × (sequences * l .octets ≤ octetsLimit)
-  met-room =
-      let w = framed-found (m .frames) st (l .agree) (l .octets) len er fr in
-      (p .pass .limit, p .pass .room, passing-groups p (channelsOf (st .counted)) l refl el few, omega (arith, w .0, w .1))
-
-  pub passing-met : {n : Next} {i : Item} {d : Cursor} {start : ℕ} {v : Settings} {m' : Met} {e : Effect}
-      → n ≡ nextOf s c → n ≡ FoundItem i d
-      → e ≡ effectOf s st i → e ≡ Effect.Frame start len
-      → v ≡ getD table (min (q .channel) 255) zeroSettings
-      → (m' ≡ metWith q st sequences start l v m) × (frameSize sequences (l .groups) (sequences * l .octets) < 4294967296)
-      → Passing s q table own d x (m' .frames) (m' .found) (m' .size)
-  passing-met {d = d} en fn ee fe ev em =
-      subst (λ (y : Met). Passing s q table own d x (y .frames) (y .found) (y .size)) (sym (em .0))
-      (passing-frame p (channelsOf (st .counted)) l refl el few en fn ee fe er fr
-      (ap (λ (y : Settings). pick (ltb (q .channel) (channelsOf (st .counted))) y defaultSettings) ev) refl refl (refl, em .1))

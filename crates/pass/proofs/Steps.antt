@@ -1,7 +1,7 @@
 -- What an item may do to what stands between two items, as one list of cases.
 --     defined-gives    a definition goes back to what stands, or has a value in its range
---     effect-asks, count-found    what an item may ask for, and that a count is at most 256
---     framed-gives     what a waveform that is taken tells
+--     effect-asks, waveform-found    what an item may ask for, and that a frame's waveform is an item's value
+--     framed-gives, taken-found    what a waveform that is taken tells
 --     meaning-steps, meaning-refused    what an item that is not refused does, and the number of one that is
 -- Assumes nothing.
 use mathlib.Core.Path.{_≡_, refl, subst, sym, _∙_}
@@ -9,7 +9,7 @@ use mathlib.Core.List.{List, [], _∷_, _++_}
 use mathlib.Core.Bool.{Bool, true, not}
 use Prim.Native.Nat.{ℕ, _*_, _≤_, _<_}
 use native.Mathlib.Omega.{arith}
-use borrow.Author.Tests.{ltb-true, ltb-false, leb-false, eqb-true, eqb-false, not-false}
+use borrow.Author.Tests.{ltb-false, leb-false, eqb-false, not-false}
 use lib.Dec.{ltb, leb, eqb}
 use lib.IntN.{ℤ}
 use lib.ListN.{length, getD, take, replicate, length-take, length-drop}
@@ -29,7 +29,7 @@ use Rattle.layout.specs.Frame.{sequenceOctets, allAgree}
 use Rattle.standing.specs.declared.Standing.{Standing}
 use Rattle.effects.specs.declared.Effect.{Effect}
 use Rattle.framing.specs.declared.Framed.{Framed}
-use Rattle.standing.specs.Standing.{octetsLimit, framesLimit, withOrder, withCount, withSequences, withStart, withRoot, withContinued}
+use Rattle.standing.specs.Standing.{framesLimit, withOrder, withCount, withSequences, withStart, withRoot, withContinued}
 use Rattle.effects.specs.Effects.{orderEffect, countEffect, sequencesEffect, startEffect, compressedEffect, allEffect, oneEffect, rootEffect, plainEffect, memberEffect, groupEffect, valueAt, effectOf}
 use Rattle.framing.specs.Framing.{sequencesOf, pointerFits, pointerAfter, framedAs}
 use Rattle.pass.specs.Verdict.{State, state, Outcome, goes, refuses, oneChanged, frameChannels, frameAt, withFrame, carried}
@@ -60,6 +60,10 @@ defined-gives s base a little start len =
     (λ r. new a little start len (not-false (lengthFits a (length v)) f) (eqb-false (length v) 0 z) r) (λ _. omega arith)))
 
 -- ---- effects
+
+-- No value is longer than the file.
+value-short : (s : List ℕ) (start len : ℕ) → length (valueAt s start len) ≤ length s
+value-short s start len = simp (length-take, length-drop) (omega arith)
 
 -- The item that asks for a frame.
 pub record Waveform (s : List ℕ) (i : Item) (start long : ℕ) : Type 0 where
@@ -164,16 +168,17 @@ module _ (s : List ℕ) (st : Standing) where
       pick-cases (Asks s st i) (eqb (st .counted) 0) (λ _. tt) (λ _. member-asks i channel start len (tagged tag))
   effect-asks (Item.Mark place) = tt
 
--- A channel count that an item asks for is at most 256.
-pub count-found : (s : List ℕ) (st : Standing) (i : Item) {r : Effect} {n : ℕ} → r ≡ effectOf s st i → r ≡ Effect.Count n → n ≤ channelLimit
-count-found s st i p q = subst (Asks s st i) (sym p ∙ q) (effect-asks s st i)
+-- The waveform of a frame that an item asks for is the item's value, so it is no longer than the file.
+pub waveform-found : (s : List ℕ) (st : Standing) (i : Item) {r : Effect} {start long : ℕ} → r ≡ effectOf s st i → r ≡ Effect.Frame start long → Waveform s i start long
+waveform-found s st i p q = subst (Asks s st i) (sym p ∙ q) (effect-asks s st i)
+
+pub waveform-short : (s : List ℕ) {i : Item} {start long : ℕ} → Waveform s i start long → long ≤ length s
+waveform-short s {start = start} w = rw (w .counts) (value-short s start (w .len))
 
 -- ---- frames
 
 -- What a waveform that is taken tells.
 pub record TakenBy (frames : ℕ) (st : Standing) (agree : Bool) (octets long n : ℕ) (y : Standing) : Type 0 where
-  pub some : octets ≡ 0 → ⊥
-  pub small : long ≤ octetsLimit
   pub few : frames < framesLimit
   pub agrees : agree ≡ true
   pub pointer : pointerFits (st .start) ≡ true
@@ -182,28 +187,27 @@ pub record TakenBy (frames : ℕ) (st : Standing) (agree : Bool) (octets long n 
 
 abbrev Framing : ℕ → Standing → Bool → ℕ → ℕ → Framed → Type 0
 Framing frames st agree octets long (Framed.Taken n y) = TakenBy frames st agree octets long n y
-Framing frames st agree octets long (Framed.Refused k) = (octets ≡ 0 → ⊥) → long ≤ octetsLimit → k < longFile
+Framing frames st agree octets long (Framed.Refused k) = k < longFile
 
 framed-gives : (frames : ℕ) (st : Standing) (agree : Bool) (octets long : ℕ) → Framing frames st agree octets long (framedAs frames st agree octets long)
 unfolding framedAs
 framed-gives frames st agree octets long =
     let n = sequencesOf (st .sequences) long octets in
     let P : Framed → Type 0 = Framing frames st agree octets long in
-    pick-cases P (eqb octets 0) (λ z f g. absurd (f (eqb-true octets 0 z)))
-    (λ z. pick-cases P (ltb octetsLimit long) (λ h f g. let c = ltb-true octetsLimit long h in let w : ⊥ = omega arith in absurd w)
-    (λ h. pick-cases P (leb framesLimit frames) (λ _ f g. omega arith)
-    (λ k. pick-cases P (not agree) (λ _ f g. omega arith)
-    (λ a. pick-cases P (not (pointerFits (st .start))) (λ _ f g. omega arith)
-    (λ p. pick-cases P (ltb long (n * octets)) (λ _ f g. omega arith)
+    pick-cases P (leb framesLimit frames) (λ _. omega arith)
+    (λ k. pick-cases P (not agree) (λ _. omega arith)
+    (λ a. pick-cases P (not (pointerFits (st .start))) (λ _. omega arith)
+    (λ p. pick-cases P (ltb long (n * octets)) (λ _. omega arith)
     (λ t. record {
-      some = eqb-false octets 0 z;
-      small = ltb-false octetsLimit long h;
       few = leb-false framesLimit frames k;
       agrees = not-false agree a;
       pointer = not-false (pointerFits (st .start)) p;
       fits = ltb-false long (n * octets) t;
       after = refl;
-    }))))))
+    }))))
+
+pub taken-found : (frames : ℕ) (st : Standing) (agree : Bool) (octets long : ℕ) {r : Framed} {n : ℕ} {y : Standing} → r ≡ framedAs frames st agree octets long → r ≡ Framed.Taken n y → TakenBy frames st agree octets long n y
+taken-found frames st agree octets long p q = subst (Framing frames st agree octets long) (sym p ∙ q) (framed-gives frames st agree octets long)
 
 -- ---- items
 
@@ -221,21 +225,17 @@ pub data Step (s : List ℕ) (x : State) (i : Item) : State → Type 0 where
       → TakenBy (length (x .frames)) (x .standing) (allAgree (frameChannels x)) (sequenceOctets (frameChannels x)) long n y
       → Step s x i (state y (x .channels) (x .frames ++ (frameAt s x start long n ∷ [])))
 
--- 15 would come only of a sequence without octets or of a file above the limit.
+-- No item is refused by 15.
 abbrev Steps : List ℕ → State → Item → Outcome → Type 0
 Steps s x i (goes y) = Step s x i y
-Steps s x i (refuses n) = (sequenceOctets (frameChannels x) ≡ 0 → ⊥) → length s ≤ octetsLimit → n < longFile
-
--- No value is longer than the file.
-value-short : (s : List ℕ) (start len : ℕ) → length (valueAt s start len) ≤ length s
-value-short s start len = simp (length-take, length-drop) (omega arith)
+Steps s x i (refuses n) = n < longFile
 
 frame-steps : (s : List ℕ) (x : State) (i : Item) (start long : ℕ) (r : Framed) → Waveform s i start long
     → Framing (length (x .frames)) (x .standing) (allAgree (frameChannels x)) (sequenceOctets (frameChannels x)) long r
     → Steps s x i (withFrame s x start long r)
 unfolding withFrame
 frame-steps s x i start long (Framed.Taken n y) w f = frames start long n y w f
-frame-steps s x i start long (Framed.Refused k) w f = λ z l. f z (let e = w .counts in omega (arith, value-short s start (w .len)))
+frame-steps s x i start long (Framed.Refused k) w f = f
 
 carried-steps : (s : List ℕ) (x : State) (i : Item) (e : Effect) → Asks s (x .standing) i e → Steps s x i (carried s x e)
 unfolding carried
@@ -248,7 +248,7 @@ carried-steps s x i (Effect.All c) a = changes c a
 carried-steps s x i (Effect.One channel c) a = sets channel c a
 carried-steps s x i (Effect.Frame start long) a =
     frame-steps s x i start long _ a (framed-gives (length (x .frames)) (x .standing) (allAgree (frameChannels x)) (sequenceOctets (frameChannels x)) long)
-carried-steps s x i (Effect.Refused n) a = λ z l. a
+carried-steps s x i (Effect.Refused n) a = a
 
 module _ (s : List ℕ) (x : State) (i : Item) where
   steps : Steps s x i (meaning s x i)
@@ -257,5 +257,5 @@ module _ (s : List ℕ) (x : State) (i : Item) where
   pub meaning-steps : (y : State) → meaning s x i ≡ goes y → Step s x i y
   meaning-steps y e = subst (Steps s x i) e steps
 
-  pub meaning-refused : (n : ℕ) → meaning s x i ≡ refuses n → (sequenceOctets (frameChannels x) ≡ 0 → ⊥) → length s ≤ octetsLimit → n < longFile
+  pub meaning-refused : (n : ℕ) → meaning s x i ≡ refuses n → n < longFile
   meaning-refused n e = subst (Steps s x i) e steps

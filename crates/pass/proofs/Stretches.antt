@@ -1,4 +1,4 @@
--- A stretch does what its items do one by one.
+-- A stretch leads where its items lead one by one.
 --     stretch-law       for any state that depends on one record and that each item of a stretch changes as it should
 --     root-law          outside groups, where every channel holds the root settings
 --     group-law         in a group, the record of its channel
@@ -25,8 +25,7 @@ use Rattle.heads.specs.declared.Head.{Head}
 use Rattle.items.specs.declared.Next.{Next}
 use Rattle.items.specs.declared.Next.the-variants.{Found}
 use Rattle.heads.specs.Head.{rootOnly, headOf}
-use Rattle.items.specs.Walk.{cursor, standsIn, isInside, extent, endsOpen, ended, itemOf, nextIn, nextOf, itemsFrom}
-use Rattle.items.proofs.Walks.{items-found}
+use Rattle.items.specs.Walk.{cursor, standsIn, isInside, extent, endsOpen, ended, itemOf, nextIn, nextOf}
 use Rattle.settings.specs.declared.Settings.{Settings}
 use Rattle.definitions.specs.declared.Attribute.{Attribute}
 use Rattle.settings.specs.declared.Change.{Change}
@@ -43,18 +42,16 @@ use Rattle.effects.specs.Effects.{valueAt, allEffect, oneEffect, rootEffect, pl
 use Rattle.stretch.specs.declared.Stretch.{Stretch}
 use Rattle.stretch.specs.Stretch.{Step, leaves, ends, steppedOver, stepOf, stretch, onward, runFrom, runOf, stretchOf}
 use Rattle.stretch.proofs.Leads.{Led, itemIn, step-led, next-short, value-ahead, extent-later}
-use Rattle.pass.specs.Verdict.{State, state, goes, oneChanged, carried, interpret}
-use Rattle.pass.specs.Passing.{openedBy, beginsAt}
-use Rattle.pass.proofs.Keeps.{meaning, interpret-goes}
+use Rattle.pass.specs.Verdict.{State, state, goes, oneChanged, carried}
+use Rattle.pass.specs.Passing.{Reached, behind, openedBy, beginsAt}
+use Rattle.pass.proofs.Keeps.{meaning}
 
 module _ (s : List ℕ) (w : Within) (little : Bool) (base : Settings) (X : Settings → State)
     (defines : (held : Settings) (at tag n : ℕ) (a : Attribute) (c : Change) → tagged tag ≡ Tagged.Defines a → defined a little base (valueAt s (at + 2) n) ≡ Defined.Changed c → meaning s (X held) (itemIn w at tag n) ≡ goes (X (applied c held)))
     (passes : (held : Settings) (at tag n : ℕ) → tagged tag ≡ Tagged.Other → rootOnly tag ≡ false → meaning s (X held) (itemIn w at tag n) ≡ goes (X held)) where
   -- One item.
-  one-law : (at : ℕ) (held x : Settings) → Led little base held (extent s at w) x → interpret s (X held) (itemsFrom s (cursor at w)) ≡ interpret s (X x) (itemsFrom s (cursor (at + 2 + getD (extent s at w) 1 0) w))
-  one-law at held x p =
-      ap (interpret s (X held)) (items-found s (cursor at w) (itemIn w at tag n) (cursor (at + 2 + n) w) (next-short s at w (p .ordinary) (p .long) (p .short)))
-      ∙ interpret-goes s (X held) (itemIn w at tag n) (itemsFrom s (cursor (at + 2 + n) w)) (X x) (⊎-elim by-definition by-nothing (p .does))
+  one-law : (at : ℕ) (held x : Settings) → Led little base held (extent s at w) x → Reached s (X held) (cursor at w) → Reached s (X x) (cursor (at + 2 + getD (extent s at w) 1 0) w)
+  one-law at held x p r = behind r (next-short s at w (p .ordinary) (p .long) (p .short)) (⊎-elim by-definition by-nothing (p .does))
     where
       tag : ℕ
       tag = getD (extent s at w) 0 0
@@ -68,14 +65,14 @@ module _ (s : List ℕ) (w : Within) (little : Bool) (base : Settings) (X : Sett
       by-nothing : ((tagged tag ≡ Tagged.Other) × (x ≡ held)) → meaning s (X held) (itemIn w at tag n) ≡ goes (X x)
       by-nothing q = passes held at tag n (q .0) (p .ordinary .anywhere) ∙ ap (λ (y : Settings). goes (X y)) (sym (q .1))
 
-  -- What is left of the file says the same before a stretch and behind it.
-  abbrev Alike : ℕ → ℕ → Settings → Stretch → Type 0
-  Alike from taken held t = interpret s (X held) (itemsFrom s (cursor (from + taken) w)) ≡ interpret s (X (t .settings)) (itemsFrom s (cursor (from + t .at) w))
+  -- From the place before a stretch the file's items lead behind it.
+  abbrev Leads : ℕ → ℕ → Settings → Stretch → Type 0
+  Leads from taken held t = Reached s (X held) (cursor (from + taken) w) → Reached s (X (t .settings)) (cursor (from + t .at) w)
 
-  run-law : (turns from taken : ℕ) (held : Settings) → Alike from taken held (runFrom turns little base taken held (extent s (from + taken) w))
+  run-law : (turns from taken : ℕ) (held : Settings) → Leads from taken held (runFrom turns little base taken held (extent s (from + taken) w))
   unfolding runFrom onward
-  run-law zero from taken held = refl
-  run-law (suc turns) from taken held = by (λ y. run-law turns from (taken + k) y) (stepOf little base held u) refl
+  run-law zero from taken held r = r
+  run-law (suc turns) from taken held r = by (λ y. run-law turns from (taken + k) y) (stepOf little base held u) refl r
     where
       u : List ℕ
       u = extent s (from + taken) w
@@ -83,20 +80,20 @@ module _ (s : List ℕ) (w : Within) (little : Bool) (base : Settings) (X : Sett
       k : ℕ
       k = 2 + getD u 1 0
 
-      by : ((y : Settings) → Alike from (taken + k) y (runFrom turns little base (taken + k) y (extent s (from + (taken + k)) w))) → (x : Step) → stepOf little base held u ≡ x → Alike from taken held (onward (λ y. runFrom turns little base (taken + k) y (drop k u)) (stretch taken held) x)
-      by more ends e = refl
-      by more (leaves y) e =
-          one-law (from + taken) held y (step-led little base held u e)
-          ∙ ap (λ (j : ℕ). interpret s (X y) (itemsFrom s (cursor j w))) (let q : from + taken + 2 + getD u 1 0 ≡ from + (taken + k) = omega arith in q)
-          ∙ subst (λ (v : List ℕ). Alike from (taken + k) y (runFrom turns little base (taken + k) y v))
+      by : ((y : Settings) → Leads from (taken + k) y (runFrom turns little base (taken + k) y (extent s (from + (taken + k)) w))) → (x : Step) → stepOf little base held u ≡ x → Leads from taken held (onward (λ y. runFrom turns little base (taken + k) y (drop k u)) (stretch taken held) x)
+      by more ends e r = r
+      by more (leaves y) e r =
+          let q : from + taken + 2 + getD u 1 0 ≡ from + (taken + k) = omega arith in
+          subst (λ (v : List ℕ). Leads from (taken + k) y (runFrom turns little base (taken + k) y v))
           (ap (λ (j : ℕ). extent s j w) (sym (add-assoc from taken k)) ∙ sym (extent-later s (from + taken) w k))
           (more y)
+          (subst (λ (j : ℕ). Reached s (X y) (cursor j w)) q (one-law (from + taken) held y (step-led little base held u e) r))
 
-  pub stretch-law : (at : ℕ) (held : Settings) (t : Stretch) → t ≡ stretchOf s (cursor at w) little base held → interpret s (X held) (itemsFrom s (cursor at w)) ≡ interpret s (X (t .settings)) (itemsFrom s (cursor (t .at) w))
+  pub stretch-law : (at : ℕ) (held : Settings) (t : Stretch) → t ≡ stretchOf s (cursor at w) little base held → Reached s (X held) (cursor at w) → Reached s (X (t .settings)) (cursor (t .at) w)
   unfolding stretchOf runOf
   stretch-law at held t e =
-      subst (λ (j : ℕ). interpret s (X held) (itemsFrom s (cursor j w)) ≡ interpret s (X (there j .settings)) (itemsFrom s (cursor (at + there j .at) w))) (add-zero at) (run-law (length (extent s at w)) at 0 held)
-      ∙ ap (λ (y : Stretch). interpret s (X (y .settings)) (itemsFrom s (cursor (y .at) w))) (sym e)
+      subst (λ (y : Stretch). Reached s (X held) (cursor at w) → Reached s (X (y .settings)) (cursor (y .at) w)) (sym e)
+      (subst (λ (j : ℕ). Reached s (X held) (cursor j w) → Reached s (X (there j .settings)) (cursor (at + there j .at) w)) (add-zero at) (run-law (length (extent s at w)) at 0 held))
     where
       there : ℕ → Stretch
       there j = runFrom (length (extent s at w)) little base 0 held (extent s j w)
@@ -137,7 +134,7 @@ module _ (s : List ℕ) (st : Standing) (fs : List Frame) where
       bar : (k : ℕ) → Truth (rootOnly k) → eqb tag k ≡ true → ⊥
       bar k t q = subst Truth (ap rootOnly (sym (eqb-true tag k q)) ∙ f) t
 
-  pub root-law : (at : ℕ) (held : Settings) (t : Stretch) → t ≡ stretchOf s (cursor at Within.Root) (st .little) defaultSettings held → interpret s (rootState held) (itemsFrom s (cursor at Within.Root)) ≡ interpret s (rootState (t .settings)) (itemsFrom s (cursor (t .at) Within.Root))
+  pub root-law : (at : ℕ) (held : Settings) (t : Stretch) → t ≡ stretchOf s (cursor at Within.Root) (st .little) defaultSettings held → Reached s (rootState held) (cursor at Within.Root) → Reached s (rootState (t .settings)) (cursor (t .at) Within.Root)
   root-law = stretch-law s Within.Root (st .little) defaultSettings rootState root-defines root-passes
 
 -- ---- in a group
@@ -170,7 +167,7 @@ module _ (s : List ℕ) (st : Standing) (fs : List Frame) (table : List Settings
       ∙ ap (λ (t : Tagged). carried s (groupState held) (memberEffect st channel (valueAt s (at + 2) n) t)) e
 
   abbrev Law : Within → Type 0
-  Law w = (at : ℕ) (held : Settings) (t : Stretch) → t ≡ stretchOf s (cursor at w) (st .little) (st .root) held → interpret s (groupState held) (itemsFrom s (cursor at w)) ≡ interpret s (groupState (t .settings)) (itemsFrom s (cursor (t .at) w))
+  Law w = (at : ℕ) (held : Settings) (t : Stretch) → t ≡ stretchOf s (cursor at w) (st .little) (st .root) held → Reached s (groupState held) (cursor at w) → Reached s (groupState (t .settings)) (cursor (t .at) w)
 
   pub group-law : (w : Within) → InGroup w channel → Law w
   group-law Within.Root g = absurd g

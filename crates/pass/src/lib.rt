@@ -291,7 +291,7 @@ fn root_layout(st: Standing, channel: u32) -> Layout
 
 // The pass from the first definition in a group on, where all channels hold the root settings.
 fn scan_channels(s: &[u8], asked: Asked, from: Cursor, standing: Standing, before: Met) -> Scan
-    requires { ⌜ Scanning (now s) asked (replicate channelLimit (standing .root)) from standing (before .frames) (before .found) (before .size) ⌝ }
+    requires { ⌜ Scanning (now s) asked (replicate channelLimit (standing .root)) from standing before ⌝ }
     ensures { λ r. ⌜ r ≡ scanOf asked (now (s .entry)) ⌝ }
 {
     let mut table = Settings::table();

@@ -16,7 +16,7 @@ use lib.IntN.{pos, negsuc}
 use lib.Signed.{mag, ltZ}
 use lib.ListN.{length, getD, take, drop}
 use lib.Seq.{take-all}
-use Rattle.octets.specs.Pick.{pick, both, either}
+use Rattle.octets.specs.Pick.{pick, either}
 use Rattle.octets.specs.Number.{range, numberOf, twos, signedOf}
 use Rattle.octets.proofs.Laws.{take-octets, drop-octets, take-length-le, cap, number-below}
 use Rattle.values.specs.declared.Bits.{Bits}
@@ -30,13 +30,15 @@ use Rattle.definitions.specs.Define.{bitsLength, lengthFits, scaleOf, bitsOf, c
 use Rattle.layout.specs.Frame.{Frame, sequenceOctets, channelAgrees, allAgree}
 use Rattle.standing.specs.declared.Standing.{Standing}
 use Rattle.effects.specs.Effects.{valueAt}
+use Rattle.standing.specs.Standing.{octetsLimit}
 use Rattle.framing.specs.Framing.{channelsOf}
 use Rattle.pass.specs.Verdict.{State, firstState, frameChannels, frameAt, accepted, verdict}
 use Rattle.pass.specs.Scan.{zeroFrame}
-use Rattle.pass.proofs.Keeps.{Keeps, accepted-kept}
-use Rattle.pass.proofs.Steps.{TakenBy, Step, passes, stands, resets, changes, sets, frames, meaning-steps}
-use Rattle.reader.proofs.Every.{Every, every-at, every-snoc, every-take, every-imp}
-use Rattle.reader.proofs.Tables.{Each, Table, table-step, table-first}
+use Rattle.pass.proofs.Keeps.{Keeps, accepted-by, accepted-kept}
+use Rattle.pass.proofs.Steps.{Waveform, waveform-short, TakenBy, Step, passes, stands, resets, changes, sets, frames, meaning-steps}
+use Rattle.pass.proofs.Every.{Every, every-at, every-snoc, every-take, every-imp}
+use Rattle.pass.proofs.Tables.{Each, Table, table-step, table-first}
+use Rattle.pass.proofs.Bounds.{both-split, Bounded, bounded-first, bounded-step, octets-some}
 
 -- A unit up to the last one, an exponent of one octet, and a mantissa from 1 on that fits four.
 pub record GoodScale (last : ℕ) (x : Scale) : Type 0 where
@@ -111,10 +113,6 @@ default-good =
       offset = (lit< tt, refl);
       null = (lit< tt, refl);
     }
-
-pub both-split : (a b : Bool) → both a b ≡ true → (a ≡ true) × (b ≡ true)
-both-split true b e = (refl, e)
-both-split false b e = let z : _≡_ {A = ℕ} 0 1 = cc in let w : ⊥ = omega arith in absurd w
 
 -- Bits are at most eight octets.
 bits-short : (n : ℕ) → bitsLength n ≡ true → n ≤ 8
@@ -191,35 +189,13 @@ module _ (little : Bool) (v : List ℕ) (octets : (i : ℕ) → getD v i 0 < 256
 
 -- What every item keeps.
 record Ranged (x : State) : Type 0 where
+  pub bounded : Bounded x
   pub table : Table GoodChange x
   pub frames : Every GoodFrame (x .frames)
 
 module _ (s : List ℕ) (octets : (i : ℕ) → getD s i 0 < 256) where
   value-octets : (start len : ℕ) → (i : ℕ) → getD (valueAt s start len) i 0 < 256
   value-octets start len = take-octets len (drop start s) (drop-octets start s octets)
-
-  frame-good : (x : State) (start long n : ℕ) (y : Standing) → Table GoodChange x
-      → TakenBy (length (x .frames)) (x .standing) (allAgree (frameChannels x)) (sequenceOctets (frameChannels x)) long n y
-      → GoodFrame (frameAt s x start long n)
-  frame-good x start long n y t f =
-      let g = sequenceOctets (frameChannels x) in
-      let some = f .some in
-      let few : n ≤ n * g = le-mul-of-pos-right n (omega arith) in
-      record {
-        channels = every-imp (Each GoodChange) GoodSettings settings-good (frameChannels x) (every-take (Each GoodChange) (channelsOf (x .standing .counted)) (x .channels) (t .table));
-        agree = f .agrees;
-        sequences = omega (arith, f .fits, f .small);
-        octets = value-octets start long;
-      }
-
-  frames-step : (x : State) (i : Item) (y : State) → Ranged x → Step s x i y → Every GoodFrame (y .frames)
-  frames-step x i _ p passes = p .frames
-  frames-step x i _ p (stands y h r) = p .frames
-  frames-step x i _ p (resets y h r) = p .frames
-  frames-step x i _ p (changes ch g) = p .frames
-  frames-step x i _ p (sets channel ch g) = p .frames
-  frames-step x i _ p (frames start long n y w f) =
-      every-snoc GoodFrame (x .frames) (frameAt s x start long n) (p .frames) (frame-good x start long n y (p .table) f)
 
   fresh-good : (a : Attribute) (little : Bool) (start len : ℕ)
       → lengthFits a (length (valueAt s start len)) ≡ true
@@ -228,17 +204,39 @@ module _ (s : List ℕ) (octets : (i : ℕ) → getD s i 0 < 256) where
       → GoodChange (changeOf a little (valueAt s start len))
   fresh-good a little start len f z r = change-good little (valueAt s start len) (value-octets start len) a f r
 
-  ranged-keeps : Keeps s (λ x c. Ranged x)
-  ranged-keeps x c i d y p e f =
-      let st = meaning-steps s x i y f in
-      record { table = table-step GoodChange s default-good fresh-good x i y (p .table) st; frames = frames-step x i y p st }
+  module _ (short : length s ≤ octetsLimit) where
+    frame-good : (x : State) (i : Item) (start long n : ℕ) (y : Standing) → Ranged x → Waveform s i start long
+        → TakenBy (length (x .frames)) (x .standing) (allAgree (frameChannels x)) (sequenceOctets (frameChannels x)) long n y
+        → GoodFrame (frameAt s x start long n)
+    frame-good x i start long n y p w f =
+        let few : n ≤ n * sequenceOctets (frameChannels x) = le-mul-of-pos-right n (octets-some x (p .bounded)) in
+        record {
+          channels = every-imp (Each GoodChange) GoodSettings settings-good (frameChannels x) (every-take (Each GoodChange) (channelsOf (x .standing .counted)) (x .channels) (p .table .table));
+          agree = f .agrees;
+          sequences = omega (arith, f .fits, waveform-short s w);
+          octets = value-octets start long;
+        }
+
+    frames-step : (x : State) (i : Item) (y : State) → Ranged x → Step s x i y → Every GoodFrame (y .frames)
+    frames-step x i _ p passes = p .frames
+    frames-step x i _ p (stands y h r) = p .frames
+    frames-step x i _ p (resets y h r) = p .frames
+    frames-step x i _ p (changes ch g) = p .frames
+    frames-step x i _ p (sets channel ch g) = p .frames
+    frames-step x i _ p (frames start long n y w f) =
+        every-snoc GoodFrame (x .frames) (frameAt s x start long n) (p .frames) (frame-good x i start long n y p w f)
+
+    ranged-keeps : Keeps s (λ x c. Ranged x)
+    ranged-keeps x c i d y p e f =
+        let st = meaning-steps s x i y f in
+        record { bounded = bounded-step s x i y (p .bounded) st; table = table-step GoodChange s default-good fresh-good x i y (p .table) st; frames = frames-step x i y p st }
 
   ranged-first : Ranged firstState
-  ranged-first = record { table = table-first GoodChange s default-good fresh-good; frames = tt }
+  ranged-first = record { bounded = bounded-first s; table = table-first GoodChange s default-good fresh-good; frames = tt }
 
   pub every-good : (fs : List Frame) → verdict s ≡ accepted fs → Every GoodFrame fs
   every-good fs e =
-      let k = accepted-kept s (λ x c. Ranged x) ranged-keeps ranged-first fs e in
+      let k = accepted-kept s (λ x c. Ranged x) (ranged-keeps (accepted-by s fs e .0)) ranged-first fs e in
       rw (k .frames) at (k .holds .frames)
 
   pub accepted-good : (fs : List Frame) → verdict s ≡ accepted fs → (i : ℕ) → i < length fs → GoodFrame (getD fs i zeroFrame)

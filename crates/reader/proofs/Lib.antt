@@ -1,6 +1,4 @@
-pub mod Every
 pub mod Ordered
-pub mod Tables
 pub mod Good
 pub mod Never
 pub mod Order

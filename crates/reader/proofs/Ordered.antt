@@ -1,5 +1,4 @@
 -- Where the frames of an accepted file lie.
---     frame-channels     at every state that is reached a frame has 1 to 256 channels
 --     accepted-small     the file is no longer than the limit
 --     accepted-few       its frames are no more than the limit
 --     every-lies, accepted-lies    each waveform lies in the file, and holds the frame's sequences
@@ -11,26 +10,24 @@ use mathlib.Core.Bool.{true}
 use Prim.Native.Nat.{ℕ, _+_, _*_, _≤_, _<_}
 use native.Mathlib.Decide.{decLt}
 use native.Mathlib.Omega.{arith}
-use borrow.Author.Tests.{eqb-false}
-use lib.Dec.{eqb}
-use lib.ListN.{length, getD, take, drop, length-take, length-drop, length-append, length-replicate, length-set, length-map, List·getD-append}
+use lib.ListN.{length, getD, take, drop, length-take, length-drop, length-append, List·getD-append}
 use lib.Seq.{getD-at}
-use Rattle.octets.proofs.Pick.{pick-cases}
 use Rattle.items.specs.declared.Item.{Item}
 use Rattle.items.specs.declared.Cursor.{Cursor}
 use Rattle.items.proofs.Walks.{FoundAt, ItemLies, next-found}
 use Rattle.settings.specs.declared.Settings.{Settings}
-use Rattle.settings.specs.Settings.{channelLimit, defaultSettings, allApplied}
+use Rattle.settings.specs.Settings.{channelLimit}
 use Rattle.layout.specs.Frame.{Frame, sequenceOctets, allAgree}
 use Rattle.standing.specs.declared.Standing.{Standing}
 use Rattle.effects.specs.Effects.{valueAt}
 use Rattle.standing.specs.Standing.{octetsLimit, framesLimit}
-use Rattle.framing.specs.Framing.{channelsOf, pointerFits}
-use Rattle.pass.specs.Verdict.{State, state, firstState, oneChanged, frameChannels, frameAt, accepted, verdict}
+use Rattle.framing.specs.Framing.{pointerFits}
+use Rattle.pass.specs.Verdict.{State, state, firstState, frameChannels, frameAt, accepted, verdict}
 use Rattle.pass.specs.Scan.{zeroFrame}
 use Rattle.pass.proofs.Keeps.{Kept, Keeps, firstCursor, accepted-by, accepted-kept}
 use Rattle.pass.proofs.Steps.{Waveform, TakenBy, Step, passes, stands, resets, changes, sets, frames, meaning-steps}
-use Rattle.reader.proofs.Every.{Every, every-at, every-snoc, every-imp}
+use Rattle.pass.proofs.Every.{Every, every-at, every-snoc, every-imp}
+use Rattle.pass.proofs.Bounds.{Bounded, bounded-first, bounded-step, frame-channels}
 
 -- A frame whose waveform lies in the file and holds its sequences, with 1 to 256 channels.
 pub record Lies (s : List ℕ) (f : Frame) : Type 0 where
@@ -51,9 +48,7 @@ InOrder fs = (i j : ℕ) → i < j → j < length fs → endOf (getD fs i zeroFr
 
 -- What every item keeps.
 pub record Lying (s : List ℕ) (x : State) (c : Cursor) : Type 0 where
-  pub counted : x .standing .counted ≤ channelLimit
-  pub table : length (x .channels) ≡ channelLimit
-  pub few : length (x .frames) ≤ framesLimit
+  pub bounded : Bounded x
   pub lies : Every (Lies s) (x .frames)
   pub behind : Every (λ f. endOf f ≤ c .at) (x .frames)
   pub order : InOrder (x .frames)
@@ -72,27 +67,12 @@ order-snoc fs f o e i j h l =
         let n : length (fs ++ (f ∷ [])) ≡ length fs + 1 = length-append fs (f ∷ []) in
         rw (first, getD-at fs f [] zeroFrame j (omega arith)) (every-at (λ g. endOf g ≤ f .place) fs e zeroFrame i (omega arith))
 
--- A frame has 1 to 256 channels.
-channels-between : (counted : ℕ) → counted ≤ channelLimit → (0 < channelsOf counted) × (channelsOf counted ≤ channelLimit)
-unfolding channelsOf
-channels-between counted h =
-    pick-cases (λ n. (0 < n) × (n ≤ channelLimit)) (eqb counted 0) (λ _. omega arith)
-    (λ e. let z = eqb-false counted 0 e in omega arith)
-
-pub frame-channels : (s : List ℕ) (x : State) (c : Cursor) → Lying s x c → (0 < length (frameChannels x)) × (length (frameChannels x) ≤ channelLimit)
-frame-channels s x c p =
-    let k = channels-between (x .standing .counted) (p .counted) in
-    let e : length (frameChannels x) ≡ channelsOf (x .standing .counted) = length-take (channelsOf (x .standing .counted)) (x .channels) ∙ omega (arith, p .table) in
-    (omega arith, omega arith)
-
 module _ (s : List ℕ) (x : State) (c d : Cursor) (p : Lying s x c) where
   -- An item that gives no frame.
-  moved : (st : Standing) (table : List Settings) → st .counted ≤ channelLimit → length table ≡ channelLimit → c .at < d .at → Lying s (state st table (x .frames)) d
-  moved st table h e l =
+  moved : {st : Standing} {table : List Settings} → Bounded (state st table (x .frames)) → c .at < d .at → Lying s (state st table (x .frames)) d
+  moved b l =
       record {
-        counted = h;
-        table = e;
-        few = p .few;
+        bounded = b;
         lies = p .lies;
         behind = every-imp (λ f. endOf f ≤ c .at) (λ f. endOf f ≤ d .at) (λ f q. omega arith) (x .frames) (p .behind);
         order = p .order;
@@ -109,7 +89,7 @@ module _ (s : List ℕ) (x : State) (c d : Cursor) (p : Lying s x c) where
 
     new-lies : Lies s new
     new-lies =
-        let k = frame-channels s x c p in
+        let k = frame-channels x (p .bounded) in
         record {
           fits = rw long-is (t .fits);
           inside = rw long-is (omega arith);
@@ -119,12 +99,10 @@ module _ (s : List ℕ) (x : State) (c d : Cursor) (p : Lying s x c) where
           pointer = t .pointer;
         }
 
-    framed : Lying s (state y (x .channels) (x .frames ++ (new ∷ []))) d
-    framed =
+    framed : Bounded (state y (x .channels) (x .frames ++ (new ∷ []))) → Lying s (state y (x .channels) (x .frames ++ (new ∷ []))) d
+    framed b =
         record {
-          counted = rw (t .after) (p .counted);
-          table = p .table;
-          few = rw length-append (omega (arith, t .few));
+          bounded = b;
           lies = every-snoc (Lies s) (x .frames) new (p .lies) new-lies;
           behind = every-snoc (λ f. endOf f ≤ d .at) (x .frames) new (every-imp (λ f. endOf f ≤ c .at) (λ f. endOf f ≤ d .at) (λ f q. omega arith) (x .frames) (p .behind)) (rw long-is (omega arith));
           order = order-snoc (x .frames) new (p .order) (every-imp (λ f. endOf f ≤ c .at) (λ f. endOf f ≤ start) (λ f q. omega arith) (x .frames) (p .behind));
@@ -143,22 +121,23 @@ module _ (s : List ℕ) where
       let e = value-long s start (w .len) long (omega (arith, l .2, f .inside)) (w .counts) in
       (l .1, omega (arith, l .2))
 
-  lying-step : (x : State) (c : Cursor) (i : Item) (d : Cursor) (y : State) → Lying s x c → FoundAt (length s) (c .at) i d → Step s x i y → Lying s y d
-  unfolding allApplied oneChanged
-  lying-step x c i d _ p f passes = moved s x c d p (x .standing) (x .channels) (p .counted) (p .table) (f .later)
-  lying-step x c i d _ p f (stands y h r) = moved s x c d p y (x .channels) (rw h (p .counted)) (p .table) (f .later)
-  lying-step x c i d _ p f (resets y h r) = moved s x c d p y _ h (length-replicate channelLimit (y .root)) (f .later)
-  lying-step x c i d _ p f (changes ch e) = moved s x c d p _ _ (p .counted) (length-map (x .channels) _ ∙ p .table) (f .later)
-  lying-step x c i d _ p f (sets channel ch e) = moved s x c d p (x .standing) _ (p .counted) (length-set (x .channels) channel _ ∙ p .table) (f .later)
-  lying-step x c i d _ p f (frames start long n y w t) =
+  lying-step : (x : State) (c : Cursor) (i : Item) (d : Cursor) (y : State) → Lying s x c → FoundAt (length s) (c .at) i d → Bounded y → Step s x i y → Lying s y d
+  lying-step x c i d _ p f b passes = moved s x c d p b (f .later)
+  lying-step x c i d _ p f b (stands y h r) = moved s x c d p b (f .later)
+  lying-step x c i d _ p f b (resets y h r) = moved s x c d p b (f .later)
+  lying-step x c i d _ p f b (changes ch e) = moved s x c d p b (f .later)
+  lying-step x c i d _ p f b (sets channel ch e) = moved s x c d p b (f .later)
+  lying-step x c i d _ p f b (frames start long n y w t) =
       let l = waveform-lies c i d start long w f in
-      framed s x c d p start long n y (l .0) (l .1) (f .inside) t
+      framed s x c d p start long n y (l .0) (l .1) (f .inside) t b
 
   pub lying-keeps : Keeps s (Lying s)
-  lying-keeps x c i d y p e f = lying-step x c i d y p (next-found s c refl e) (meaning-steps s x i y f)
+  lying-keeps x c i d y p e f =
+      let t = meaning-steps s x i y f in
+      lying-step x c i d y p (next-found s c refl e) (bounded-step s x i y (p .bounded) t) t
 
   pub lying-first : Lying s firstState firstCursor
-  lying-first = record { counted = omega arith; table = length-replicate channelLimit defaultSettings; few = omega arith; lies = tt; behind = tt; order = λ i j h l. let z : ⊥ = omega arith in absurd z }
+  lying-first = record { bounded = bounded-first s; lies = tt; behind = tt; order = λ i j h l. let z : ⊥ = omega arith in absurd z }
 
 module _ (s : List ℕ) (fs : List Frame) (e : verdict s ≡ accepted fs) where
   kept : Kept (Lying s) fs
@@ -168,7 +147,7 @@ module _ (s : List ℕ) (fs : List Frame) (e : verdict s ≡ accepted fs) where
   accepted-small = accepted-by s fs e .0
 
   pub accepted-few : length fs ≤ framesLimit
-  accepted-few = rw (kept .frames) at (kept .holds .few)
+  accepted-few = rw (kept .frames) at (kept .holds .bounded .few)
 
   pub every-lies : Every (Lies s) fs
   every-lies = rw (kept .frames) at (kept .holds .lies)

@@ -34,6 +34,7 @@ use Rattle.stores.specs.Number.{Octets}
 use Rattle.mfer.specs.Answers.{Outputs, outputs, handedOut, countOut, CanonicalOut}
 use Rattle.theorems.proofs.Questions.{check-accepted}
 use Rattle.theorems.proofs.EntryPoints.{refused-answers}
+use Rattle.theorems.proofs.Exactly.{refused-numbered}
 
 -- The recording that a verdict gives; a refused file has none.
 unfoldable pub recordingIn : Verdict → List Recorded
@@ -190,15 +191,22 @@ written-out s d m h = by (verdict s) refl
 
 -- ---- calls
 
+-- A refusal of the writer has a number above 0.
+written-numbered : (s d : List ℕ) (number place : ℕ) → writtenOf s d ≡ refusedAs number place → 0 < number
+written-numbered s d number place h = by (verdict s) refl
+  where
+    by : (v : Verdict) → verdict s ≡ v → 0 < number
+    by (accepted fs) e = omega (arith, writes s d fs e .late number place h)
+    by (refused r) e = let k = refused-answers s r e .written d in let n : r .number ≡ number = cc in omega (arith, refused-numbered s r e)
+
 -- A call of mfer_canonical whose result is 0 is as one of write_canonical that answers the length handed out.
-pub wrote-out : {s d left : List ℕ} {place m : ℕ} → ((number at : ℕ) → writtenOf s d ≡ refusedAs number at → 0 < number)
-    → CanonicalOut s d (outputs 0 place m) left → Wrote s d (answered m) left
+pub wrote-out : {s d left : List ℕ} {place m : ℕ} → CanonicalOut s d (outputs 0 place m) left → Wrote s d (answered m) left
 unfolding handedOut
-wrote-out {s} {d} {left} {place} {m} numbered w = record { octets = w .octets; answers = by (writtenOf s d) refl (w .answers); leaves = w .leaves }
+wrote-out {s} {d} {left} {place} {m} w = record { octets = w .octets; answers = by (writtenOf s d) refl (w .answers); leaves = w .leaves }
   where
     by : (a : Answer ℕ) → writtenOf s d ≡ a → outputs 0 place m ≡ countOut a → answered m ≡ a
     by (answered n) q e = ap (λ (o : Outputs ℕ). answered (o .values)) e
-    by (refusedAs number at) q e = let z : ⊥ = omega (arith, numbered number at q, ap (λ (o : Outputs ℕ). o .refusal) e) in absurd z
+    by (refusedAs number at) q e = let z : ⊥ = omega (arith, written-numbered s d number at q, ap (λ (o : Outputs ℕ). o .refusal) e) in absurd z
 
 module _ {s d left : List ℕ} {m : ℕ} (w : Wrote s d (answered m) left) where
   out-is : WrittenOut s d m

@@ -1,5 +1,5 @@
 -- The three demands, over the definitions that the contracts cite.
---     demand-one      every call ends with an answer or a refusal; 15 and those from 20 up exactly when their conditions hold
+--     demand-one      every call ends with an answer or a refusal, each number exactly when its condition holds and none ahead of it does
 --     demand-two      what is told and what is written is what document 01 defines, and reads back as the same recording
 --     demand-three    no two samples share an octet, and canonical files are equal exactly when the recordings are
 -- Assumes nothing.
@@ -11,21 +11,24 @@ use lib.ListN.{length, take, drop}
 use Rattle.heads.specs.declared.Refusal.{Refusal}
 use Rattle.heads.specs.Refusals.{longFile}
 use Rattle.heads.specs.Answer.{answered, refusedAs, mapAnswer}
-use Rattle.items.specs.Walk.{itemsOf}
+use Rattle.items.specs.Walk.{refusal}
 use Rattle.layout.specs.Frame.{Frame, placeOf}
 use Rattle.standing.specs.Standing.{octetsLimit}
-use Rattle.pass.specs.Verdict.{firstState, accepted, refused, interpret, verdict, checkOf}
+use Rattle.pass.specs.Verdict.{accepted, refused, verdict, checkOf}
 use Rattle.reader.specs.Answer.{attributesIn, attributesOf, sampleIn, sampleOf, seenOf, foundPlace, placedOf}
 use Rattle.pass.specs.Scan.{viewOf}
 use Rattle.bulk.specs.Samples.{readOf}
 use Rattle.canonical.specs.Canonical.{canonical}
 use Rattle.canonical.specs.Write.{Wrote}
+use Rattle.mfer.specs.Answers.{outputs, CanonicalOut}
 use Rattle.reader.proofs.Ordered.{endOf}
-use Rattle.theorems.proofs.Questions.{frameNumber, ByChannel, BySample, check-accepted, accepted-or-refused, limit-exactly, limit-place, limit-passed, attributes-answered, channel-answered, sample-answered, place-answered, bitsRead, samples-answered, same-place}
+use Rattle.theorems.proofs.Questions.{frameNumber, ByChannel, BySample, check-accepted, check-refused, accepted-or-refused, limit-exactly, limit-place, attributes-answered, channel-answered, sample-answered, place-answered, bitsRead, samples-answered, same-place}
 use Rattle.theorems.proofs.Places.{Name, Exists, NamedSample, Belongs, InWaveform, Owned, sample-exists, sample-inside, samples-apart, octet-owned}
 use Rattle.theorems.proofs.Waveforms.{PartOfFile, waveform-part, waveforms-apart}
 use Rattle.theorems.proofs.EntryPoints.{AnsweredBy, HandedOut, Kept, refused-answers, handed-out, kept}
-use Rattle.theorems.proofs.Canonical.{recordingOf, Writes, ReadAgain, writes, written-file, written-again, same-written}
+use Rattle.theorems.specs.Refusing.{Refusing}
+use Rattle.theorems.proofs.Exactly.{refused-exactly, refused-numbered}
+use Rattle.theorems.proofs.Canonical.{recordingOf, Writes, ReadAgain, writes, wrote-out, written-file, written-again, same-written}
 
 -- ---- demand 1
 
@@ -36,8 +39,9 @@ pub record DemandOne (s : List ℕ) : Type 0 where
   -- 15 comes first: exactly when the file is too long, and always at place 0.
   pub limit : (checkOf s ≡ refusedAs longFile 0) ↔ (octetsLimit < length s)
   pub limitPlace : (place : ℕ) → checkOf s ≡ refusedAs longFile place → place ≡ 0
-  -- Else the items decide, in file order. When 1 to 14 are given, and where, is the definition `interpret` itself.
-  pub items : length s ≤ octetsLimit → verdict s ≡ interpret s firstState (itemsOf s)
+  -- 1 to 15, and where: exactly as the tables of document 01 say (specs/). 15 comes first, then the first refused item in file order decides.
+  pub refusals : (number place : ℕ) → (checkOf s ≡ refusedAs number place) ↔ Refusing s (refusal number place)
+  pub numbered : (number place : ℕ) → checkOf s ≡ refusedAs number place → (0 < number) × (number ≤ longFile)
   -- The file is accepted or refused.
   pub ends : ((fs : List Frame) × (verdict s ≡ accepted fs)) ⊎ ((r : Refusal) × (verdict s ≡ refused r))
   -- On a refused file every question and the writer answer its refusal.
@@ -59,7 +63,8 @@ demand-one s =
     record {
       limit = limit-exactly s;
       limitPlace = limit-place s;
-      items = limit-passed s;
+      refusals = λ n p. (λ e. refused-exactly s (refusal n p) .0 (check-refused s n p .0 e), λ a. check-refused s n p .1 (refused-exactly s (refusal n p) .1 a));
+      numbered = λ n p e. refused-numbered s (refusal n p) (check-refused s n p .0 e);
       ends = accepted-or-refused s;
       refusedFile = refused-answers s;
       attributes = attributes-answered s;
@@ -122,6 +127,8 @@ pub record SamplesPlaced (s : List ℕ) (fs : List Frame) : Type 0 where
 -- every octet, exactly when the recordings are equal, down to each attribute and each bit of each sample."
 pub record DemandThree : Type 0 where
   pub places : (s : List ℕ) (fs : List Frame) → verdict s ≡ accepted fs → SamplesPlaced s fs
+  -- A file that mfer_canonical writes out is written out as by write_canonical.
+  pub handed : (s d left : List ℕ) (place m : ℕ) → CanonicalOut s d (outputs 0 place m) left → Wrote s d (answered m) left
   -- Files s and t are written to buffers that held d and g; m and n octets are their canonical files.
   pub same : (s t d g left right : List ℕ) (m n : ℕ) → Wrote s d (answered m) left → Wrote t g (answered n) right
       → ((m ≡ n) × (take m left ≡ take n right)) ↔ (recordingOf s ≡ recordingOf t)
@@ -139,5 +146,6 @@ demand-three =
             apart = samples-apart s fs e;
             owned = octet-owned s fs e;
           };
+      handed = λ s d left place m w. wrote-out w;
       same = λ s t d g left right m n v w. same-written v w;
     }

@@ -1,4 +1,9 @@
 pub mod Questions
+pub mod Due
+pub mod HeadRows
+pub mod FrameRows
+pub mod ValueRows
+pub mod Exactly
 pub mod Places
 pub mod Waveforms
 pub mod EntryPoints

@@ -44,7 +44,7 @@ fn write_value(out: &mut impl Write, value: Value) -> io::Result<()> {
         Value::Status(status) => writeln!(out, "0x{status:04X}"),
         Value::Single(single) => writeln!(out, "{single:?}"),
         Value::Double(double) => writeln!(out, "{double:?}"),
-        Value::NotNumber(bits) => writeln!(out, "not-a-number 0x{bits:X}"),
-        Value::Null => writeln!(out, "null"),
+        Value::NotNumber(bits) => writeln!(out, "{} 0x{bits:X}", value.kind()),
+        Value::Null => writeln!(out, "{}", value.kind()),
     }
 }

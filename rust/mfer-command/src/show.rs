@@ -9,7 +9,7 @@ use std::ffi::OsStr;
 use std::io::Write;
 
 /// A file of fewer frames is asked as it is, which needs no second copy of its waveforms.
-const MANY_FRAMES: u32 = 8;
+const WORTH_CUTTING: u32 = 8;
 
 const HEAD: [&str; 9] = [
     "channel",
@@ -65,7 +65,7 @@ enum Source<'a> {
 
 impl<'a> Source<'a> {
     fn of(file: File<'a>, frames: u32) -> Result<Source<'a>, Refusal> {
-        if frames < MANY_FRAMES {
+        if frames < WORTH_CUTTING {
             return Ok(Source::Whole(file));
         }
         match Recording::of(&file) {

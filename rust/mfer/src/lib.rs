@@ -41,6 +41,8 @@ mod iterators;
 mod recording;
 mod refusal;
 mod value;
+#[cfg(test)]
+mod vocabulary;
 
 pub use attributes::{Attributes, DataType, Scale};
 pub use file::File;

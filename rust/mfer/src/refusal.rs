@@ -25,74 +25,46 @@ pub struct Refusal {
     pub place: u64,
 }
 
-impl Refusal {
-    /// A context tag other than 3F.
-    pub const CONTEXT_TAG: u32 = 1;
-    /// A length octet from 85 to FF, or 80 on another tag than 3F.
-    pub const LENGTH_OCTET: u32 = 2;
-    /// A channel number, length or value runs past the file or the group around it.
-    pub const PAST_END: u32 = 3;
-    /// A channel number of more than four octets.
-    pub const LONG_CHANNEL: u32 = 4;
-    /// A tag that may not stand in a group.
-    pub const BARRED_TAG: u32 = 5;
-    /// A length that the tag does not allow.
-    pub const LENGTH: u32 = 6;
-    /// A value that the tag does not allow.
-    pub const VALUE: u32 = 7;
-    /// A channel number that is not below the channel count.
-    pub const CHANNEL_NUMBER: u32 = 8;
-    /// Compressed data.
-    pub const COMPRESSED: u32 = 9;
-    /// The file ends in an open group.
-    pub const UNENDED_GROUP: u32 = 10;
-    /// More than 4,096 frames.
-    pub const FRAMES: u32 = 11;
-    /// An offset or null that has not the width of its channel's samples.
-    pub const SAMPLE_WIDTH: u32 = 12;
-    /// A start pointer outside signed 32 bits.
-    pub const START: u32 = 13;
-    /// A waveform that is shorter than its sequences.
-    pub const SHORT_WAVEFORM: u32 = 14;
-    /// More than 2,147,483,647 octets.
-    pub const LONG_FILE: u32 = 15;
-    /// No such frame.
-    pub const NO_FRAME: u32 = 20;
-    /// No such channel.
-    pub const NO_CHANNEL: u32 = 21;
-    /// No such sample.
-    pub const NO_SAMPLE: u32 = 22;
-    /// The canonical file is longer than the buffer or than a file may be.
-    pub const NO_ROOM: u32 = 23;
+/// Each refusal by its name, its number and its words: a constant, and what [`Refusal::meaning`] says.
+macro_rules! refusals {
+    ($($name:ident = $number:literal, $words:literal;)*) => {
+        impl Refusal {
+            $(#[doc = concat!($words, ".")] pub const $name: u32 = $number;)*
+        }
 
+        pub(crate) const REFUSALS: &[(&str, u32, &str)] = &[$((stringify!($name), $number, $words)),*];
+    };
+}
+
+// The words are document 01's. What they lean on elsewhere on its page stands in parentheses.
+refusals! {
+    CONTEXT_TAG = 1, "context tag other than 3Fh";
+    LENGTH_OCTET = 2, "length octet 85h to FFh, or 80h not on 3Fh";
+    PAST_END = 3, "channel number, length or value runs past the file or definite group around it";
+    LONG_CHANNEL = 4, "fourth channel octet has its top bit set";
+    BARRED_TAG = 5, "tag 01, 05, 06, 07, 0E, 1E or 3F inside a group";
+    UNFIT_LENGTH = 6, "length of a tag in the table of attributes that isn't among those given there";
+    UNFIT_VALUE = 7, "value not in the table of attributes";
+    CHANNEL_NUMBER = 8, "channel number not below the channel count";
+    COMPRESSED = 9, "0Eh of length above 0 (compressed data)";
+    UNENDED_GROUP = 10, "open group: file ends between two of its items";
+    MANY_FRAMES = 11, "a frame after 4,096 frames";
+    SAMPLE_WIDTH = 12, "a channel below the count whose defined offset or null hasn't its sample width";
+    START_RANGE = 13, "start pointer outside signed 32 bits";
+    SHORT_WAVEFORM = 14, "waveform shorter than sequences times G (the octets of a sequence)";
+    LONG_FILE = 15, "file above 2,147,483,647 octets";
+    NO_FRAME = 20, "no such frame";
+    NO_CHANNEL = 21, "no such channel";
+    NO_SAMPLE = 22, "no such sample";
+    NO_ROOM = 23, "canonical file longer than the output buffer or than 15's limit (2,147,483,647 octets)";
+}
+
+impl Refusal {
     /// What the number means, in words.
     pub fn meaning(&self) -> &'static str {
-        match self.number {
-            Refusal::CONTEXT_TAG => "context tag other than 3F",
-            Refusal::LENGTH_OCTET => "length octet 85 to FF, or 80 on another tag than 3F",
-            Refusal::PAST_END => {
-                "channel number, length or value runs past the file or the group around it"
-            }
-            Refusal::LONG_CHANNEL => "channel number of more than four octets",
-            Refusal::BARRED_TAG => "tag 01, 05, 06, 07, 0E, 1E or 3F inside a group",
-            Refusal::LENGTH => "length that this tag does not allow",
-            Refusal::VALUE => "value that this tag does not allow",
-            Refusal::CHANNEL_NUMBER => "channel number not below the channel count",
-            Refusal::COMPRESSED => "compressed data",
-            Refusal::UNENDED_GROUP => "the file ends before this open group does",
-            Refusal::FRAMES => "a frame after 4096 frames",
-            Refusal::SAMPLE_WIDTH => "a channel's offset or null has not the width of its samples",
-            Refusal::START => "start pointer outside signed 32 bits",
-            Refusal::SHORT_WAVEFORM => "waveform shorter than its sequences",
-            Refusal::LONG_FILE => "file of more than 2147483647 octets",
-            Refusal::NO_FRAME => "no such frame",
-            Refusal::NO_CHANNEL => "no such channel",
-            Refusal::NO_SAMPLE => "no such sample",
-            Refusal::NO_ROOM => {
-                "canonical file longer than the output buffer or than 2147483647 octets"
-            }
-            _ => "unknown refusal",
-        }
+        let mut refusals = REFUSALS.iter();
+        let known = refusals.find(|(_, number, _)| *number == self.number);
+        known.map_or("unknown refusal", |(_, _, words)| words)
     }
 
     /// The answer if the number is 0, else the refusal.

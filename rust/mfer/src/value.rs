@@ -39,6 +39,18 @@ impl PartialEq for Value {
 impl Eq for Value {}
 
 impl Value {
+    /// Document 01's word for the value's kind.
+    pub fn kind(&self) -> &'static str {
+        match self {
+            Value::Whole(_) => "whole",
+            Value::Status(_) => "status",
+            Value::Single(_) => "single",
+            Value::Double(_) => "double",
+            Value::NotNumber(_) => "not-a-number",
+            Value::Null => "null",
+        }
+    }
+
     /// The value of bits that were read in bulk.
     ///
     /// ```

@@ -145,13 +145,13 @@ impl Standing {
     /// The frame that a waveform item makes.
     fn frame<'a>(&mut self, octets: &'a [u8], item: &Item) -> Result<Frame<'a>, u8> {
         if self.frames == Standing::FRAME_LIMIT {
-            return Err(Refusal::FRAMES);
+            return Err(Refusal::MANY_FRAMES);
         }
         let channels = self.count.unwrap_or(1);
         let sequence_octets = self.sequence_octets(channels)?;
         let start = match self.start {
             Some(start) => start,
-            None => i32::try_from(self.continued).map_err(|_| Refusal::START)?,
+            None => i32::try_from(self.continued).map_err(|_| Refusal::START_RANGE)?,
         };
         let length = (item.end - item.value) as u64;
         let sequences = match self.sequences {

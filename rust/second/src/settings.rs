@@ -121,8 +121,8 @@ pub(crate) fn choice(value: &[u8], last: u8) -> Result<Option<u8>, u8> {
     match *value {
         [] => Ok(None),
         [octet] if octet <= last => Ok(Some(octet)),
-        [_] => Err(Refusal::VALUE),
-        _ => Err(Refusal::LENGTH),
+        [_] => Err(Refusal::UNFIT_VALUE),
+        _ => Err(Refusal::UNFIT_LENGTH),
     }
 }
 
@@ -132,9 +132,9 @@ pub(crate) fn number(value: &[u8], limit: u32, little: bool) -> Result<Option<u3
         0 => Ok(None),
         1..=4 => match bits(value, little) as u32 {
             number if (1..=limit).contains(&number) => Ok(Some(number)),
-            _ => Err(Refusal::VALUE),
+            _ => Err(Refusal::UNFIT_VALUE),
         },
-        _ => Err(Refusal::LENGTH),
+        _ => Err(Refusal::UNFIT_LENGTH),
     }
 }
 
@@ -143,7 +143,7 @@ pub(crate) fn pointer(value: &[u8], little: bool) -> Result<Option<i32>, u8> {
     match value.len() {
         0 => Ok(None),
         1..=4 => Ok(Some(signed(value, little))),
-        _ => Err(Refusal::LENGTH),
+        _ => Err(Refusal::UNFIT_LENGTH),
     }
 }
 
@@ -158,7 +158,7 @@ fn code(value: &[u8], little: bool) -> Result<Option<u16>, u8> {
     match value.len() {
         0 => Ok(None),
         1..=Record::CODE_LIMIT => Ok(Some(bits(&value[..value.len().min(2)], little) as u16)),
-        _ => Err(Refusal::LENGTH),
+        _ => Err(Refusal::UNFIT_LENGTH),
     }
 }
 
@@ -169,7 +169,7 @@ fn scale(value: &[u8], last_unit: u8, little: bool) -> Result<Option<Scale>, u8>
         [unit, exponent, ref mantissa @ ..] if (1..=4).contains(&mantissa.len()) => {
             let mantissa = signed(mantissa, little);
             if unit > last_unit || mantissa < 1 {
-                return Err(Refusal::VALUE);
+                return Err(Refusal::UNFIT_VALUE);
             }
             Ok(Some(Scale {
                 unit,
@@ -177,7 +177,7 @@ fn scale(value: &[u8], last_unit: u8, little: bool) -> Result<Option<Scale>, u8>
                 mantissa,
             }))
         }
-        _ => Err(Refusal::LENGTH),
+        _ => Err(Refusal::UNFIT_LENGTH),
     }
 }
 
@@ -189,6 +189,6 @@ fn sample_bits(value: &[u8], little: bool) -> Result<Option<Bits>, u8> {
             width: width as u8,
             bits: bits(value, little),
         })),
-        _ => Err(Refusal::LENGTH),
+        _ => Err(Refusal::UNFIT_LENGTH),
     }
 }

@@ -7,7 +7,7 @@ use lib.IntN.{ℤ, pos, _+ℤ_}
 use mir.Syntax.{w64}
 use mir.Val.{SFits, toZ, ofZ}
 use mir.Facts.{toZ-ofZ, toZ-pos}
-use Rattle.framing.proofs.Framings.{sum-small}
+use Rattle.framing.proofs.Framings.{pointer-small, sum-small}
 use Rattle.framing.proofs.pointer_after.Statement.{statement}
 use Rattle.framing.proofs.pointer_after.Tie as tie
 
@@ -19,13 +19,13 @@ product b n h l =
     omega arith
 
 room : (c : tie.Start) → c .args .block * c .args .sequences + 2 ^ 31 ≤ 2 ^ 63
-room c = product (c .args .block) (c .args .sequences) (c .fits .block .fits) (c .pre .1)
+room c = product (c .args .block) (c .args .sequences) (c .fits .block .fits) (omega (arith, c .pre .1))
 
 sum : (c : tie.Start) → toZ w64 (ofZ w64 (c .args .start)) +ℤ toZ w64 (c .args .block * c .args .sequences) ≡ c .args .start +ℤ pos (c .args .block * c .args .sequences)
 sum c = ap₂ _+ℤ_ (toZ-ofZ (c .fits .start)) (toZ-pos w64 (omega (arith, room c)))
 
 sum-fits : (c : tie.Start) → SFits w64 (c .args .start +ℤ pos (c .args .block * c .args .sequences))
-sum-fits c = record { sfits = sum-small (c .args .start) (c .args .block * c .args .sequences) (2 ^ 31) (2 ^ 63) (c .pre .0) (room c) }
+sum-fits c = record { sfits = sum-small (c .args .start) (c .args .block * c .args .sequences) (2 ^ 31) (2 ^ 63) (pointer-small (c .args .start) (c .pre .0)) (room c) }
 
 mul-result : tie.Need-mul-result
 mul-result c = omega (arith, room c)

@@ -5,7 +5,7 @@ use Prim.Native.Nat.{_-_}
 use lib.ListN.{replicate, length-replicate}
 use Rattle.settings.specs.Settings.{channelLimit}
 use Rattle.layout.proofs.Laws.{Summing, summing-none, summed-up}
-use Rattle.pass.proofs.Scans.{channels-few}
+use Rattle.pass.proofs.Bounds.{channels-between}
 use Rattle.pass.proofs.Ahead.{bare-more}
 use Rattle.pass.proofs.root_layout.Statement.{statement}
 use Rattle.pass.proofs.root_layout.Tie as tie
@@ -26,7 +26,7 @@ none-requires : tie.Need-none-requires Inv-loop μ-loop
 none-requires c κs = search needs
 
 loop-holds : tie.Need-loop-holds Inv-loop μ-loop
-loop-holds c = summing-none _ (length-replicate channelLimit (c .before .before .before .args .st .root)) (rw (c .before .before .channels-of .ensures) (channels-few _ (c .before .before .before .pre))) (c .none .ensures)
+loop-holds c = summing-none _ (length-replicate channelLimit (c .before .before .before .args .st .root)) (rw (c .before .before .channels-of .ensures) (channels-between _ (c .before .before .before .pre) .1)) (c .none .ensures)
 
 more-requires : tie.Need-more-requires Inv-loop μ-loop
 more-requires c κs = search needs

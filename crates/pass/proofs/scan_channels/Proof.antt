@@ -1,35 +1,38 @@
--- Each turn is a law of the pass: what is left of the file, from the cursor behind the item and with what stands then, gives the verdict.
+-- Each turn is a law of the pass: the items up to the cursor behind the item lead to what stands then.
 use mathlib.Core.Path.{_≡_, refl, sym, ap, _∙_}
+use mathlib.Core.List.{[], _∷_}
+use mathlib.Core.Logic.{inl}
 use native.Mathlib.Omega.{arith}
 use borrow.Author.Needs.{needs}
 use Prim.Native.Nat.{ℕ, _≤_, _<_, _+_, _-_}
 use lib.ListN.{length, getD}
 use Rattle.items.specs.declared.Cursor.{Cursor}
-use Rattle.items.proofs.Walks.{next-later}
-use Rattle.settings.specs.Settings.{zeroSettings, applied}
+use Rattle.settings.specs.Settings.{channelLimit, zeroSettings, applied}
 use Rattle.settings.proofs.Mapped.{mapped, mapped-put}
-use Rattle.pass.specs.Verdict.{carried, withFrame}
-use Rattle.layout.proofs.Laws.{Summing, summing-none, summing-more, summed-up}
-use Rattle.pass.proofs.Scans.{Filling, filling-none, filling-more, reach-few, reached-one, reached-frame, reached-count, records-set, records-mapped, mapped-own, does-nothing, does-stands, does-count, does-all, does-one, does-outside, carried-by, found-as, Passing, passing-at, passing-goes, passing-stands, passing-filled, passing-carried, passing-met, met-room, scanned-end, scanned-fault, scanned-refuses}
-use Rattle.pass.proofs.Stretches.{opened-group, opened-nothing, opened-counted, group-entered, stretch-on}
+use Rattle.effects.specs.Effects.{effectOf}
+use Rattle.layout.proofs.Laws.{Summing, summing-none, summing-more}
+use Rattle.pass.proofs.Scans.{Filling, filling-none, filling-more, reach-few, found-as, scanned-end, scanned-fault}
+use Rattle.pass.proofs.Turns.{Passing, passing-at, passing-filled, Turn, turn-later, turn-filled, turn-nothing, turn-stands, turn-count, turn-all, turn-one, turn-outside, turn-refused, Framing, turn-framing, framing-refused, framing-room, framing-taken}
+use Rattle.pass.proofs.Stretches.{Opened, opened-group, opened-nothing, opened-counted, group-entered, stretch-on}
 use Rattle.pass.proofs.Ahead.{passing-from, passing-group}
 use Rattle.pass.proofs.scan_channels.Statement.{statement}
 use Rattle.pass.proofs.scan_channels.Tie as tie
 
 abbrev Inv-loop2 : tie.InvT-loop2
-Inv-loop2 s asked table₀ own₀ c st met root k table own = (k < 256) × Filling root own₀ table₀ own table
+Inv-loop2 s asked table₀ own₀ c st met root k table own = (k < channelLimit) × Filling root own₀ table₀ own table
 
 abbrev μ-loop2 : tie.MeasureT-loop2
 μ-loop2 s asked table₀ own₀ c st met root k table own = k + 1 - own
 
 abbrev Inv-loop3 : tie.InvT-loop3
-Inv-loop3 s asked table₀ own₀ c st met item root k effect n table own = (n ≤ 256) × Filling root own₀ table₀ own table
+Inv-loop3 s asked table₀ own₀ c st met item root k effect n table own = (n ≤ channelLimit) × Filling root own₀ table₀ own table
 
 abbrev μ-loop3 : tie.MeasureT-loop3
 μ-loop3 s asked table₀ own₀ c st met item root k effect n table own = n - own
 
 abbrev Inv-loop4 : tie.InvT-loop4
-Inv-loop4 s asked table₀ own c st met k effect n change i₀ table i = (own ≤ 256) × (length table₀ ≡ 256) × (i ≤ own) × (table ≡ mapped (applied change) i table₀)
+Inv-loop4 s asked table₀ own c st met k effect n change i₀ table i =
+    (own ≤ channelLimit) × (length table₀ ≡ channelLimit) × (i ≤ own) × (table ≡ mapped (applied change) i table₀)
 
 abbrev μ-loop4 : tie.MeasureT-loop4
 μ-loop4 s asked table₀ own c st met k effect n change i₀ table i = own - i
@@ -41,10 +44,59 @@ abbrev μ-loop5 : tie.MeasureT-loop5
 μ-loop5 s asked table own c st met item k n start len l₀ i₀ l i = n - i
 
 abbrev Inv-loop : tie.InvT-loop
-Inv-loop s asked table₀ own₀ c₀ st₀ met₀ table own c st met = Passing s asked table own c st (met .frames) (met .found) (met .size)
+Inv-loop s asked table₀ own₀ c₀ st₀ met₀ table own c st met = Passing s asked table own c st met
 
 abbrev μ-loop : tie.MeasureT-loop
 μ-loop s asked table₀ own₀ c₀ st₀ met₀ table own c st met = length s - c .at
+
+-- ---- what is known at the places on the way
+
+-- An item is met, and the cursor stands behind it.
+module _ (c : tie.After-renewed Inv-loop2 μ-loop2 Inv-loop3 μ-loop3 Inv-loop4 μ-loop4 Inv-loop5 μ-loop5 Inv-loop μ-loop) where
+  abbrev at-item : tie.After-item Inv-loop2 μ-loop2 Inv-loop3 μ-loop3 Inv-loop4 μ-loop4 Inv-loop5 μ-loop5 Inv-loop μ-loop
+  at-item = c .before .before
+
+  abbrev at-loop : tie.At-loop Inv-loop2 μ-loop2 Inv-loop3 μ-loop3 Inv-loop4 μ-loop4 Inv-loop5 μ-loop5 Inv-loop μ-loop
+  at-loop = at-item .before .before .before
+
+  abbrev at-start : tie.Start Inv-loop2 μ-loop2 Inv-loop3 μ-loop3 Inv-loop4 μ-loop4 Inv-loop5 μ-loop5 Inv-loop μ-loop
+  at-start = at-loop .before .before .before
+
+  met : let l = at-loop .loop in Turn (at-start .args .s .now) (at-start .args .asked) (l .table) (l .own) (l .c) (l .st) (l .met) (at-item .item .given .0 .0) (c .renewed .result) (effectOf (at-start .args .s .now) (l .st) (at-item .item .given .0 .0))
+  met = record { before = at-loop .loop .inv; found = sym (at-item .before .before .next-item .ensures) ∙ found-as (at-item .item .given .1) (c .renewed .ensures); asks = refl }
+
+-- The item is a group that takes effect.
+opens : (c : tie.Then1 Inv-loop2 μ-loop2 Inv-loop3 μ-loop3 Inv-loop4 μ-loop4 Inv-loop5 μ-loop5 Inv-loop μ-loop)
+    → let at-renewed = c .before .before .before in Opened (at-loop at-renewed .loop .st .counted) (at-item at-renewed .item .given .0 .0) (c .before .opened .result)
+opens c = opened-group _ _ (c .before .opened .ensures) (c .if1 .taken)
+
+-- What the item asks for is known, and the records are laid down as far as it looks at them.
+turn : (c : tie.After-loop3 Inv-loop2 μ-loop2 Inv-loop3 μ-loop3 Inv-loop4 μ-loop4 Inv-loop5 μ-loop5 Inv-loop μ-loop)
+    → let at-renewed = c .before .before .before .before .before .before .before in
+    let at-start = at-start at-renewed in
+    let l = at-loop at-renewed .loop in
+    Turn (at-start .args .s .now) (at-start .args .asked) (c .before .loop3 .table) (c .before .loop3 .own) (l .c) (l .st) (l .met) (at-item at-renewed .item .given .0 .0) (at-renewed .renewed .result) (c .before .before .before .item-effect .result)
+turn c =
+    let at-effect = c .before .before .before in
+    let m = met (at-effect .before .before .before .before) in
+    turn-filled (record { before = m .before; found = m .found; asks = at-effect .item-effect .ensures }) (c .before .loop3 .inv .1)
+
+-- What the item's waveform gives is known.
+framing : (c : tie.After-frame-of Inv-loop2 μ-loop2 Inv-loop3 μ-loop3 Inv-loop4 μ-loop4 Inv-loop5 μ-loop5 Inv-loop μ-loop)
+    → let at-sum = c .before .before in
+    let at-effect = at-sum .before .before .before in
+    let at-laid = at-effect .before .before in
+    let at-renewed = at-laid .before .before .before .before .before .before .before in
+    let at-start = at-start at-renewed in
+    let l = at-loop at-renewed .loop in
+    Framing (at-start .args .s .now) (at-start .args .asked) (at-laid .before .loop3 .table) (at-laid .before .loop3 .own) (l .c) (l .st) (l .met) (at-item at-renewed .item .given .0 .0) (at-renewed .renewed .result) (at-effect .effect3 .given .0 .0) (at-effect .effect3 .given .0 .1 .0) (at-sum .loop5 .l) (c .frame-of .result)
+framing c =
+    let at-sum = c .before .before in
+    let at-effect = at-sum .before .before .before in
+    let at-laid = at-effect .before .before in
+    turn-framing (turn at-laid) (at-effect .effect3 .given .1) (at-laid .before .before .reach .ensures) (at-laid .loop3-test .left) (at-sum .loop5 .inv) (c .before .loop5-test .left) (c .frame-of .ensures)
+
+-- ---- the needs
 
 table-requires : tie.Need-table-requires Inv-loop2 μ-loop2 Inv-loop3 μ-loop3 Inv-loop4 μ-loop4 Inv-loop5 μ-loop5 Inv-loop μ-loop
 table-requires c κs = search needs
@@ -62,7 +114,9 @@ scan-requires : tie.Need-scan-requires Inv-loop2 μ-loop2 Inv-loop3 μ-loop3 Inv
 scan-requires c κs = search needs
 
 returns : tie.Need-returns Inv-loop2 μ-loop2 Inv-loop3 μ-loop3 Inv-loop4 μ-loop4 Inv-loop5 μ-loop5 Inv-loop μ-loop
-returns c = c .scan .ensures ∙ scanned-end (c .before .before .before .before .loop .inv .pass) (c .before .before .before .next-item .ensures) (c .before .enum-told .given .1)
+returns c =
+    let at-next = c .before .before .before in
+    c .scan .ensures ∙ scanned-end (at-next .before .loop .inv .pass) (at-next .next-item .ensures) (c .before .enum-told .given .1)
 
 enum-known-x : tie.Need-enum-known-x Inv-loop2 μ-loop2 Inv-loop3 μ-loop3 Inv-loop4 μ-loop4 Inv-loop5 μ-loop5 Inv-loop μ-loop
 enum-known-x c = search needs
@@ -71,7 +125,10 @@ refused-scan-requires : tie.Need-refused-scan-requires Inv-loop2 μ-loop2 Inv-lo
 refused-scan-requires c κs = search needs
 
 returns-2 : tie.Need-returns-2 Inv-loop2 μ-loop2 Inv-loop3 μ-loop3 Inv-loop4 μ-loop4 Inv-loop5 μ-loop5 Inv-loop μ-loop
-returns-2 c = c .refused-scan .ensures ∙ scanned-fault (c .before .before .before .before .before .loop .inv .pass) _ (c .before .before .before .before .next-item .ensures) (c .before .before .x .given .1)
+returns-2 c =
+    let at-fault = c .before .before in
+    let at-next = at-fault .before .before in
+    c .refused-scan .ensures ∙ scanned-fault (at-next .before .loop .inv .pass) _ (at-next .next-item .ensures) (at-fault .x .given .1)
 
 enum-known-item : tie.Need-enum-known-item Inv-loop2 μ-loop2 Inv-loop3 μ-loop3 Inv-loop4 μ-loop4 Inv-loop5 μ-loop5 Inv-loop μ-loop
 enum-known-item c = search needs
@@ -83,7 +140,7 @@ opened-requires : tie.Need-opened-requires Inv-loop2 μ-loop2 Inv-loop3 μ-loop3
 opened-requires c κs = search needs
 
 loop2-holds : tie.Need-loop2-holds Inv-loop2 μ-loop2 Inv-loop3 μ-loop3 Inv-loop4 μ-loop4 Inv-loop5 μ-loop5 Inv-loop μ-loop
-loop2-holds c = (c .if1 .taken, filling-none (c .before .before .before .before .before .before .before .before .loop .inv .records))
+loop2-holds c = (c .if1 .taken, filling-none (met (c .before .before .before) .before .records))
 
 mul-table : tie.Need-mul-table Inv-loop2 μ-loop2 Inv-loop3 μ-loop3 Inv-loop4 μ-loop4 Inv-loop5 μ-loop5 Inv-loop μ-loop
 mul-table c = omega (arith, c .before .loop2 .inv .0, c .loop2-test .taken)
@@ -119,10 +176,21 @@ moved-requires : tie.Need-moved-requires Inv-loop2 μ-loop2 Inv-loop3 μ-loop3 I
 moved-requires c κs = search needs
 
 loop-less : tie.Need-loop-less Inv-loop2 μ-loop2 Inv-loop3 μ-loop3 Inv-loop4 μ-loop4 Inv-loop5 μ-loop5 Inv-loop μ-loop
-loop-less c = omega (arith, next-later _ _ (c .before .before .before .before .before .before .before .before .before .before .before .before .before .next-item .ensures) (found-as (c .before .before .before .before .before .before .before .before .before .before .before .item .given .1) (c .before .before .before .before .before .before .before .before .before .renewed .ensures)), stretch-on _ _ _ _ _ (c .before .before .along .ensures), ap (λ (d : Cursor). d .at) (c .moved .ensures))
+loop-less c =
+    let at-opened = c .before .before .before .before .before .before in
+    omega (arith, turn-later (met (at-opened .before .before .before)), stretch-on _ _ _ _ _ (c .before .before .along .ensures), ap (λ (d : Cursor). d .at) (c .moved .ensures))
 
 loop-again : tie.Need-loop-again Inv-loop2 μ-loop2 Inv-loop3 μ-loop3 Inv-loop4 μ-loop4 Inv-loop5 μ-loop5 Inv-loop μ-loop
-loop-again c = passing-at (passing-group (passing-filled (passing-goes (c .before .before .before .before .before .before .before .before .before .before .before .before .before .before .loop .inv) (c .before .before .before .before .before .before .before .before .before .before .before .before .before .next-item .ensures) (found-as (c .before .before .before .before .before .before .before .before .before .before .before .item .given .1) (c .before .before .before .before .before .before .before .before .before .renewed .ensures)) (c .before .before .before .before .before .before .before .before .before .before .before .before .before .before .loop .inv .records) (c .before .before .before .before .before .before .before .before .before .before .before .before .before .before .loop .inv .pass .counted) (does-nothing (c .before .before .before .before .before .before .before .before .before .before .before .before .before .before .loop .inv .records) _ _ _ _ (sym (opened-nothing _ _ (opened-group _ _ (c .before .before .before .before .before .before .before .opened .ensures) (c .before .before .before .before .before .before .if1 .taken)))) refl)) (c .before .before .before .before .before .loop2 .inv .1)) (c .before .before .before .before .before .before .before .opened .result) (group-entered _ _ (c .before .before .before .before .before .before .before .before .before .before .before .before .before .next-item .ensures) (found-as (c .before .before .before .before .before .before .before .before .before .before .before .item .given .1) (c .before .before .before .before .before .before .before .before .before .renewed .ensures)) (opened-group _ _ (c .before .before .before .before .before .before .before .opened .ensures) (c .before .before .before .before .before .before .if1 .taken))) (c .before .before .before .before .loop2-test .left) (opened-counted (opened-group _ _ (c .before .before .before .before .before .before .before .opened .ensures) (c .before .before .before .before .before .before .if1 .taken))) (c .before .before .along .ensures)) (c .moved .ensures)
+loop-again c =
+    let at-along = c .before .before in
+    let at-filled = at-along .before .before in
+    let at-opened = at-filled .before .before in
+    let at-renewed = at-opened .before .before .before in
+    let m = met at-renewed in
+    passing-at
+    (passing-group (passing-filled (turn-nothing m (opened-nothing _ _ (opens at-opened))) (at-filled .before .loop2 .inv .1)) (at-opened .before .opened .result)
+    (group-entered _ _ refl (m .found) (opens at-opened)) (at-filled .loop2-test .left) (opened-counted (opens at-opened)) (at-along .along .ensures))
+    (c .moved .ensures)
 
 item-effect-requires : tie.Need-item-effect-requires Inv-loop2 μ-loop2 Inv-loop3 μ-loop3 Inv-loop4 μ-loop4 Inv-loop5 μ-loop5 Inv-loop μ-loop
 item-effect-requires c κs = search needs
@@ -131,7 +199,7 @@ reach-requires : tie.Need-reach-requires Inv-loop2 μ-loop2 Inv-loop3 μ-loop3 I
 reach-requires c κs = search needs
 
 loop3-holds : tie.Need-loop3-holds Inv-loop2 μ-loop2 Inv-loop3 μ-loop3 Inv-loop4 μ-loop4 Inv-loop5 μ-loop5 Inv-loop μ-loop
-loop3-holds c = (rw (c .reach .ensures) (reach-few _ _), filling-none (c .before .before .before .before .before .before .before .before .before .before .loop .inv .records))
+loop3-holds c = (rw (c .reach .ensures) (reach-few _ _), filling-none (met (c .before .before .before .before .before) .before .records))
 
 mul-table-3 : tie.Need-mul-table-3 Inv-loop2 μ-loop2 Inv-loop3 μ-loop3 Inv-loop4 μ-loop4 Inv-loop5 μ-loop5 Inv-loop μ-loop
 mul-table-3 c = omega (arith, c .before .loop3 .inv .0)
@@ -155,16 +223,18 @@ standing-after-requires : tie.Need-standing-after-requires Inv-loop2 μ-loop2 In
 standing-after-requires c κs = search needs
 
 loop-less-2 : tie.Need-loop-less-2 Inv-loop2 μ-loop2 Inv-loop3 μ-loop3 Inv-loop4 μ-loop4 Inv-loop5 μ-loop5 Inv-loop μ-loop
-loop-less-2 c = omega (arith, next-later _ _ (c .before .before .before .before .before .before .before .before .before .before .before .before .before .before .next-item .ensures) (found-as (c .before .before .before .before .before .before .before .before .before .before .before .before .item .given .1) (c .before .before .before .before .before .before .before .before .before .before .renewed .ensures)))
+loop-less-2 c = omega (arith, turn-later (turn (c .before .before .before)))
 
 loop-again-2 : tie.Need-loop-again-2 Inv-loop2 μ-loop2 Inv-loop3 μ-loop3 Inv-loop4 μ-loop4 Inv-loop5 μ-loop5 Inv-loop μ-loop
-loop-again-2 c = passing-stands (passing-filled (c .before .before .before .before .before .before .before .before .before .before .before .before .before .before .before .loop .inv) (c .before .before .before .before .loop3 .inv .1)) (c .before .before .before .before .before .before .before .before .before .before .before .before .before .before .next-item .ensures) (found-as (c .before .before .before .before .before .before .before .before .before .before .before .before .item .given .1) (c .before .before .before .before .before .before .before .before .before .before .renewed .ensures)) (record { low = omega arith; full = (c .before .before .before .before .loop3 .inv .1 .records) .full }) (c .before .before .before .before .before .before .item-effect .ensures) (c .standing-after .ensures) (does-count (c .before .before .before .before .loop3 .inv .1 .records) _ _ _ _ (c .before .before .before .before .before .before .item-effect .ensures) (c .before .enum-told2 .given .1) (c .standing-after .ensures))
+loop-again-2 c = turn-count (turn (c .before .before .before)) (c .before .enum-told2 .given .1) (c .standing-after .ensures)
 
 enum-known-effect : tie.Need-enum-known-effect Inv-loop2 μ-loop2 Inv-loop3 μ-loop3 Inv-loop4 μ-loop4 Inv-loop5 μ-loop5 Inv-loop μ-loop
 enum-known-effect c = search needs
 
 loop4-holds : tie.Need-loop4-holds Inv-loop2 μ-loop2 Inv-loop3 μ-loop3 Inv-loop4 μ-loop4 Inv-loop5 μ-loop5 Inv-loop μ-loop
-loop4-holds c = (c .before .before .before .before .loop3 .inv .1 .records .low, c .before .before .before .before .loop3 .inv .1 .records .full, omega arith, refl)
+loop4-holds c =
+    let records = c .before .before .before .before .loop3 .inv .1 .records in
+    (records .low, records .full, omega arith, refl)
 
 mul-apply : tie.Need-mul-apply Inv-loop2 μ-loop2 Inv-loop3 μ-loop3 Inv-loop4 μ-loop4 Inv-loop5 μ-loop5 Inv-loop μ-loop
 mul-apply c = omega (arith, c .before .loop4 .inv .0)
@@ -188,16 +258,21 @@ loop4-less : tie.Need-loop4-less Inv-loop2 μ-loop2 Inv-loop3 μ-loop3 Inv-loop4
 loop4-less c = omega arith
 
 loop4-again : tie.Need-loop4-again Inv-loop2 μ-loop2 Inv-loop3 μ-loop3 Inv-loop4 μ-loop4 Inv-loop5 μ-loop5 Inv-loop μ-loop
-loop4-again c = (c .before .before .before .loop4 .inv .0, c .before .before .before .loop4 .inv .1, omega arith, mapped-put _ zeroSettings _ _ _ _ _ (c .before .before .before .loop4 .inv .1) (omega (arith, c .before .before .before .loop4 .inv .0, c .before .before .loop4-test .taken)) (c .before .before .before .loop4 .inv .3) (c .apply .ensures))
+loop4-again c =
+    let inv = c .before .before .before .loop4 .inv in
+    (inv .0, inv .1, omega arith, mapped-put _ zeroSettings _ _ _ _ _ (inv .1) (omega (arith, inv .0, c .before .before .loop4-test .taken)) (inv .3) (c .apply .ensures))
 
 standing-after-requires-2 : tie.Need-standing-after-requires-2 Inv-loop2 μ-loop2 Inv-loop3 μ-loop3 Inv-loop4 μ-loop4 Inv-loop5 μ-loop5 Inv-loop μ-loop
 standing-after-requires-2 c κs = search needs
 
 loop-less-3 : tie.Need-loop-less-3 Inv-loop2 μ-loop2 Inv-loop3 μ-loop3 Inv-loop4 μ-loop4 Inv-loop5 μ-loop5 Inv-loop μ-loop
-loop-less-3 c = omega (arith, next-later _ _ (c .before .before .before .before .before .before .before .before .before .before .before .before .before .before .before .before .before .next-item .ensures) (found-as (c .before .before .before .before .before .before .before .before .before .before .before .before .before .before .before .item .given .1) (c .before .before .before .before .before .before .before .before .before .before .before .before .before .renewed .ensures)))
+loop-less-3 c = omega (arith, turn-later (turn (c .before .before .before .before .before .before)))
 
 loop-again-3 : tie.Need-loop-again-3 Inv-loop2 μ-loop2 Inv-loop3 μ-loop3 Inv-loop4 μ-loop4 Inv-loop5 μ-loop5 Inv-loop μ-loop
-loop-again-3 c = passing-stands (passing-filled (c .before .before .before .before .before .before .before .before .before .before .before .before .before .before .before .before .before .before .loop .inv) (c .before .before .before .before .before .before .before .loop3 .inv .1)) (c .before .before .before .before .before .before .before .before .before .before .before .before .before .before .before .before .before .next-item .ensures) (found-as (c .before .before .before .before .before .before .before .before .before .before .before .before .before .before .before .item .given .1) (c .before .before .before .before .before .before .before .before .before .before .before .before .before .renewed .ensures)) (records-mapped (c .before .before .before .before .before .before .before .loop3 .inv .1 .records) (c .before .before .before .before .effect .given .0 .0) (c .before .before .loop4 .i) (c .before .before .loop4 .inv .3)) (sym (c .before .before .before .before .effect .given .1) ∙ c .before .before .before .before .before .before .before .before .before .item-effect .ensures) (c .standing-after2 .ensures) (does-all (c .before .before .before .before .before .before .before .loop3 .inv .1 .records) _ _ _ _ (c .before .before .before .before .before .before .before .before .before .item-effect .ensures) (c .before .before .before .before .effect .given .1) (c .standing-after2 .ensures) (mapped-own (c .before .before .before .before .before .before .before .loop3 .inv .1 .records) (c .before .before .before .before .effect .given .0 .0) (c .before .before .loop4 .i) (c .before .before .loop4 .inv .3) (c .before .before .loop4 .inv .2) (c .before .loop4-test .left)))
+loop-again-3 c =
+    let at-mapped = c .before .before in
+    let at-effect = at-mapped .before .before in
+    turn-all (turn (at-effect .before .before)) (at-mapped .loop4 .i) (at-effect .effect .given .1) (c .standing-after2 .ensures) (at-mapped .loop4 .inv .3) (at-mapped .loop4 .inv .2) (c .before .loop4-test .left)
 
 enum-known-effect-2 : tie.Need-enum-known-effect-2 Inv-loop2 μ-loop2 Inv-loop3 μ-loop3 Inv-loop4 μ-loop4 Inv-loop5 μ-loop5 Inv-loop μ-loop
 enum-known-effect-2 c = search needs
@@ -221,16 +296,19 @@ array-set-from-table-5 : tie.Need-array-set-from-table-5 Inv-loop2 μ-loop2 Inv-
 array-set-from-table-5 c = search needs
 
 loop-less-4 : tie.Need-loop-less-4 Inv-loop2 μ-loop2 Inv-loop3 μ-loop3 Inv-loop4 μ-loop4 Inv-loop5 μ-loop5 Inv-loop μ-loop
-loop-less-4 c = omega (arith, next-later _ _ (c .before .before .before .before .before .before .before .before .before .before .before .before .before .before .before .before .before .next-item .ensures) (found-as (c .before .before .before .before .before .before .before .before .before .before .before .before .before .before .before .item .given .1) (c .before .before .before .before .before .before .before .before .before .before .before .before .before .renewed .ensures)))
+loop-less-4 c = omega (arith, turn-later (turn (c .before .before .before .before .before .before)))
 
 loop-again-4 : tie.Need-loop-again-4 Inv-loop2 μ-loop2 Inv-loop3 μ-loop3 Inv-loop4 μ-loop4 Inv-loop5 μ-loop5 Inv-loop μ-loop
-loop-again-4 c = passing-goes (passing-filled (c .before .before .before .before .before .before .before .before .before .before .before .before .before .before .before .before .before .before .loop .inv) (c .before .before .before .before .before .before .before .loop3 .inv .1)) (c .before .before .before .before .before .before .before .before .before .before .before .before .before .before .before .before .before .next-item .ensures) (found-as (c .before .before .before .before .before .before .before .before .before .before .before .before .before .before .before .item .given .1) (c .before .before .before .before .before .before .before .before .before .before .before .before .before .renewed .ensures)) (records-set (c .before .before .before .before .before .before .before .loop3 .inv .1 .records) _ _) (c .before .before .before .before .before .before .before .before .before .before .before .before .before .before .before .before .before .before .loop .inv .pass .counted) (does-one (c .before .before .before .before .before .before .before .loop3 .inv .1 .records) _ _ _ _ (c .before .before .before .before .before .before .before .before .before .item-effect .ensures) (c .before .before .before .before .effect2 .given .1) (reached-one _ (c .before .before .before .before .before .before .before .before .reach .ensures) (c .before .before .before .before .effect2 .given .1) (c .before .before .before .before .before .before .loop3-test .left) (c .before .before .if2 .taken)) (c .apply2 .ensures))
+loop-again-4 c =
+    let at-effect = c .before .before .before .before in
+    let at-laid = at-effect .before .before in
+    turn-one (turn at-laid) (at-effect .effect2 .given .1) (at-laid .before .before .reach .ensures) (at-laid .loop3-test .left) (c .before .before .if2 .taken) (c .apply2 .ensures)
 
 loop-less-5 : tie.Need-loop-less-5 Inv-loop2 μ-loop2 Inv-loop3 μ-loop3 Inv-loop4 μ-loop4 Inv-loop5 μ-loop5 Inv-loop μ-loop
-loop-less-5 c = omega (arith, next-later _ _ (c .before .before .before .before .before .before .before .before .before .before .before .before .before .before .before .next-item .ensures) (found-as (c .before .before .before .before .before .before .before .before .before .before .before .before .before .item .given .1) (c .before .before .before .before .before .before .before .before .before .before .before .renewed .ensures)))
+loop-less-5 c = omega (arith, turn-later (turn (c .before .before .before .before)))
 
 loop-again-5 : tie.Need-loop-again-5 Inv-loop2 μ-loop2 Inv-loop3 μ-loop3 Inv-loop4 μ-loop4 Inv-loop5 μ-loop5 Inv-loop μ-loop
-loop-again-5 c = passing-goes (passing-filled (c .before .before .before .before .before .before .before .before .before .before .before .before .before .before .before .before .loop .inv) (c .before .before .before .before .before .loop3 .inv .1)) (c .before .before .before .before .before .before .before .before .before .before .before .before .before .before .before .next-item .ensures) (found-as (c .before .before .before .before .before .before .before .before .before .before .before .before .before .item .given .1) (c .before .before .before .before .before .before .before .before .before .before .before .renewed .ensures)) (c .before .before .before .before .before .loop3 .inv .1 .records) (c .before .before .before .before .before .before .before .before .before .before .before .before .before .before .before .before .loop .inv .pass .counted) (does-outside (c .before .before .before .before .before .loop3 .inv .1 .records) _ _ _ _ (c .before .before .before .before .before .before .before .item-effect .ensures) (c .before .before .effect2 .given .1) (c .if2 .left))
+loop-again-5 c = turn-outside (turn (c .before .before .before .before)) (c .before .before .effect2 .given .1) (c .if2 .left)
 
 enum-known-effect-3 : tie.Need-enum-known-effect-3 Inv-loop2 μ-loop2 Inv-loop3 μ-loop3 Inv-loop4 μ-loop4 Inv-loop5 μ-loop5 Inv-loop μ-loop
 enum-known-effect-3 c = search needs
@@ -239,7 +317,9 @@ none-requires : tie.Need-none-requires Inv-loop2 μ-loop2 Inv-loop3 μ-loop3 Inv
 none-requires c κs = search needs
 
 loop5-holds : tie.Need-loop5-holds Inv-loop2 μ-loop2 Inv-loop3 μ-loop3 Inv-loop4 μ-loop4 Inv-loop5 μ-loop5 Inv-loop μ-loop
-loop5-holds c = summing-none _ (c .before .before .before .before .before .loop3 .inv .1 .records .full) (c .before .before .before .before .before .loop3 .inv .0) (c .none .ensures)
+loop5-holds c =
+    let at-laid = c .before .before .before .before .before in
+    summing-none _ (at-laid .loop3 .inv .1 .records .full) (at-laid .loop3 .inv .0) (c .none .ensures)
 
 mul-more : tie.Need-mul-more Inv-loop2 μ-loop2 Inv-loop3 μ-loop3 Inv-loop4 μ-loop4 Inv-loop5 μ-loop5 Inv-loop μ-loop
 mul-more c = omega (arith, c .before .loop5 .inv .few)
@@ -269,8 +349,7 @@ refused-item-requires : tie.Need-refused-item-requires Inv-loop2 μ-loop2 Inv-lo
 refused-item-requires c κs = search needs
 
 returns-3 : tie.Need-returns-3 Inv-loop2 μ-loop2 Inv-loop3 μ-loop3 Inv-loop4 μ-loop4 Inv-loop5 μ-loop5 Inv-loop μ-loop
-unfolding withFrame
-returns-3 c = c .refused-item .ensures ∙ scanned-refuses ((passing-filled (c .before .before .before .before .before .before .before .before .before .before .before .before .before .before .before .before .before .before .before .before .before .before .before .loop .inv) (c .before .before .before .before .before .before .before .before .before .before .before .before .loop3 .inv .1)) .pass) _ _ (c .before .before .before .before .before .before .before .before .before .before .before .before .before .before .before .before .before .before .before .before .before .before .next-item .ensures) (found-as (c .before .before .before .before .before .before .before .before .before .before .before .before .before .before .before .before .before .before .before .before .item .given .1) (c .before .before .before .before .before .before .before .before .before .before .before .before .before .before .before .before .before .before .renewed .ensures)) refl (passing-carried (passing-filled (c .before .before .before .before .before .before .before .before .before .before .before .before .before .before .before .before .before .before .before .before .before .before .before .loop .inv) (c .before .before .before .before .before .before .before .before .before .before .before .before .loop3 .inv .1)) _ (c .before .before .before .before .before .before .loop5 .l) refl (summed-up (c .before .before .before .before .before .before .loop5 .inv) _ (reached-count _ (c .before .before .before .before .before .before .before .before .before .before .before .before .before .reach .ensures) (c .before .before .before .before .before .before .before .before .before .effect3 .given .1) (c .before .before .before .before .before .before .before .before .before .before .before .before .before .before .before .before .before .before .before .before .before .before .before .loop .inv .pass .counted) refl) (c .before .before .before .before .before .loop5-test .left)) (reached-frame _ (c .before .before .before .before .before .before .before .before .before .before .before .before .before .reach .ensures) (c .before .before .before .before .before .before .before .before .before .effect3 .given .1) (c .before .before .before .before .before .before .before .before .before .before .before .loop3-test .left) (c .before .before .before .before .before .before .before .before .before .before .before .before .before .before .before .before .before .before .before .before .before .before .before .loop .inv .pass .counted) refl) _ _ _ (c .before .before .before .before .before .before .before .before .before .before .before .before .before .before .item-effect .ensures) (c .before .before .before .before .before .before .before .before .before .effect3 .given .1) (c .before .before .before .before .frame-of .ensures) (c .before .before .number .given .1))
+returns-3 c = c .refused-item .ensures ∙ framing-refused (framing (c .before .before .before .before)) (c .before .before .number .given .1)
 
 enum-known-sequences : tie.Need-enum-known-sequences Inv-loop2 μ-loop2 Inv-loop3 μ-loop3 Inv-loop4 μ-loop4 Inv-loop5 μ-loop5 Inv-loop μ-loop
 enum-known-sequences c = search needs
@@ -285,13 +364,21 @@ array-copy-out-with-frame : tie.Need-array-copy-out-with-frame Inv-loop2 μ-loop
 array-copy-out-with-frame c = search needs
 
 with-frame-requires : tie.Need-with-frame-requires Inv-loop2 μ-loop2 Inv-loop3 μ-loop3 Inv-loop4 μ-loop4 Inv-loop5 μ-loop5 Inv-loop μ-loop
-with-frame-requires c κs = met-room (passing-filled (c .before .before .before .before .before .before .before .before .before .before .before .before .before .before .before .before .before .before .before .before .before .before .before .before .loop .inv) (c .before .before .before .before .before .before .before .before .before .before .before .before .before .loop3 .inv .1)) (c .before .before .before .before .before .before .before .loop5 .l) (summed-up (c .before .before .before .before .before .before .before .loop5 .inv) _ (reached-count _ (c .before .before .before .before .before .before .before .before .before .before .before .before .before .before .reach .ensures) (c .before .before .before .before .before .before .before .before .before .before .effect3 .given .1) (c .before .before .before .before .before .before .before .before .before .before .before .before .before .before .before .before .before .before .before .before .before .before .before .before .loop .inv .pass .counted) refl) (c .before .before .before .before .before .before .loop5-test .left)) (reached-frame _ (c .before .before .before .before .before .before .before .before .before .before .before .before .before .before .reach .ensures) (c .before .before .before .before .before .before .before .before .before .before .effect3 .given .1) (c .before .before .before .before .before .before .before .before .before .before .before .before .loop3-test .left) (c .before .before .before .before .before .before .before .before .before .before .before .before .before .before .before .before .before .before .before .before .before .before .before .before .loop .inv .pass .counted) refl) (c .before .before .before .before .before .before .before .before .before .before .effect3 .given .0 .1 .0) (c .before .before .before .before .before .frame-of .ensures) (c .before .before .before .sequences .given .1)
+with-frame-requires c κs =
+    let at-taken = c .before .before .before in
+    framing-room (framing (at-taken .before .before)) (at-taken .sequences .given .1)
 
 loop-less-6 : tie.Need-loop-less-6 Inv-loop2 μ-loop2 Inv-loop3 μ-loop3 Inv-loop4 μ-loop4 Inv-loop5 μ-loop5 Inv-loop μ-loop
-loop-less-6 c = omega (arith, next-later _ _ (c .before .before .before .before .before .before .before .before .before .before .before .before .before .before .before .before .before .before .before .before .before .before .before .before .next-item .ensures) (found-as (c .before .before .before .before .before .before .before .before .before .before .before .before .before .before .before .before .before .before .before .before .before .before .item .given .1) (c .before .before .before .before .before .before .before .before .before .before .before .before .before .before .before .before .before .before .before .before .renewed .ensures)))
+loop-less-6 c =
+    let at-frame = c .before .before .before .before .before .before in
+    omega (arith, turn-later (framing at-frame .turn))
 
 loop-again-6 : tie.Need-loop-again-6 Inv-loop2 μ-loop2 Inv-loop3 μ-loop3 Inv-loop4 μ-loop4 Inv-loop5 μ-loop5 Inv-loop μ-loop
-loop-again-6 c = passing-met (passing-filled (c .before .before .before .before .before .before .before .before .before .before .before .before .before .before .before .before .before .before .before .before .before .before .before .before .before .loop .inv) (c .before .before .before .before .before .before .before .before .before .before .before .before .before .before .loop3 .inv .1)) (c .before .before .before .before .before .before .before .before .loop5 .l) (summed-up (c .before .before .before .before .before .before .before .before .loop5 .inv) _ (reached-count _ (c .before .before .before .before .before .before .before .before .before .before .before .before .before .before .before .reach .ensures) (c .before .before .before .before .before .before .before .before .before .before .before .effect3 .given .1) (c .before .before .before .before .before .before .before .before .before .before .before .before .before .before .before .before .before .before .before .before .before .before .before .before .before .loop .inv .pass .counted) refl) (c .before .before .before .before .before .before .before .loop5-test .left)) (reached-frame _ (c .before .before .before .before .before .before .before .before .before .before .before .before .before .before .before .reach .ensures) (c .before .before .before .before .before .before .before .before .before .before .before .effect3 .given .1) (c .before .before .before .before .before .before .before .before .before .before .before .before .before .loop3-test .left) (c .before .before .before .before .before .before .before .before .before .before .before .before .before .before .before .before .before .before .before .before .before .before .before .before .before .loop .inv .pass .counted) refl) (c .before .before .before .before .before .before .before .before .before .before .before .effect3 .given .0 .1 .0) (c .before .before .before .before .before .before .frame-of .ensures) (c .before .before .before .before .sequences .given .1) (c .before .before .before .before .before .before .before .before .before .before .before .before .before .before .before .before .before .before .before .before .before .before .before .before .next-item .ensures) (found-as (c .before .before .before .before .before .before .before .before .before .before .before .before .before .before .before .before .before .before .before .before .before .before .item .given .1) (c .before .before .before .before .before .before .before .before .before .before .before .before .before .before .before .before .before .before .before .before .renewed .ensures)) (c .before .before .before .before .before .before .before .before .before .before .before .before .before .before .before .before .item-effect .ensures) (c .before .before .before .before .before .before .before .before .before .before .before .effect3 .given .1) (ap (λ (k : ℕ). getD (c .before .before .before .before .before .before .before .before .before .before .before .before .before .before .loop3 .table) k zeroSettings) (c .before .before .index .ensures)) (c .with-frame .ensures)
+loop-again-6 c =
+    let at-taken = c .before .before .before .before in
+    let at-frame = at-taken .before .before in
+    let table = at-frame .before .before .before .before .before .before .before .before .loop3 .table in
+    framing-taken (framing at-frame) (at-taken .sequences .given .1) (ap (λ (k : ℕ). getD table k zeroSettings) (c .before .before .index .ensures)) (c .with-frame .ensures)
 
 enum-known-effect-4 : tie.Need-enum-known-effect-4 Inv-loop2 μ-loop2 Inv-loop3 μ-loop3 Inv-loop4 μ-loop4 Inv-loop5 μ-loop5 Inv-loop μ-loop
 enum-known-effect-4 c = search needs
@@ -300,17 +387,18 @@ refused-item-requires-2 : tie.Need-refused-item-requires-2 Inv-loop2 μ-loop2 In
 refused-item-requires-2 c κs = search needs
 
 returns-4 : tie.Need-returns-4 Inv-loop2 μ-loop2 Inv-loop3 μ-loop3 Inv-loop4 μ-loop4 Inv-loop5 μ-loop5 Inv-loop μ-loop
-unfolding carried
-returns-4 c = c .refused-item2 .ensures ∙ scanned-refuses ((passing-filled (c .before .before .before .before .before .before .before .before .before .before .before .before .before .before .before .before .loop .inv) (c .before .before .before .before .before .loop3 .inv .1)) .pass) _ _ (c .before .before .before .before .before .before .before .before .before .before .before .before .before .before .before .next-item .ensures) (found-as (c .before .before .before .before .before .before .before .before .before .before .before .before .before .item .given .1) (c .before .before .before .before .before .before .before .before .before .before .before .renewed .ensures)) refl (carried-by _ _ _ (c .before .before .before .before .before .before .before .item-effect .ensures) (c .before .before .effect4 .given .1))
+returns-4 c =
+    let at-effect = c .before .before in
+    c .refused-item2 .ensures ∙ turn-refused (turn (at-effect .before .before)) (at-effect .effect4 .given .1)
 
 standing-after-requires-3 : tie.Need-standing-after-requires-3 Inv-loop2 μ-loop2 Inv-loop3 μ-loop3 Inv-loop4 μ-loop4 Inv-loop5 μ-loop5 Inv-loop μ-loop
 standing-after-requires-3 c κs = search needs
 
 loop-less-7 : tie.Need-loop-less-7 Inv-loop2 μ-loop2 Inv-loop3 μ-loop3 Inv-loop4 μ-loop4 Inv-loop5 μ-loop5 Inv-loop μ-loop
-loop-less-7 c = omega (arith, next-later _ _ (c .before .before .before .before .before .before .before .before .before .before .before .before .before .next-item .ensures) (found-as (c .before .before .before .before .before .before .before .before .before .before .before .item .given .1) (c .before .before .before .before .before .before .before .before .before .renewed .ensures)))
+loop-less-7 c = omega (arith, turn-later (turn (c .before .before)))
 
 loop-again-7 : tie.Need-loop-again-7 Inv-loop2 μ-loop2 Inv-loop3 μ-loop3 Inv-loop4 μ-loop4 Inv-loop5 μ-loop5 Inv-loop μ-loop
-loop-again-7 c = passing-stands (passing-filled (c .before .before .before .before .before .before .before .before .before .before .before .before .before .before .loop .inv) (c .before .before .before .loop3 .inv .1)) (c .before .before .before .before .before .before .before .before .before .before .before .before .before .next-item .ensures) (found-as (c .before .before .before .before .before .before .before .before .before .before .before .item .given .1) (c .before .before .before .before .before .before .before .before .before .renewed .ensures)) (c .before .before .before .loop3 .inv .1 .records) (c .before .before .before .before .before .item-effect .ensures) (c .standing-after3 .ensures) (does-stands (c .before .before .before .loop3 .inv .1 .records) _ _ _ _ (c .before .before .before .before .before .item-effect .ensures) (c .before .match2 .keys6) (c .standing-after3 .ensures))
+loop-again-7 c = turn-stands (turn (c .before .before)) (0 ∷ 1 ∷ 3 ∷ 4 ∷ []) (tt, tt, tt, tt) (inl tt) (c .before .match2 .keys6) (c .standing-after3 .ensures)
 
 pub scan-channels-spec : {M : Type 1} → statement M
 scan-channels-spec =

@@ -1,27 +1,42 @@
--- Each turn is a law of the pass, where no record is laid down: what is left of the file, from the cursor behind the item and with what stands
--- then, gives the verdict.
-use mathlib.Core.Path.{refl, ap, _∙_}
+-- Each turn is a law of the pass, where no record is laid down: the items up to the cursor behind the item lead to what stands then.
+use mathlib.Core.Path.{refl, sym, ap, _∙_}
+use mathlib.Core.List.{[], _∷_}
+use mathlib.Core.Logic.{inr}
 use native.Mathlib.Omega.{arith}
 use borrow.Author.Needs.{needs}
 use Prim.Native.Nat.{_-_}
 use lib.ListN.{length}
 use Rattle.items.specs.declared.Cursor.{Cursor}
 use Rattle.items.specs.Walk.{cursor}
-use Rattle.items.proofs.Walks.{next-later}
 use Rattle.settings.specs.Settings.{defaultTable}
 use Rattle.effects.specs.Effects.{standingAfter}
-use Rattle.pass.specs.Verdict.{carried, withFrame}
-use Rattle.pass.proofs.Scans.{does-all, does-bare, carried-by, found-as, Passing, passing-first, passing-at, passing-stands, passing-carried, scanned-end, scanned-fault, scanned-refuses}
+use Rattle.pass.proofs.Scans.{scanned-end, scanned-fault}
+use Rattle.pass.proofs.Turns.{Passing, passing-first, passing-at, passing-counted, Turn, turn-later, turn-stands, turn-all, turn-refused, framing-refused, framing-room}
 use Rattle.pass.proofs.Stretches.{begins-root}
-use Rattle.pass.proofs.Ahead.{passing-root, bare-scanning, bare-full, bare-few, bare-room, bare-met}
+use Rattle.pass.proofs.Ahead.{passing-root, bare-scanning, bare-framing, bare-taken}
 use Rattle.pass.proofs.scan_root.Statement.{statement}
 use Rattle.pass.proofs.scan_root.Tie as tie
 
 abbrev Inv-loop : tie.InvT-loop
-Inv-loop s asked c₀ st₀ met₀ c st met = Passing s asked defaultTable 0 c st (met .frames) (met .found) (met .size)
+Inv-loop s asked c₀ st₀ met₀ c st met = Passing s asked defaultTable 0 c st met
 
 abbrev μ-loop : tie.MeasureT-loop
 μ-loop s asked c₀ st₀ met₀ c st met = length s - c .at
+
+-- ---- what is known at the places on the way
+
+-- An item is met, and what it asks for is known.
+turn : (c : tie.After-item-effect Inv-loop μ-loop)
+    → let at-item = c .before .before in
+    let at-loop = at-item .before .before .before .before .before in
+    let at-start = at-loop .before .before .before .before .before in
+    Turn (at-start .args .s .now) (at-start .args .asked) defaultTable 0 (at-loop .loop .c) (at-loop .loop .st) (at-loop .loop .met) (at-item .item .given .0 .0) (at-item .item .given .0 .1 .0) (c .item-effect .result)
+turn c =
+    let at-item = c .before .before in
+    let at-next = at-item .before .before in
+    record { before = at-next .before .before .before .loop .inv; found = sym (at-next .next-item .ensures) ∙ at-item .item .given .1; asks = c .item-effect .ensures }
+
+-- ---- the needs
 
 first-requires : tie.Need-first-requires Inv-loop μ-loop
 first-requires c κs = search needs
@@ -33,7 +48,9 @@ none-requires : tie.Need-none-requires Inv-loop μ-loop
 none-requires c κs = search needs
 
 loop-holds : tie.Need-loop-holds Inv-loop μ-loop
-loop-holds c = passing-first _ _ defaultTable _ _ (c .before .before .before .before .pre) refl (c .before .before .first .ensures) (c .before .first2 .ensures) (c .none .ensures)
+loop-holds c =
+    let at-first = c .before .before in
+    passing-first _ _ defaultTable _ _ (at-first .before .before .pre) refl (at-first .first .ensures) (c .before .first2 .ensures) (c .none .ensures)
 
 begins-requires : tie.Need-begins-requires Inv-loop μ-loop
 begins-requires c κs = search needs
@@ -48,10 +65,18 @@ moved-requires : tie.Need-moved-requires Inv-loop μ-loop
 moved-requires c κs = search needs
 
 loop-less : tie.Need-loop-less Inv-loop μ-loop
-loop-less c = omega (arith, (begins-root _ _ (c .before .before .before .before .before .before .before .before .begins .ensures) (c .before .before .before .before .before .before .before .if1 .taken) .1), c .before .before .before .if2 .taken, ap (λ (d : Cursor). d .at) (c .moved .ensures))
+loop-less c =
+    let at-longer = c .before .before .before in
+    let at-begins = at-longer .before .before .before .before in
+    omega (arith, begins-root _ _ (at-begins .before .begins .ensures) (at-begins .if1 .taken) .1, at-longer .if2 .taken, ap (λ (d : Cursor). d .at) (c .moved .ensures))
 
 loop-again : tie.Need-loop-again Inv-loop μ-loop
-loop-again c = passing-at (passing-root (c .before .before .before .before .before .before .before .before .before .loop .inv) (begins-root _ _ (c .before .before .before .before .before .before .before .before .begins .ensures) (c .before .before .before .before .before .before .before .if1 .taken) .0) refl (c .before .before .before .before .before .before .root-stretch .ensures) (c .before .with-root .ensures)) (c .moved .ensures ∙ ap (cursor (c .before .before .before .before .before .before .root-stretch .result .at)) (begins-root _ _ (c .before .before .before .before .before .before .before .before .begins .ensures) (c .before .before .before .before .before .before .before .if1 .taken) .0))
+loop-again c =
+    let at-stretch = c .before .before .before .before .before .before in
+    let at-begins = at-stretch .before in
+    let root = begins-root _ _ (at-begins .before .begins .ensures) (at-begins .if1 .taken) .0 in
+    passing-at (passing-root (at-begins .before .before .loop .inv) root refl (at-stretch .root-stretch .ensures) (c .before .with-root .ensures))
+    (c .moved .ensures ∙ ap (cursor (at-stretch .root-stretch .result .at)) root)
 
 next-item-requires : tie.Need-next-item-requires Inv-loop μ-loop
 next-item-requires c κs = search needs
@@ -63,7 +88,9 @@ scan-requires : tie.Need-scan-requires Inv-loop μ-loop
 scan-requires c κs = search needs
 
 returns : tie.Need-returns Inv-loop μ-loop
-returns c = c .scan .ensures ∙ scanned-end (c .before .before .before .before .before .before .loop .inv .pass) (c .before .before .before .next-item .ensures) (c .before .enum-told .given .1)
+returns c =
+    let at-next = c .before .before .before in
+    c .scan .ensures ∙ scanned-end (at-next .before .before .before .loop .inv .pass) (at-next .next-item .ensures) (c .before .enum-told .given .1)
 
 enum-known-x : tie.Need-enum-known-x Inv-loop μ-loop
 enum-known-x c = search needs
@@ -72,7 +99,10 @@ refused-scan-requires : tie.Need-refused-scan-requires Inv-loop μ-loop
 refused-scan-requires c κs = search needs
 
 returns-2 : tie.Need-returns-2 Inv-loop μ-loop
-returns-2 c = c .refused-scan .ensures ∙ scanned-fault (c .before .before .before .before .before .before .before .loop .inv .pass) _ (c .before .before .before .before .next-item .ensures) (c .before .before .x .given .1)
+returns-2 c =
+    let at-fault = c .before .before in
+    let at-next = at-fault .before .before in
+    c .refused-scan .ensures ∙ scanned-fault (at-next .before .before .before .loop .inv .pass) _ (at-next .next-item .ensures) (at-fault .x .given .1)
 
 enum-known-item : tie.Need-enum-known-item Inv-loop μ-loop
 enum-known-item c = search needs
@@ -90,16 +120,19 @@ renewed-requires : tie.Need-renewed-requires Inv-loop μ-loop
 renewed-requires c κs = search needs
 
 loop-less-2 : tie.Need-loop-less-2 Inv-loop μ-loop
-loop-less-2 c = omega (arith, next-later _ _ (c .before .before .before .before .before .before .before .before .next-item .ensures) (found-as (c .before .before .before .before .before .before .item .given .1) (c .renewed .ensures)))
+loop-less-2 c = omega (arith, turn-later (turn (c .before .before .before .before)), ap (λ (d : Cursor). d .at) (c .renewed .ensures))
 
 loop-again-2 : tie.Need-loop-again-2 Inv-loop μ-loop
-loop-again-2 c = passing-stands (c .before .before .before .before .before .before .before .before .before .before .before .loop .inv) (c .before .before .before .before .before .before .before .before .next-item .ensures) (found-as (c .before .before .before .before .before .before .item .given .1) (c .renewed .ensures)) (c .before .before .before .before .before .before .before .before .before .before .before .loop .inv .records) (c .before .before .before .before .item-effect .ensures) (c .before .standing-after .ensures) (does-all (c .before .before .before .before .before .before .before .before .before .before .before .loop .inv .records) _ _ _ _ (c .before .before .before .before .item-effect .ensures) (c .before .before .enum-told2 .given .1) (c .before .standing-after .ensures ∙ ap (standingAfter _) (c .before .before .enum-told2 .given .1)) refl)
+loop-again-2 c =
+    let at-all = c .before .before in
+    passing-at (turn-all (turn (at-all .before .before)) 0 (at-all .enum-told2 .given .1) (c .before .standing-after .ensures ∙ ap (standingAfter _) (at-all .enum-told2 .given .1)) refl (omega arith) (omega arith))
+    (c .renewed .ensures)
 
 enum-told-3 : tie.Need-enum-told-3 Inv-loop μ-loop
 enum-told-3 c = search needs
 
 scan-channels-requires : tie.Need-scan-channels-requires Inv-loop μ-loop
-scan-channels-requires c κs = bare-scanning (c .before .before .before .before .before .before .before .before .before .loop .inv)
+scan-channels-requires c κs = bare-scanning (turn (c .before .before) .before)
 
 returns-3 : tie.Need-returns-3 Inv-loop μ-loop
 returns-3 c = c .scan-channels .ensures
@@ -108,7 +141,7 @@ enum-known-effect : tie.Need-enum-known-effect Inv-loop μ-loop
 enum-known-effect c = search needs
 
 root-layout-requires : tie.Need-root-layout-requires Inv-loop μ-loop
-root-layout-requires c κs = c .before .before .before .before .before .before .before .before .before .before .loop .inv .pass .counted
+root-layout-requires c κs = passing-counted (turn (c .before .before .before) .before)
 
 frame-of-requires : tie.Need-frame-of-requires Inv-loop μ-loop
 frame-of-requires c κs = search needs
@@ -120,23 +153,40 @@ refused-item-requires : tie.Need-refused-item-requires Inv-loop μ-loop
 refused-item-requires c κs = search needs
 
 returns-4 : tie.Need-returns-4 Inv-loop μ-loop
-unfolding withFrame
-returns-4 c = c .refused-item .ensures ∙ scanned-refuses (bare-full (c .before .before .before .before .before .before .before .before .before .before .before .before .before .before .before .before .loop .inv) .pass) _ _ (c .before .before .before .before .before .before .before .before .before .before .before .before .before .next-item .ensures) (c .before .before .before .before .before .before .before .before .before .before .before .item .given .1) refl (passing-carried (bare-full (c .before .before .before .before .before .before .before .before .before .before .before .before .before .before .before .before .loop .inv)) _ _ refl (c .before .before .before .before .before .root-layout .ensures) (bare-few (c .before .before .before .before .before .before .before .before .before .before .before .before .before .before .before .before .loop .inv) _ refl) _ _ _ (c .before .before .before .before .before .before .before .before .before .item-effect .ensures) (c .before .before .before .before .before .before .before .effect .given .1) (c .before .before .before .before .frame-of .ensures) (c .before .before .number .given .1))
+returns-4 c =
+    let at-number = c .before .before in
+    let at-frame = at-number .before .before in
+    let at-layout = at-frame .before in
+    let at-effect = at-layout .before .before in
+    c .refused-item .ensures ∙ framing-refused (bare-framing (turn (at-effect .before .before)) (at-effect .effect .given .1) (at-layout .root-layout .ensures) (at-frame .frame-of .ensures)) (at-number .number .given .1)
 
 enum-known-sequences : tie.Need-enum-known-sequences Inv-loop μ-loop
 enum-known-sequences c = search needs
 
 with-frame-requires : tie.Need-with-frame-requires Inv-loop μ-loop
-with-frame-requires c κs = bare-room (c .before .before .before .before .before .before .before .before .before .before .before .before .before .before .before .loop .inv) _ (c .before .before .before .before .root-layout .ensures) (c .before .before .before .before .before .before .effect .given .0 .1 .0) (c .before .before .before .frame-of .ensures) (c .before .sequences .given .1)
+with-frame-requires c κs =
+    let at-taken = c .before in
+    let at-frame = at-taken .before .before in
+    let at-layout = at-frame .before in
+    let at-effect = at-layout .before .before in
+    framing-room (bare-framing (turn (at-effect .before .before)) (at-effect .effect .given .1) (at-layout .root-layout .ensures) (at-frame .frame-of .ensures)) (at-taken .sequences .given .1)
 
 renewed-requires-2 : tie.Need-renewed-requires-2 Inv-loop μ-loop
 renewed-requires-2 c κs = search needs
 
 loop-less-3 : tie.Need-loop-less-3 Inv-loop μ-loop
-loop-less-3 c = omega (arith, next-later _ _ (c .before .before .before .before .before .before .before .before .before .before .before .before .before .before .next-item .ensures) (found-as (c .before .before .before .before .before .before .before .before .before .before .before .before .item .given .1) (c .renewed2 .ensures)))
+loop-less-3 c =
+    let at-frame = c .before .before .before .before .before in
+    omega (arith, turn-later (turn (at-frame .before .before .before .before .before)), ap (λ (d : Cursor). d .at) (c .renewed2 .ensures))
 
 loop-again-3 : tie.Need-loop-again-3 Inv-loop μ-loop
-loop-again-3 c = bare-met (c .before .before .before .before .before .before .before .before .before .before .before .before .before .before .before .before .before .loop .inv) _ (c .before .before .before .before .before .before .root-layout .ensures) (c .before .before .before .before .before .before .before .before .effect .given .0 .1 .0) (c .before .before .before .before .before .frame-of .ensures) (c .before .before .before .sequences .given .1) (c .before .before .before .before .before .before .before .before .before .before .before .before .before .before .next-item .ensures) (found-as (c .before .before .before .before .before .before .before .before .before .before .before .before .item .given .1) (c .renewed2 .ensures)) (c .before .before .before .before .before .before .before .before .before .before .item-effect .ensures) (c .before .before .before .before .before .before .before .before .effect .given .1) (c .before .with-frame .ensures)
+loop-again-3 c =
+    let at-taken = c .before .before .before in
+    let at-frame = at-taken .before .before in
+    let at-layout = at-frame .before in
+    let at-effect = at-layout .before .before in
+    passing-at (bare-taken (turn (at-effect .before .before)) (at-effect .effect .given .1) (at-layout .root-layout .ensures) (at-frame .frame-of .ensures) (at-taken .sequences .given .1) (c .before .with-frame .ensures))
+    (c .renewed2 .ensures)
 
 enum-known-effect-2 : tie.Need-enum-known-effect-2 Inv-loop μ-loop
 enum-known-effect-2 c = search needs
@@ -145,8 +195,9 @@ refused-item-requires-2 : tie.Need-refused-item-requires-2 Inv-loop μ-loop
 refused-item-requires-2 c κs = search needs
 
 returns-5 : tie.Need-returns-5 Inv-loop μ-loop
-unfolding carried
-returns-5 c = c .refused-item2 .ensures ∙ scanned-refuses (c .before .before .before .before .before .before .before .before .before .before .before .loop .inv .pass) _ _ (c .before .before .before .before .before .before .before .before .next-item .ensures) (c .before .before .before .before .before .before .item .given .1) refl (carried-by _ _ _ (c .before .before .before .before .item-effect .ensures) (c .before .before .effect2 .given .1))
+returns-5 c =
+    let at-effect = c .before .before in
+    c .refused-item2 .ensures ∙ turn-refused (turn (at-effect .before .before)) (at-effect .effect2 .given .1)
 
 standing-after-requires-2 : tie.Need-standing-after-requires-2 Inv-loop μ-loop
 standing-after-requires-2 c κs = search needs
@@ -155,10 +206,13 @@ renewed-requires-3 : tie.Need-renewed-requires-3 Inv-loop μ-loop
 renewed-requires-3 c κs = search needs
 
 loop-less-4 : tie.Need-loop-less-4 Inv-loop μ-loop
-loop-less-4 c = omega (arith, next-later _ _ (c .before .before .before .before .before .before .before .next-item .ensures) (found-as (c .before .before .before .before .before .item .given .1) (c .renewed3 .ensures)))
+loop-less-4 c = omega (arith, turn-later (turn (c .before .before .before)), ap (λ (d : Cursor). d .at) (c .renewed3 .ensures))
 
 loop-again-4 : tie.Need-loop-again-4 Inv-loop μ-loop
-loop-again-4 c = passing-stands (c .before .before .before .before .before .before .before .before .before .before .loop .inv) (c .before .before .before .before .before .before .before .next-item .ensures) (found-as (c .before .before .before .before .before .item .given .1) (c .renewed3 .ensures)) (c .before .before .before .before .before .before .before .before .before .before .loop .inv .records) (c .before .before .before .item-effect .ensures) (c .before .standing-after2 .ensures) (does-bare (c .before .before .before .before .before .before .before .before .before .before .loop .inv .records) _ _ _ _ (c .before .before .before .item-effect .result) (c .before .before .before .item-effect .ensures) (c .before .before .match2 .keys5) (c .before .standing-after2 .ensures))
+loop-again-4 c =
+    let at-arm = c .before .before in
+    passing-at (turn-stands (turn (at-arm .before)) (0 ∷ 1 ∷ 2 ∷ 3 ∷ 4 ∷ []) (tt, tt, tt, tt) (inr refl) (at-arm .match2 .keys5) (c .before .standing-after2 .ensures))
+    (c .renewed3 .ensures)
 
 pub scan-root-spec : {M : Type 1} → statement M
 scan-root-spec =

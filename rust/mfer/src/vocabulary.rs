@@ -1,0 +1,113 @@
+//! One vocabulary: refusals and kinds of values have the same names, numbers and words in this crate,
+//! in the header, in the definitions and in Rattle, and the same names in the second program.
+
+use crate::ffi::Sampled;
+use crate::refusal::REFUSALS;
+use crate::value::{Sample, Value};
+
+const HEADER: &str = include_str!("../../../include/mfer.h");
+const DEFINITIONS: &str = include_str!("../../../crates/heads/specs/Refusals.antt");
+const RATTLE: &str = include_str!("../../../crates/heads/src/lib.rt");
+const VALUES: &str = include_str!("../../../crates/values/specs/Sample.antt");
+const SECOND: &str = include_str!("../../second/src/reader.rs");
+
+/// A name, its number and its words.
+type Entry = (String, u32, String);
+
+fn entry(name: &str, number: &str, words: &str) -> Entry {
+    let words = words.split_whitespace().collect::<Vec<_>>().join(" ");
+    (name.into(), number.parse().expect(name), words)
+}
+
+/// The `#define`s of the header from behind one line to the next blank one.
+fn defined(from: &str) -> Vec<Entry> {
+    let (_, rest) = HEADER.split_once(from).expect(from);
+    let (section, _) = rest.split_once("\n\n").expect("a blank line");
+    let define = |define: &str| {
+        let (name, rest) = define.split_once(' ').expect("a number");
+        let (number, comment) = rest.split_once("u ").expect("a comment");
+        entry(name, number, comment.trim().trim_matches(['/', '*']))
+    };
+    let defines = section.split("#define MFER_").skip(1);
+    defines.map(define).collect()
+}
+
+/// The constants of a `Refusal` in Rattle or Rust, with no words.
+fn constants(source: &str) -> Vec<Entry> {
+    let constant = |line: &str| {
+        let line = line.trim().strip_prefix("pub const ")?.strip_suffix(';')?;
+        let (name, number) = line.split_once(": u8 = ")?;
+        Some(entry(name, number, ""))
+    };
+    source.lines().filter_map(constant).collect()
+}
+
+/// The definitions `noFrame = 20`, each with the comment above it, `-- 20: no such frame`.
+fn definitions() -> Vec<Entry> {
+    let definition = |paragraph: &str| {
+        let (comment, rest) = paragraph.strip_prefix("-- ")?.split_once('\n')?;
+        let (said, words) = comment.split_once(": ")?;
+        let (name, number) = rest.lines().nth(1)?.split_once(" = ")?;
+        assert_eq!(said, number, "{name}");
+        Some(entry(&upper(name), number, words))
+    };
+    DEFINITIONS.split("\n\n").filter_map(definition).collect()
+}
+
+/// `noFrame` and `NoFrame` as `NO_FRAME`.
+fn upper(name: &str) -> String {
+    let mut upper = String::new();
+    for letter in name.chars() {
+        if letter.is_uppercase() && !upper.is_empty() {
+            upper.push('_');
+        }
+        upper.extend(letter.to_uppercase());
+    }
+    upper
+}
+
+#[test]
+fn refusals_have_one_vocabulary() {
+    let here = REFUSALS
+        .iter()
+        .map(|(name, number, words)| entry(name, &number.to_string(), words));
+    let here: Vec<Entry> = here.collect();
+    assert_eq!(defined("/* no refusal */\n"), here);
+    assert_eq!(definitions(), here);
+    let wordless = |(name, number, _)| (name, number, String::new());
+    let here: Vec<Entry> = here.into_iter().map(wordless).collect();
+    assert_eq!(constants(RATTLE), here);
+    assert_eq!(constants(SECOND), here);
+}
+
+/// The value of a sample of a kind whose bits are all zero.
+fn of_kind(kind: u32) -> Value {
+    let sampled = Sampled {
+        number: 0,
+        place: 0,
+        kind,
+        whole: 0,
+        bits: 0,
+    };
+    Sample::of(&sampled).value
+}
+
+#[test]
+fn kinds_have_one_vocabulary() {
+    let kind = |(name, number, words): Entry| {
+        let value = of_kind(number);
+        let variant = format!("{value:?}");
+        let variant = variant.split('(').next().expect("a name");
+        assert_eq!(name, upper(variant));
+        assert!(words.starts_with(&format!("{}: ", value.kind())), "{words}");
+        let case = format!("kindOf {variant} ");
+        let case = |line: &&str| line.replace('(', "").starts_with(&case);
+        let case = VALUES.lines().find(case).expect(variant);
+        assert!(case.ends_with(&format!(" = {number}")), "{case}");
+        value.kind()
+    };
+    let kinds = defined("/* Kinds of values. */\n").into_iter().map(kind);
+    let words = kinds.collect::<Vec<_>>().join(", ");
+    assert_eq!(words, "whole, status, single, double, not-a-number, null");
+    assert!(VALUES.contains(&format!("in the order {words}.")));
+}
