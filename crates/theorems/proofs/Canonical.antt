@@ -1,12 +1,10 @@
 -- The canonical files of recordings.
 --     recordingOf, recording-is    the recording that a file holds
 --     canonical-read     the canonical file of an accepted file is accepted, and holds the same recording
---     canonical-again    so that its own canonical file is itself
---     same-exactly       two canonical files are equal exactly when the recordings are
 --     writes             the writer answers 23 exactly when the canonical file does not fit, and else its length
---     written-out, written-file    what it leaves then
---     refusal-leaves     a refusal changes no octet of the buffer
---     written-again      the canonical file in the buffer, read and written again
+--     wrote-out          what mfer_canonical does, write_canonical does
+--     written-file       the canonical file in the buffer that a call left
+--     written-again      that file, read and written again
 --     same-written       the canonical files in two buffers are equal exactly when the recordings are
 -- Assumes nothing.
 use Prim.Native.Nat.{ℕ, _≤_, _<_}
@@ -15,9 +13,9 @@ use mathlib.Core.Logic.{_↔_, _⊎_, inl, inr}
 use mathlib.Core.List.{List, [], _++_}
 use mathlib.Core.Bool.{true, false}
 use native.Mathlib.Omega.{arith}
-use native.Mathlib.Decide.{decLe}
+use native.Mathlib.Decide.{decLe, decLt}
 use borrow.Author.Tests.{le-leb, lt-leb}
-use lib.ListN.{length, getD, take, drop, length-map}
+use lib.ListN.{length, getD, take, drop, length-map, List·getD-eq-default}
 use lib.Seq.{take-append-seam, drop-append-seam}
 use Rattle.octets.proofs.Pick.{both-false}
 use Rattle.heads.specs.declared.Refusal.{Refusal}
@@ -29,11 +27,14 @@ use Rattle.pass.specs.Verdict.{Verdict, accepted, refused, verdict, checkOf}
 use Rattle.reader.proofs.Ordered.{accepted-few}
 use Rattle.canonical.specs.Recording.{Recorded, recordedFrame, recording}
 use Rattle.canonical.specs.Canonical.{canonical}
-use Rattle.canonical.specs.Write.{fits, outputIn, writtenOf, leftOf}
+use Rattle.canonical.specs.Write.{fits, outputIn, writtenOf, leftOf, Wrote}
 use Rattle.canonical.proofs.ReadBack.{Reads, read-back}
 use Rattle.canonical.proofs.Accepted.{accepted-recorded}
+use Rattle.stores.specs.Number.{Octets}
+use Rattle.mfer.specs.Answers.{Outputs, outputs, handedOut, countOut, CanonicalOut}
 use Rattle.theorems.proofs.Questions.{check-accepted}
 use Rattle.theorems.proofs.EntryPoints.{refused-answers}
+use Rattle.theorems.proofs.Exactly.{refused-numbered}
 
 -- The recording that a verdict gives; a refused file has none.
 unfoldable pub recordingIn : Verdict → List Recorded
@@ -48,10 +49,6 @@ pub recording-is : (s : List ℕ) (fs : List Frame) → verdict s ≡ accepted f
 unfolding recordingOf recordingIn
 recording-is s fs e = ap recordingIn e
 
--- Each number of a file is an octet.
-abbrev pub AllOctets : List ℕ → Type 0
-AllOctets s = (i : ℕ) → getD s i 0 < 256
-
 -- ---- reading
 
 -- A file holds one recording.
@@ -64,17 +61,19 @@ recording-long : (fs : List Frame) → length (recording fs) ≡ length fs
 unfolding recording
 recording-long fs = length-map fs recordedFrame
 
-module _ (s : List ℕ) (octets : AllOctets s) (fs : List Frame) (e : verdict s ≡ accepted fs) (short : length (canonical (recording fs)) ≤ octetsLimit) where
-  pub canonical-read : Reads (canonical (recording fs)) (recording fs)
-  canonical-read = read-back (recording fs) (accepted-recorded s octets fs e) (rw recording-long (accepted-few s fs e)) short
+-- Past its end a list of octets is read as 0.
+octets-all : (s : List ℕ) → Octets s → (i : ℕ) → getD s i 0 < 256
+octets-all s o i = by (decLt i (length s))
+  where
+    by : Dec (i < length s) → getD s i 0 < 256
+    by (yes h) = o i h
+    by (no h) = let z : getD s i 0 ≡ 0 = List·getD-eq-default s 0 (omega arith) in omega arith
 
-  -- Its own canonical file is itself.
-  pub canonical-again : canonical (recording (canonical-read .frames)) ≡ canonical (recording fs)
-  canonical-again = ap canonical (canonical-read .recorded)
-
-pub same-exactly : (s t : List ℕ) → AllOctets s → AllOctets t → (fs gs : List Frame) → verdict s ≡ accepted fs → verdict t ≡ accepted gs → length (canonical (recording fs)) ≤ octetsLimit → length (canonical (recording gs)) ≤ octetsLimit → (canonical (recording fs) ≡ canonical (recording gs)) ↔ (recording fs ≡ recording gs)
-same-exactly s t os ot fs gs e g h k =
-    (λ q. reads-one (canonical (recording gs)) (recording fs) (recording gs) (rw q at (canonical-read s os fs e h)) (canonical-read t ot gs g k), ap canonical)
+-- The canonical file of an accepted file is accepted, and holds the same recording.
+pub canonical-read : (s : List ℕ) → Octets s → (fs : List Frame) → verdict s ≡ accepted fs → length (canonical (recording fs)) ≤ octetsLimit
+    → Reads (canonical (recording fs)) (recording fs)
+canonical-read s octets fs e short =
+    read-back (recording fs) (accepted-recorded s (octets-all s octets) fs e) (rw recording-long (accepted-few s fs e)) short
 
 -- ---- writing
 
@@ -178,42 +177,52 @@ module _ (s d : List ℕ) (fs : List Frame) (e : verdict s ≡ accepted fs) wher
         rest = rw (← w .0, l) (drop-append-seam file (drop (length file) d));
       }
 
-  kept : (number place : ℕ) → writtenOf s d ≡ refusedAs number place → leftOf s d ≡ d
-  kept number place h = let l = writes .late number place h in written-short (writes .short .0 (h ∙ (λ i. refusedAs (l .0 i) (l .1 i)))) .1
-
 -- The file itself is refused.
 module _ (s d : List ℕ) (r : Refusal) (e : verdict s ≡ refused r) where
   none-out : (m : ℕ) → writtenOf s d ≡ answered m → ⊥
   none-out m h = let k = refused-answers s r e .written d in let z : _≡_ {A = ℕ} 0 1 = cc in omega arith
 
-  all-kept : leftOf s d ≡ d
-  unfolding leftOf leftBy outputIn
-  all-kept = ap (λ (v : Verdict). leftBy (outputIn d v) d) e
-
-pub written-out : (s d : List ℕ) (m : ℕ) → writtenOf s d ≡ answered m → WrittenOut s d m
+written-out : (s d : List ℕ) (m : ℕ) → writtenOf s d ≡ answered m → WrittenOut s d m
 written-out s d m h = by (verdict s) refl
   where
     by : (v : Verdict) → verdict s ≡ v → WrittenOut s d m
     by (accepted fs) e = out s d fs e m h
     by (refused r) e = absurd (none-out s d r e m h)
 
-pub refusal-leaves : (s d : List ℕ) (number place : ℕ) → writtenOf s d ≡ refusedAs number place → leftOf s d ≡ d
-refusal-leaves s d number place h = by (verdict s) refl
+-- ---- calls
+
+-- A refusal of the writer has a number above 0.
+written-numbered : (s d : List ℕ) (number place : ℕ) → writtenOf s d ≡ refusedAs number place → 0 < number
+written-numbered s d number place h = by (verdict s) refl
   where
-    by : (v : Verdict) → verdict s ≡ v → leftOf s d ≡ d
-    by (accepted fs) e = kept s d fs e number place h
-    by (refused q) e = all-kept s d q e
+    by : (v : Verdict) → verdict s ≡ v → 0 < number
+    by (accepted fs) e = omega (arith, writes s d fs e .late number place h)
+    by (refused r) e = let k = refused-answers s r e .written d in let n : r .number ≡ number = cc in omega (arith, refused-numbered s r e)
 
--- ---- over buffers
+-- A call of mfer_canonical whose result is 0 is as one of write_canonical that answers the length handed out.
+pub wrote-out : {s d left : List ℕ} {place m : ℕ} → CanonicalOut s d (outputs 0 place m) left → Wrote s d (answered m) left
+unfolding handedOut
+wrote-out {s} {d} {left} {place} {m} w = record { octets = w .octets; answers = by (writtenOf s d) refl (w .answers); leaves = w .leaves }
+  where
+    by : (a : Answer ℕ) → writtenOf s d ≡ a → outputs 0 place m ≡ countOut a → answered m ≡ a
+    by (answered n) q e = ap (λ (o : Outputs ℕ). answered (o .values)) e
+    by (refusedAs number at) q e = let z : ⊥ = omega (arith, written-numbered s d number at q, ap (λ (o : Outputs ℕ). o .refusal) e) in absurd z
 
--- The canonical file in the buffer, and what is behind it.
-pub written-file : (s d : List ℕ) (m : ℕ) → writtenOf s d ≡ answered m → (take m (leftOf s d) ≡ canonical (recordingOf s)) × (drop m (leftOf s d) ≡ drop m d)
-written-file s d m h = let w = written-out s d m h in (w .file ∙ ap canonical (sym (recording-is s (w .frames) (w .is))), w .rest)
+module _ {s d left : List ℕ} {m : ℕ} (w : Wrote s d (answered m) left) where
+  out-is : WrittenOut s d m
+  out-is = written-out s d m (sym (w .answers))
 
-written-read : (s d : List ℕ) (m : ℕ) → AllOctets s → writtenOf s d ≡ answered m → Reads (take m (leftOf s d)) (recordingOf s)
-written-read s d m octets h =
-    let w = written-out s d m h in
-    rw (w .file, recording-is s (w .frames) (w .is)) (canonical-read s octets (w .frames) (w .is) (omega (arith, w .long, w .small)))
+  -- The canonical file in the buffer, and what is behind it.
+  pub written-file : (take m left ≡ canonical (recordingOf s)) × (drop m left ≡ drop m d)
+  written-file = rw (w .leaves) (out-is .file ∙ ap canonical (sym (recording-is s (out-is .frames) (out-is .is))), out-is .rest)
+
+  written-read : Reads (take m left) (recordingOf s)
+  written-read =
+      let o = out-is in
+      rw (w .leaves, o .file, recording-is s (o .frames) (o .is)) (canonical-read s (w .octets) (o .frames) (o .is) (omega (arith, o .long, o .small)))
+
+  file-long : length (take m left) ≡ m
+  file-long = rw (w .leaves, out-is .file) (out-is .long)
 
 -- The file x holds the recording of the accepted file s: the check counts as many frames, and the writer does the same with both.
 pub record ReadAgain (s x : List ℕ) : Type 0 where
@@ -240,23 +249,17 @@ read-again s x fs e r =
       left = λ d. ap (λ (y : Answer (List ℕ)). leftBy y d) (same d);
     }
 
-pub written-again : (s : List ℕ) → AllOctets s → (d : List ℕ) (m : ℕ) → writtenOf s d ≡ answered m → ReadAgain s (take m (leftOf s d))
-written-again s octets d m h =
-    let w = written-out s d m h in
-    read-again s (take m (leftOf s d)) (w .frames) (w .is) (written-read s d m octets h)
+pub written-again : {s d left : List ℕ} {m : ℕ} → Wrote s d (answered m) left → ReadAgain s (take m left)
+written-again {s} w = let o = out-is w in read-again s _ (o .frames) (o .is) (written-read w)
 
-same-files : (s t : List ℕ) (fs gs : List Frame) → verdict s ≡ accepted fs → verdict t ≡ accepted gs → recordingOf s ≡ recordingOf t → canonical (recording fs) ≡ canonical (recording gs)
-same-files s t fs gs e g p = ap canonical (sym (recording-is s fs e) ∙ p ∙ recording-is t gs g)
-
-pub same-written : (s t d g : List ℕ) (m n : ℕ) → AllOctets s → AllOctets t → writtenOf s d ≡ answered m → writtenOf t g ≡ answered n → ((m ≡ n) × (take m (leftOf s d) ≡ take n (leftOf t g))) ↔ (recordingOf s ≡ recordingOf t)
-same-written s t d g m n os ot h k = (recordings, files)
+pub same-written : {s d left t g right : List ℕ} {m n : ℕ} → Wrote s d (answered m) left → Wrote t g (answered n) right
+    → ((m ≡ n) × (take m left ≡ take n right)) ↔ (recordingOf s ≡ recordingOf t)
+same-written {s} {d} {left} {t} {g} {right} {m} {n} v w = (recordings, files)
   where
-    recordings : (m ≡ n) × (take m (leftOf s d) ≡ take n (leftOf t g)) → recordingOf s ≡ recordingOf t
-    recordings q = reads-one (take n (leftOf t g)) (recordingOf s) (recordingOf t) (rw (q .1) at (written-read s d m os h)) (written-read t g n ot k)
+    recordings : (m ≡ n) × (take m left ≡ take n right) → recordingOf s ≡ recordingOf t
+    recordings q = reads-one (take n right) (recordingOf s) (recordingOf t) (rw (q .1) at (written-read v)) (written-read w)
 
-    files : recordingOf s ≡ recordingOf t → (m ≡ n) × (take m (leftOf s d) ≡ take n (leftOf t g))
+    files : recordingOf s ≡ recordingOf t → (m ≡ n) × (take m left ≡ take n right)
     files p =
-        let a = written-out s d m h in
-        let b = written-out t g n k in
-        let f = same-files s t (a .frames) (b .frames) (a .is) (b .is) p in
-        (sym (a .long) ∙ ap length f ∙ b .long, a .file ∙ f ∙ sym (b .file))
+        let f : take m left ≡ take n right = written-file v .0 ∙ ap canonical p ∙ sym (written-file w .0) in
+        (sym (file-long v) ∙ ap length f ∙ file-long w, f)

@@ -10,22 +10,25 @@ use mathlib.Core.List.{List}
 use lib.ListN.{length, take, drop}
 use Rattle.heads.specs.declared.Refusal.{Refusal}
 use Rattle.heads.specs.Refusals.{longFile}
-use Rattle.heads.specs.Answer.{answered, refusedAs}
+use Rattle.heads.specs.Answer.{answered, refusedAs, mapAnswer}
 use Rattle.items.specs.Walk.{refusal}
-use Rattle.layout.specs.Frame.{Frame}
+use Rattle.layout.specs.Frame.{Frame, placeOf}
 use Rattle.standing.specs.Standing.{octetsLimit}
 use Rattle.pass.specs.Verdict.{accepted, refused, verdict, checkOf}
-use Rattle.reader.specs.Answer.{attributesIn, attributesOf, sampleIn, sampleOf}
+use Rattle.reader.specs.Answer.{attributesIn, attributesOf, sampleIn, sampleOf, seenOf, foundPlace, placedOf}
+use Rattle.pass.specs.Scan.{viewOf}
+use Rattle.bulk.specs.Samples.{readOf}
 use Rattle.canonical.specs.Canonical.{canonical}
-use Rattle.canonical.specs.Write.{writtenOf, leftOf}
+use Rattle.canonical.specs.Write.{Wrote}
+use Rattle.mfer.specs.Answers.{outputs, CanonicalOut}
 use Rattle.reader.proofs.Ordered.{endOf}
-use Rattle.theorems.proofs.Questions.{frameNumber, ByChannel, BySample, check-accepted, check-refused, accepted-or-refused, limit-exactly, limit-place, attributes-answered, sample-answered}
+use Rattle.theorems.proofs.Questions.{frameNumber, ByChannel, BySample, check-accepted, check-refused, accepted-or-refused, limit-exactly, limit-place, attributes-answered, channel-answered, sample-answered, place-answered, bitsRead, samples-answered, same-place}
 use Rattle.theorems.proofs.Places.{Name, Exists, NamedSample, Belongs, InWaveform, Owned, sample-exists, sample-inside, samples-apart, octet-owned}
 use Rattle.theorems.proofs.Waveforms.{PartOfFile, waveform-part, waveforms-apart}
-use Rattle.theorems.proofs.EntryPoints.{AnsweredBy, refused-answers}
+use Rattle.theorems.proofs.EntryPoints.{AnsweredBy, HandedOut, Kept, refused-answers, handed-out, kept}
 use Rattle.theorems.specs.Refusing.{Refusing}
 use Rattle.theorems.proofs.Exactly.{refused-exactly, refused-numbered}
-use Rattle.theorems.proofs.Canonical.{recordingOf, AllOctets, Writes, ReadAgain, writes, refusal-leaves, written-file, written-again, same-written}
+use Rattle.theorems.proofs.Canonical.{recordingOf, Writes, ReadAgain, writes, wrote-out, written-file, written-again, same-written}
 
 -- ---- demand 1
 
@@ -45,10 +48,15 @@ pub record DemandOne (s : List ℕ) : Type 0 where
   pub refusedFile : (r : Refusal) → verdict s ≡ refused r → AnsweredBy s r
   -- On an accepted file 20, 21, 22 and 23 are answered at place 0, each exactly when its condition holds and none ahead of it does.
   pub attributes : (fs : List Frame) → verdict s ≡ accepted fs → (i c : ℕ) → ByChannel (attributesOf s i c) (attributesIn c) fs i c
+  pub channel : (fs : List Frame) → verdict s ≡ accepted fs → (i c : ℕ) → ByChannel (seenOf s i c) (viewOf c) fs i c
   pub sample : (fs : List Frame) → verdict s ≡ accepted fs → (i c n : ℕ) → BySample (sampleOf s i c n) (sampleIn s c n) fs i c n
+  pub place : (fs : List Frame) → verdict s ≡ accepted fs → (i c n : ℕ) → BySample (placedOf s i c n) (λ f. foundPlace (placeOf c n f) (viewOf c f)) fs i c n
+  pub samples : (fs : List Frame) → verdict s ≡ accepted fs → (i c n room : ℕ) → BySample (readOf s i c n room) (bitsRead s c n room) fs i c n
   pub written : (fs : List Frame) → verdict s ≡ accepted fs → (d : List ℕ) → Writes s d fs
+  -- Each function for C hands a refusal out exactly when its question answers it, and all its other outputs are then 0.
+  pub handed : HandedOut s
   -- A refusal changes no octet of the buffer.
-  pub left : (d : List ℕ) (number place : ℕ) → writtenOf s d ≡ refusedAs number place → leftOf s d ≡ d
+  pub kept : (d : List ℕ) → Kept s d
 
 pub demand-one : (s : List ℕ) → DemandOne s
 demand-one s =
@@ -60,9 +68,13 @@ demand-one s =
       ends = accepted-or-refused s;
       refusedFile = refused-answers s;
       attributes = attributes-answered s;
+      channel = channel-answered s;
       sample = sample-answered s;
+      place = place-answered s;
+      samples = samples-answered s;
       written = λ fs e d. writes s d fs e;
-      left = refusal-leaves s;
+      handed = handed-out s;
+      kept = kept s;
     }
 
 -- ---- demand 2
@@ -76,9 +88,9 @@ pub record DemandTwo (s : List ℕ) : Type 0 where
   pub attributes : (fs : List Frame) → verdict s ≡ accepted fs → (i c : ℕ) → i < length fs → c < length (frameNumber fs i .channels) → attributesOf s i c ≡ answered (attributesIn c (frameNumber fs i))
   pub sample : (fs : List Frame) → verdict s ≡ accepted fs → (a : NamedSample s) → InWaveform s fs a
   -- The canonical file stands at the start of the buffer, and octets past it keep what they held.
-  pub written : (d : List ℕ) (m : ℕ) → writtenOf s d ≡ answered m → (take m (leftOf s d) ≡ canonical (recordingOf s)) × (drop m (leftOf s d) ≡ drop m d)
+  pub written : (d left : List ℕ) (m : ℕ) → Wrote s d (answered m) left → (take m left ≡ canonical (recordingOf s)) × (drop m left ≡ drop m d)
   -- Read, it has as many frames and holds the same recording; written out again, it is as the first file.
-  pub again : AllOctets s → (d : List ℕ) (m : ℕ) → writtenOf s d ≡ answered m → ReadAgain s (take m (leftOf s d))
+  pub again : (d left : List ℕ) (m : ℕ) → Wrote s d (answered m) left → ReadAgain s (take m left)
 
 pub demand-two : (s : List ℕ) → DemandTwo s
 demand-two s =
@@ -86,8 +98,8 @@ demand-two s =
       count = check-accepted s;
       attributes = λ fs e i c h k. attributes-answered s fs e i c .there _ .1 (h, k, refl);
       sample = sample-inside s;
-      written = written-file s;
-      again = written-again s;
+      written = λ d left m w. written-file w;
+      again = λ d left m w. written-again w;
     }
 
 -- ---- demand 3
@@ -99,6 +111,8 @@ pub record SamplesPlaced (s : List ℕ) (fs : List Frame) : Type 0 where
   pub ordered : (i j : ℕ) → i < j → j < length fs → endOf (frameNumber fs i) ≤ frameNumber fs j .place
   -- Each name that the file has is a sample's.
   pub named : (x : Name) → Exists fs x → (a : NamedSample s) × (a .name ≡ x)
+  -- The questions for a place and for a sample answer the same place for every name.
+  pub samePlace : (i c n : ℕ) → mapAnswer (λ x. x .place) (placedOf s i c n) ≡ mapAnswer (λ x. x .place) (sampleOf s i c n)
   -- Its octets, from the place that the reader answers, lie inside its own frame's waveform.
   pub inside : (a : NamedSample s) → InWaveform s fs a
   -- Two samples with different names share no octet.
@@ -113,8 +127,11 @@ pub record SamplesPlaced (s : List ℕ) (fs : List Frame) : Type 0 where
 -- every octet, exactly when the recordings are equal, down to each attribute and each bit of each sample."
 pub record DemandThree : Type 0 where
   pub places : (s : List ℕ) (fs : List Frame) → verdict s ≡ accepted fs → SamplesPlaced s fs
+  -- A file that mfer_canonical writes out is written out as by write_canonical.
+  pub handed : (s d left : List ℕ) (place m : ℕ) → CanonicalOut s d (outputs 0 place m) left → Wrote s d (answered m) left
   -- Files s and t are written to buffers that held d and g; m and n octets are their canonical files.
-  pub same : (s t d g : List ℕ) (m n : ℕ) → AllOctets s → AllOctets t → writtenOf s d ≡ answered m → writtenOf t g ≡ answered n → ((m ≡ n) × (take m (leftOf s d) ≡ take n (leftOf t g))) ↔ (recordingOf s ≡ recordingOf t)
+  pub same : (s t d g left right : List ℕ) (m n : ℕ) → Wrote s d (answered m) left → Wrote t g (answered n) right
+      → ((m ≡ n) × (take m left ≡ take n right)) ↔ (recordingOf s ≡ recordingOf t)
 
 pub demand-three : DemandThree
 demand-three =
@@ -124,9 +141,11 @@ demand-three =
             waveform = waveform-part s fs e;
             ordered = waveforms-apart s fs e;
             named = sample-exists s fs e;
+            samePlace = same-place s;
             inside = sample-inside s fs e;
             apart = samples-apart s fs e;
             owned = octet-owned s fs e;
           };
-      same = same-written;
+      handed = λ s d left place m w. wrote-out w;
+      same = λ s t d g left right m n v w. same-written v w;
     }

@@ -6,7 +6,7 @@
 --     Kept, kept         so for each function that has one
 -- Assumes nothing.
 use Prim.Native.Nat.{ℕ, _<_}
-use mathlib.Core.Path.{_≡_, ap}
+use mathlib.Core.Path.{_≡_, refl, sym, ap, _∙_}
 use mathlib.Core.Logic.{_↔_}
 use mathlib.Core.List.{List}
 use native.Mathlib.Omega.{arith}
@@ -17,9 +17,9 @@ use Rattle.heads.specs.Answer.{Answer, answered, refusedAs, refusedBy, mapAnswe
 use Rattle.pass.specs.Verdict.{Verdict, refused, verdict, checkedAs, checkOf}
 use Rattle.reader.specs.Answer.{attributesOf, sampleOf, seenOf, placedOf}
 use Rattle.reader.proofs.Order.{asked-refused}
-use Rattle.canonical.specs.Write.{outputIn, writtenOf}
+use Rattle.canonical.specs.Write.{outputIn, writtenOf, leftOf, Wrote}
 use Rattle.bulk.specs.Samples.{bitsOf, readOf}
-use Rattle.mfer.specs.Answers.{Outputs, outputs, handedOut, countOut, attributesValues, attributesOut, sampleValues, sampleOut}
+use Rattle.mfer.specs.Answers.{Outputs, outputs, handedOut, countOut, CanonicalOut, attributesValues, attributesOut, sampleValues, sampleOut}
 
 -- ---- a refused file
 
@@ -87,3 +87,31 @@ counted-refusal (refusedAs m p) number place e = let a : m ≡ number = cc in le
 refusal-keeps : (x : Answer (List ℕ)) (d : List ℕ) (number place : ℕ) → mapAnswer length x ≡ refusedAs number place → leftBy x d ≡ d
 unfolding leftBy
 refusal-keeps x d number place e = ap (λ (y : Answer (List ℕ)). leftBy y d) (counted-refusal x number place e)
+
+-- A function for C that hands out a number above 0 hands out a refusal.
+handed-refusal : (a : Answer ℕ) → 0 < countOut a .refusal → (number : ℕ) × (place : ℕ) × (a ≡ refusedAs number place)
+unfolding handedOut
+handed-refusal (answered n) h = let z : ⊥ = omega arith in absurd z
+handed-refusal (refusedAs number place) h = (number, place, refl)
+
+-- A refusal changes no octet of the output buffer: `write_canonical`, `mfer_canonical`, `bulk::samples`, `mfer_samples`.
+pub record Kept (s d : List ℕ) : Type 0 where
+  pub canonical : (number place : ℕ) (left : List ℕ) → Wrote s d (refusedAs number place) left → left ≡ d
+  pub canonicalOut : (out : Outputs ℕ) (left : List ℕ) → CanonicalOut s d out left → 0 < out .refusal → left ≡ d
+  pub samples : (i c n number place : ℕ) → mapAnswer length (readOf s i c n (length d)) ≡ refusedAs number place → leftBy (readOf s i c n (length d)) d ≡ d
+  pub samplesOut : (i c n : ℕ) → 0 < countOut (mapAnswer length (readOf s i c n (length d))) .refusal → leftBy (readOf s i c n (length d)) d ≡ d
+
+module _ (s d : List ℕ) where
+  -- By the writer's answer.
+  written-kept : (number place : ℕ) (left : List ℕ) → writtenOf s d ≡ refusedAs number place → left ≡ leftOf s d → left ≡ d
+  unfolding writtenOf leftOf
+  written-kept number place left a l = l ∙ refusal-keeps (outputIn d (verdict s)) d number place a
+
+  pub kept : Kept s d
+  kept =
+      record {
+        canonical = λ number place left w. written-kept number place left (sym (w .answers)) (w .leaves);
+        canonicalOut = λ out left w h. let r = handed-refusal (writtenOf s d) (rw (w .answers) at h) in written-kept (r .0) (r .1) left (r .2) (w .leaves);
+        samples = λ i c n number place e. refusal-keeps (readOf s i c n (length d)) d number place e;
+        samplesOut = λ i c n h. let r = handed-refusal (mapAnswer length (readOf s i c n (length d))) h in refusal-keeps (readOf s i c n (length d)) d (r .0) (r .1) (r .2);
+      }

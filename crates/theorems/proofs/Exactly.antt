@@ -32,7 +32,7 @@ use Rattle.standing.specs.Standing.{octetsLimit}
 use Rattle.effects.specs.Effects.{valueAt, effectOf}
 use Rattle.pass.specs.Verdict.{State, Outcome, goes, refuses, firstState, carried, placeAt, refused, interpret, verdict}
 use Rattle.pass.proofs.Keeps.{meaning, firstCursor, items-first, interpret-goes, interpret-refuses, interpret-fault, verdict-law}
-use Rattle.reader.proofs.Good.{both-split}
+use Rattle.pass.proofs.Bounds.{both-split}
 use Rattle.theorems.specs.Rows.{lengthOctets, lengthIn, valueIn, itemRows, endRows, rowsAt}
 use Rattle.theorems.specs.Refusing.{Reached, begin, taken, around, ahead, DueAt, Refusing, overLimit, stops}
 use Rattle.theorems.proofs.Due.{first, due-exactly, otherwise, first-append, due-numbered}

@@ -114,7 +114,8 @@ part-there s x p o w e h =
     sym (ap (λ (u : List ℕ). take w (drop o u)) e ∙ part-of w o (length x) (drop p s) h ∙ ap (take w) (drop-drop o p s))
 
 -- Two samples of one frame share no octet.
-apart-in : (f : Frame) (c n d m i j p : ℕ) → Named (f .channels) (f .sequences) c n → Named (f .channels) (f .sequences) d m → ((c ≡ d) × (n ≡ m) → ⊥) → i < widthIn (channelIn c (f .channels)) → j < widthIn (channelIn d (f .channels)) → placeOf c n f + i ≡ p → placeOf d m f + j ≡ p → ⊥
+apart-in : (f : Frame) (c n d m i j p : ℕ) → Named (f .channels) (f .sequences) c n → Named (f .channels) (f .sequences) d m
+    → ((c ≡ d) × (n ≡ m) → ⊥) → i < widthIn (channelIn c (f .channels)) → j < widthIn (channelIn d (f .channels)) → placeOf c n f + i ≡ p → placeOf d m f + j ≡ p → ⊥
 unfolding placeOf
 apart-in f c n d m i j p g h differ k l q r = offset-apart g h differ i j k l (omega arith)
 

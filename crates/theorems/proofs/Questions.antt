@@ -221,6 +221,10 @@ module _ {A : Type 0} (g : Frame → A) (v : Verdict) (fs : List Frame) (e : v �
 
 -- ---- the questions
 
+-- The bits of samples n and on of channel c of a frame, as many as there is room for or as there are.
+abbrev pub bitsRead : List ℕ → ℕ → ℕ → ℕ → Frame → List ℕ
+bitsRead s c n room f = bitsFrom (bitsAt s c f) n (min room (samplesOf c f - n))
+
 module _ (s : List ℕ) (fs : List Frame) (e : verdict s ≡ accepted fs) (i c : ℕ) where
   pub attributes-answered : ByChannel (attributesOf s i c) (attributesIn c) fs i c
   unfolding attributesOf
@@ -239,9 +243,9 @@ module _ (s : List ℕ) (fs : List Frame) (e : verdict s ≡ accepted fs) (i c :
     unfolding placedOf
     place-answered = by-sample (λ f. foundPlace (placeOf c n f) (viewOf c f)) (verdict s) fs e i c n
 
-    pub samples-answered : (room : ℕ) → BySample (readOf s i c n room) (λ f. bitsFrom (bitsAt s c f) n (min room (samplesOf c f - n))) fs i c n
+    pub samples-answered : (room : ℕ) → BySample (readOf s i c n room) (bitsRead s c n room) fs i c n
     unfolding readOf
-    samples-answered room = by-sample (λ f. bitsFrom (bitsAt s c f) n (min room (samplesOf c f - n))) (verdict s) fs e i c n
+    samples-answered room = by-sample (bitsRead s c n room) (verdict s) fs e i c n
 
 -- The questions for a place and for a sample answer the same place, or the same refusal.
 pub same-place : (s : List ℕ) (i c n : ℕ) → mapAnswer (λ x. x .place) (placedOf s i c n) ≡ mapAnswer (λ x. x .place) (sampleOf s i c n)
