@@ -2,7 +2,7 @@
 --     definitions, items-are, changes-are, define-all    a group's items, which together make the channel's record
 --     order-is, count-is, sequences-is, start-is    the items outside groups
 -- Assumes nothing.
-use Prim.Native.Nat.{ℕ, zero, suc, _+_, _*_, _^_, _≤_, _<_}
+use Prim.Native.Nat.{ℕ, _+_, _*_, _^_, _≤_, _<_}
 use mathlib.Core.Path.{_≡_, refl, sym, _∙_, ap}
 use mathlib.Core.List.{List, [], _∷_, _++_, append-nil}
 use mathlib.Core.Logic.{_⊎_, inl, inr}
@@ -21,7 +21,7 @@ use Rattle.octets.specs.Number.{numberOf}
 use Rattle.stores.specs.Number.{be, length-be}
 use Rattle.values.specs.declared.Bits.{Bits}
 use Rattle.values.specs.Sample.{widthOf}
-use Rattle.values.proofs.Laws.{width-le}
+use Rattle.values.proofs.Laws.{width-le, width-cases}
 use Rattle.settings.specs.declared.Scale.{Scale}
 use Rattle.settings.specs.declared.Settings.{Settings}
 use Rattle.definitions.specs.declared.Attribute.{Attribute}
@@ -106,17 +106,9 @@ pub record GoodWidth (w : ℕ) : Type 0 where
   pub some : 0 < w
 
 pub width-good : (k : ℕ) → k ≤ lastKind → GoodWidth (widthOf k)
-unfolding widthOf
-width-good zero h = record { fits = refl; some = lit< tt }
-width-good (suc zero) h = record { fits = refl; some = lit< tt }
-width-good (suc (suc zero)) h = record { fits = refl; some = lit< tt }
-width-good (suc (suc (suc zero))) h = record { fits = refl; some = lit< tt }
-width-good (suc (suc (suc (suc zero)))) h = record { fits = refl; some = lit< tt }
-width-good (suc (suc (suc (suc (suc zero))))) h = record { fits = refl; some = lit< tt }
-width-good (suc (suc (suc (suc (suc (suc zero)))))) h = record { fits = refl; some = lit< tt }
-width-good (suc (suc (suc (suc (suc (suc (suc zero))))))) h = record { fits = refl; some = lit< tt }
-width-good (suc (suc (suc (suc (suc (suc (suc (suc zero)))))))) h = record { fits = refl; some = lit< tt }
-width-good (suc (suc (suc (suc (suc (suc (suc (suc (suc k))))))))) h = let z : ⊥ = omega arith in absurd z
+width-good =
+    width-cases GoodWidth (record { fits = refl; some = lit< tt }) (record { fits = refl; some = lit< tt })
+    (record { fits = refl; some = lit< tt }) (record { fits = refl; some = lit< tt })
 
 -- ---- a group
 

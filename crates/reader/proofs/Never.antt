@@ -7,7 +7,7 @@
 use mathlib.Core.Path.{_≡_, refl}
 use mathlib.Core.List.{List, [], _∷_}
 use mathlib.Core.Bool.{Bool, true, false}
-use Prim.Native.Nat.{ℕ, zero, suc, _≤_, _<_}
+use Prim.Native.Nat.{ℕ, _≤_, _<_}
 use native.Mathlib.Nat.{mul-pos}
 use native.Mathlib.Omega.{arith}
 use borrow.Author.Tests.{leb-true, ltb-true, ltb-false}
@@ -15,6 +15,7 @@ use lib.Dec.{leb, ltb, lit<}
 use lib.ListN.{length}
 use Rattle.octets.specs.Pick.{pick}
 use Rattle.values.specs.Sample.{widthOf}
+use Rattle.values.proofs.Laws.{width-cases}
 use Rattle.items.specs.declared.Cursor.{Cursor}
 use Rattle.heads.specs.declared.Refusal.{Refusal}
 use Rattle.heads.specs.Refusals.{longFile}
@@ -36,17 +37,7 @@ use Rattle.reader.proofs.Ordered.{Lying, lying-keeps, lying-first, fram
 use Rattle.reader.proofs.Good.{both-split}
 
 pub width-some : (k : ℕ) → k ≤ lastKind → 0 < widthOf k
-unfolding widthOf
-width-some zero h = lit< tt
-width-some (suc zero) h = lit< tt
-width-some (suc (suc zero)) h = lit< tt
-width-some (suc (suc (suc zero))) h = lit< tt
-width-some (suc (suc (suc (suc zero)))) h = lit< tt
-width-some (suc (suc (suc (suc (suc zero))))) h = lit< tt
-width-some (suc (suc (suc (suc (suc (suc zero)))))) h = lit< tt
-width-some (suc (suc (suc (suc (suc (suc (suc zero))))))) h = lit< tt
-width-some (suc (suc (suc (suc (suc (suc (suc (suc zero)))))))) h = lit< tt
-width-some (suc (suc (suc (suc (suc (suc (suc (suc (suc k))))))))) h = let z : ⊥ = omega arith in absurd z
+width-some = width-cases (λ (w : ℕ). 0 < w) (lit< tt) (lit< tt) (lit< tt) (lit< tt)
 
 -- Each value is in its range; this needs nothing of the octets.
 abbrev InRange : Change → Type 0
