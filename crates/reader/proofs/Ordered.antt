@@ -8,7 +8,7 @@
 use mathlib.Core.Path.{_≡_, refl, _∙_, subst}
 use mathlib.Core.List.{List, [], _∷_, _++_}
 use mathlib.Core.Bool.{true}
-use Prim.Native.Nat.{ℕ, _+_, _*_, _≤_, _<_}
+use Prim.Native.Nat.{ℕ, _+_, _≤_, _<_}
 use native.Mathlib.Decide.{decLt}
 use native.Mathlib.Omega.{arith}
 use borrow.Author.Tests.{eqb-false}
@@ -21,7 +21,7 @@ use Rattle.items.specs.declared.Cursor.{Cursor}
 use Rattle.items.proofs.Walks.{FoundAt, ItemLies, next-found}
 use Rattle.settings.specs.declared.Settings.{Settings}
 use Rattle.settings.specs.Settings.{channelLimit, defaultSettings, allApplied}
-use Rattle.layout.specs.Frame.{Frame, sequenceOctets, allAgree}
+use Rattle.layout.specs.Frame.{Frame, sequenceOctets, allAgree, octetsSampled}
 use Rattle.standing.specs.declared.Standing.{Standing}
 use Rattle.effects.specs.Effects.{valueAt}
 use Rattle.standing.specs.Standing.{octetsLimit, framesLimit}
@@ -34,7 +34,7 @@ use Rattle.reader.proofs.Every.{Every, every-at, every-snoc, every-imp}
 
 -- A frame whose waveform lies in the file and holds its sequences, with 1 to 256 channels.
 pub record Lies (s : List ℕ) (f : Frame) : Type 0 where
-  pub fits : f .sequences * sequenceOctets (f .channels) ≤ length (f .waveform)
+  pub fits : octetsSampled f ≤ length (f .waveform)
   pub inside : f .place + length (f .waveform) ≤ length s
   pub octets : f .waveform ≡ take (length (f .waveform)) (drop (f .place) s)
   pub some : 0 < length (f .channels)

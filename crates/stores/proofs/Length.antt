@@ -36,7 +36,7 @@ length-shortest n = by-size (ltb n 128) refl
         (omega arith, omega arith)
 
 -- They hold the length.
-pub holding-holds : (n : ℕ) → n < 4294967296 → n < 256 ^ holding n
+pub holding-holds : (n : ℕ) → n < 2 ^ 32 → n < 256 ^ holding n
 holding-holds n top = one (ltb n 256) refl
   where
     three : (t : Bool) → 65536 ≤ n → ltb n 16777216 ≡ t → n < 256 ^ holding n
