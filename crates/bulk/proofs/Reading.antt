@@ -16,6 +16,7 @@ use Rattle.octets.specs.Number.{numberOf}
 use Rattle.stores.proofs.Stores.{sets-front}
 use Rattle.heads.specs.Answer.{Answer, answered, refusedAs, leftBy}
 use Rattle.values.specs.Sample.{widthOf}
+use Rattle.values.proofs.Laws.{width-cases}
 use Rattle.layout.specs.Frame.{Frame, widthIn, blockOctets, sequenceOctets, channelIn, samplesOf, offsetOf, placeOf}
 use Rattle.laid.proofs.Places.{row-fits, below-fits, offset-inside}
 use Rattle.pass.specs.declared.View.{View}
@@ -84,17 +85,7 @@ bits-seen {s} {frame} {channel} l n =
 
 -- The widths of the data types.
 pub width-wide : (k : ℕ) → k ≤ 8 → Wide (widthOf k)
-unfolding widthOf
-width-wide zero h = inr (inl refl)
-width-wide (suc zero) h = inr (inl refl)
-width-wide (suc (suc zero)) h = inr (inr (inl refl))
-width-wide (suc (suc (suc zero))) h = inl refl
-width-wide (suc (suc (suc (suc zero)))) h = inr (inl refl)
-width-wide (suc (suc (suc (suc (suc zero))))) h = inl refl
-width-wide (suc (suc (suc (suc (suc (suc zero)))))) h = inr (inr (inl refl))
-width-wide (suc (suc (suc (suc (suc (suc (suc zero))))))) h = inr (inr (inl refl))
-width-wide (suc (suc (suc (suc (suc (suc (suc (suc zero)))))))) h = inr (inr (inr refl))
-width-wide (suc (suc (suc (suc (suc (suc (suc (suc (suc k))))))))) h = let z : ⊥ = omega arith in absurd z
+width-wide = width-cases Wide (inl refl) (inr (inl refl)) (inr (inr (inl refl))) (inr (inr (inr refl)))
 
 -- ---- its samples, block by block
 

@@ -2,7 +2,7 @@
 --     definitions, items-are, changes-are, define-all    a group's items, which together make the channel's record
 --     order-is, count-is, sequences-is, start-is    the items outside groups
 -- Assumes nothing.
-use Prim.Native.Nat.{ℕ, zero, suc, _+_, _*_, _^_, _≤_, _<_}
+use Prim.Native.Nat.{ℕ, _+_, _*_, _^_, _≤_, _<_}
 use mathlib.Core.Path.{_≡_, refl, sym, _∙_, ap}
 use mathlib.Core.List.{List, [], _∷_, _++_, append-nil}
 use mathlib.Core.Logic.{_⊎_, inl, inr}
@@ -19,9 +19,10 @@ use lib.Seq.{take-all}
 use Rattle.octets.specs.Pick.{pick}
 use Rattle.octets.specs.Number.{numberOf}
 use Rattle.stores.specs.Number.{be, length-be}
+use Rattle.stores.proofs.Number.{number-back}
 use Rattle.values.specs.declared.Bits.{Bits}
 use Rattle.values.specs.Sample.{widthOf}
-use Rattle.values.proofs.Laws.{width-le}
+use Rattle.values.proofs.Laws.{width-le, width-cases}
 use Rattle.settings.specs.declared.Scale.{Scale}
 use Rattle.settings.specs.declared.Settings.{Settings}
 use Rattle.definitions.specs.declared.Attribute.{Attribute}
@@ -34,11 +35,11 @@ use Rattle.layout.specs.Frame.{widthIn}
 use Rattle.standing.specs.declared.Standing.{Standing}
 use Rattle.effects.specs.declared.Effect.the-variants.{Order, Count, Sequences, Start}
 use Rattle.effects.specs.Effects.{rootEffect, orderEffect, countEffect, sequencesEffect, startEffect}
-use Rattle.groups.specs.Item.{item, numberItem, unsignedOf}
+use Rattle.groups.specs.Item.{itemOctets, numberItem, unsignedOf}
 use Rattle.groups.specs.Group.{scaleItem, nullItem, groupItems}
 use Rattle.canonical.proofs.Good.{GoodScale, GoodReported}
-use Rattle.canonical.proofs.Numbers.{number-back, unsigned-fits, twos-back, signed-back}
-use Rattle.canonical.proofs.Steps.{tagOf, Definition, octetsOf, changed, AllDefine}
+use Rattle.canonical.proofs.Numbers.{unsigned-fits, twos-back, signed-back}
+use Rattle.canonical.proofs.Steps.{tagOf, Definition, definitionsOctets, changed, AllDefine}
 
 -- ---- one definition
 
@@ -106,17 +107,9 @@ pub record GoodWidth (w : ℕ) : Type 0 where
   pub some : 0 < w
 
 pub width-good : (k : ℕ) → k ≤ lastKind → GoodWidth (widthOf k)
-unfolding widthOf
-width-good zero h = record { fits = refl; some = lit< tt }
-width-good (suc zero) h = record { fits = refl; some = lit< tt }
-width-good (suc (suc zero)) h = record { fits = refl; some = lit< tt }
-width-good (suc (suc (suc zero))) h = record { fits = refl; some = lit< tt }
-width-good (suc (suc (suc (suc zero)))) h = record { fits = refl; some = lit< tt }
-width-good (suc (suc (suc (suc (suc zero))))) h = record { fits = refl; some = lit< tt }
-width-good (suc (suc (suc (suc (suc (suc zero)))))) h = record { fits = refl; some = lit< tt }
-width-good (suc (suc (suc (suc (suc (suc (suc zero))))))) h = record { fits = refl; some = lit< tt }
-width-good (suc (suc (suc (suc (suc (suc (suc (suc zero)))))))) h = record { fits = refl; some = lit< tt }
-width-good (suc (suc (suc (suc (suc (suc (suc (suc (suc k))))))))) h = let z : ⊥ = omega arith in absurd z
+width-good =
+    width-cases GoodWidth (record { fits = refl; some = lit< tt }) (record { fits = refl; some = lit< tt })
+    (record { fits = refl; some = lit< tt }) (record { fits = refl; some = lit< tt })
 
 -- ---- a group
 
@@ -134,15 +127,15 @@ definitions c =
     ∷ []
 
 -- A choice between two values of an item.
-pub item-picked : (tag : ℕ) (b : Bool) (v w : List ℕ) → pick b (item tag v) (item tag w) ≡ item tag (pick b v w)
+pub item-picked : (tag : ℕ) (b : Bool) (v w : List ℕ) → pick b (itemOctets tag v) (itemOctets tag w) ≡ itemOctets tag (pick b v w)
 item-picked tag true v w = refl
 item-picked tag false v w = refl
 
-null-item : (c : Settings) → nullItem c ≡ item 0x12 (nullOctets c)
+null-item : (c : Settings) → nullItem c ≡ itemOctets 0x12 (nullOctets c)
 unfolding nullItem nullOctets numberItem
 null-item c = item-picked 0x12 (eqb (c .null .width) 0) [] (be (widthIn c) (c .null .bits))
 
-pub items-are : (c : Settings) → groupItems c ≡ octetsOf (definitions c)
+pub items-are : (c : Settings) → groupItems c ≡ definitionsOctets (definitions c)
 unfolding groupItems definitions tagOf numberItem scaleItem scaleOctets
 items-are c = rw (null-item c, append-nil)
 
@@ -205,7 +198,7 @@ module _ (counted sequences : ℕ) (start continued : ℤ) (at : ℕ) where
       let b : n < 256 ^ 4 = omega arith in
       rw (length-be, number-taken 4 4 n (lit≤ tt) b, ne-eqb n 0 z, le-ltb channelLimit n l)
 
-  pub sequences-is : (n : ℕ) → n < 4294967296 → rootEffect (standing counted sequences start continued) 0x06 at (pick (eqb n 0) [] (be 4 n)) ≡ Sequences n
+  pub sequences-is : (n : ℕ) → n < 2 ^ 32 → rootEffect (standing counted sequences start continued) 0x06 at (pick (eqb n 0) [] (be 4 n)) ≡ Sequences n
   unfolding rootEffect sequencesEffect
   sequences-is n h = by (ℕ-discrete n 0)
     where

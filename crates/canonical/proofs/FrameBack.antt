@@ -32,17 +32,17 @@ use Rattle.pass.specs.Verdict.{State, state, goes, frameChannels, withFrame, ca
 use Rattle.framing.proofs.Framings.{pointer-small, framed-taken}
 use Rattle.groups.proofs.Sizes.{length-item}
 use Rattle.canonical.specs.Recording.{Recorded}
-use Rattle.groups.specs.Item.{item, numberItem, unsignedOf}
+use Rattle.groups.specs.Item.{itemOctets, numberItem, unsignedOf}
 use Rattle.groups.specs.Head.{sequencesItem, headItems}
 use Rattle.groups.specs.Group.{groupOctets, groupsOctets}
 use Rattle.canonical.specs.Canonical.{waveformOf, frameOctets}
 use Rattle.canonical.proofs.Good.{AllReported, GoodRecorded}
-use Rattle.canonical.proofs.Known.{usual, group, startAt, value-known, part-short}
-use Rattle.canonical.proofs.Steps.{Led, led-then, plain-led, group-led, octetsOf}
+use Rattle.canonical.proofs.Known.{usual, group, startAt, value-known, part-inside}
+use Rattle.canonical.proofs.Steps.{Led, led-then, plain-led, group-led, definitionsOctets}
 use Rattle.canonical.proofs.Effects.{definitions, item-picked, items-are, changes-are, define-all, standing, count-is, sequences-is, start-is}
 use Rattle.canonical.proofs.Recordings.{frameOf, all-agree, sequence-some, sequences-back, waveform-long}
 
-group-is : (k : ℕ) (c : Settings) → groupOctets k c ≡ group k (octetsOf (definitions c))
+group-is : (k : ℕ) (c : Settings) → groupOctets k c ≡ group k (definitionsOctets (definitions c))
 unfolding groupOctets
 group-is k c = ap (group k) (items-are c)
 
@@ -50,16 +50,16 @@ group-is k c = ap (group k) (items-are c)
 abbrev sequencesValue : ℕ → List ℕ
 sequencesValue n = pick (eqb n 0) [] (be 4 n)
 
-sequences-item : (n : ℕ) → sequencesItem n ≡ item 0x06 (sequencesValue n)
+sequences-item : (n : ℕ) → sequencesItem n ≡ itemOctets 0x06 (sequencesValue n)
 unfolding sequencesItem numberItem
 sequences-item n = item-picked 0x06 (eqb n 0) [] (be 4 n)
 
 -- 05, 06 and 07 of a frame, with what follows them.
 abbrev openingItems : Recorded → List ℕ → List ℕ
 openingItems r post =
-    item 0x05 (be 4 (length (r .channels))) ++ (item 0x06 (sequencesValue (r .sequences)) ++ (item 0x07 (be 4 (unsignedOf 4 (r .start))) ++ post))
+    itemOctets 0x05 (be 4 (length (r .channels))) ++ (itemOctets 0x06 (sequencesValue (r .sequences)) ++ (itemOctets 0x07 (be 4 (unsignedOf 4 (r .start))) ++ post))
 
-frame-items : (r : Recorded) (post : List ℕ) → frameOctets r ++ post ≡ openingItems r (groupsOctets 0 (r .channels) ++ (item 0x1E (waveformOf r) ++ post))
+frame-items : (r : Recorded) (post : List ℕ) → frameOctets r ++ post ≡ openingItems r (groupsOctets 0 (r .channels) ++ (itemOctets 0x1E (waveformOf r) ++ post))
 unfolding frameOctets headItems numberItem
 frame-items r post = rw (sequences-item (r .sequences)) (simp append-assoc)
 
@@ -103,7 +103,7 @@ module _ (s : List ℕ) (short : length s ≤ octetsLimit) (fs : List Frame) whe
   groups-led counted sequences start continued k (c ∷ cs) table at post g e h l m =
       let st = standing counted sequences start continued in
       let u = groupsOctets (suc k) cs ++ post in
-      let f : drop at s ≡ group k (octetsOf (definitions c)) ++ u = e ∙ append-assoc (groupOctets k c) (groupsOctets (suc k) cs) post ∙ ap (λ (x : List ℕ). x ++ u) (group-is k c) in
+      let f : drop at s ≡ group k (definitionsOctets (definitions c)) ++ u = e ∙ append-assoc (groupOctets k c) (groupsOctets (suc k) cs) post ∙ ap (λ (x : List ℕ). x ++ u) (group-is k c) in
       let a = group-led s short st k refl (omega arith) table (omega arith) fs at (definitions c) u (omega arith) f (define-all c (g .0)) in
       let b : Led s (state st table fs) (cursor at Root) (state st (set table k c) fs) u = rw changes-are at a in
       led-then b (λ p q. groups-led counted sequences start continued (suc k) cs (set table k c) p post (g .1) q (omega arith) l (rw length-set m))
@@ -126,7 +126,7 @@ module _ (s : List ℕ) (short : length s ≤ octetsLimit) (fs : List Frame) whe
           (sym (framed-taken (length fs) (standingAt r continued) true octets (length (waveformOf r)) few refl (good .start)
           (r .sequences) (rw waveform-long (sequences-back (r .sequences) octets)) (rw waveform-long enough)))
 
-      waveform-led : (at : ℕ) (post : List ℕ) → drop at s ≡ item 0x1E (waveformOf r) ++ post → Led s (state (standingAt r continued) table fs) (cursor at Root) (state (standingBehind r continued) table (fs ++ (frameOf r (startAt at (length (waveformOf r))) ∷ []))) post
+      waveform-led : (at : ℕ) (post : List ℕ) → drop at s ≡ itemOctets 0x1E (waveformOf r) ++ post → Led s (state (standingAt r continued) table fs) (cursor at Root) (state (standingBehind r continued) table (fs ++ (frameOf r (startAt at (length (waveformOf r))) ∷ []))) post
       unfolding usual tagged rootEffect carried withFrame
       waveform-led at post e =
           let v = waveformOf r in
@@ -134,7 +134,7 @@ module _ (s : List ℕ) (short : length s ≤ octetsLimit) (fs : List Frame) whe
           let x = state (standingAt r continued) table fs in
           let behind = standingBehind r continued in
           let waveform = value-known s short at 0x1E v post e in
-          let taken = frame-taken (omega (arith, part-short s at (item 0x1E v) post e, length-item 0x1E v)) in
+          let taken = frame-taken (omega (arith, part-inside s at (itemOctets 0x1E v) post e, length-item 0x1E v)) in
           let framed : framedAs (length fs) (x .standing) (allAgree (frameChannels x)) (sequenceOctets (frameChannels x)) (length v) ≡ Taken (r .sequences) behind = rw channels-known taken in
           plain-led s short x (state behind table (fs ++ (frameOf r place ∷ []))) at 0x1E v post e refl refl
           (ap (withFrame s x place (length v)) framed ∙ λ i. goes (state behind table (fs ++ (recordedAt r place (channels-known i) (waveform i) ∷ []))))
@@ -148,7 +148,7 @@ module _ (s : List ℕ) (short : length s ≤ octetsLimit) (fs : List Frame) whe
         (λ p q. led-then (plain-led s short _ (state (standing n (r .sequences) start continued) defaultTable fs) p 0x06 _ _ q refl refl (rw (sequences-is n sequences start continued _ (r .sequences) (good .sequences))))
         (λ p q. plain-led s short _ _ p 0x07 _ _ q refl refl (rw (start-is n (r .sequences) start continued _ (r .start) (pointer-small (r .start) (good .start))))))
 
-    closing-led : (x : State) (at : ℕ) (continued : ℤ) (post : List ℕ) → Led s x (cursor at Root) (state (standingAt r continued) (fullTable r) fs) (item 0x1E (waveformOf r) ++ post) → FrameRead s x at fs r post
+    closing-led : (x : State) (at : ℕ) (continued : ℤ) (post : List ℕ) → Led s x (cursor at Root) (state (standingAt r continued) (fullTable r) fs) (itemOctets 0x1E (waveformOf r) ++ post) → FrameRead s x at fs r post
     closing-led x at continued post d =
         let w = waveform-led (fullTable r) (stored-first (r .channels) defaultTable (good .few)) continued (d .place) post (d .rest) in
         record {
@@ -163,5 +163,5 @@ module _ (s : List ℕ) (short : length s ≤ octetsLimit) (fs : List Frame) whe
     pub frame-led : (counted sequences : ℕ) (start continued : ℤ) (table : List Settings) (at : ℕ) (post : List ℕ) → drop at s ≡ frameOctets r ++ post → FrameRead s (state (standing counted sequences start continued) table fs) at fs r post
     frame-led counted sequences start continued table at post e =
         closing-led (state (standing counted sequences start continued) table fs) at continued post
-        (led-then (opening-led counted sequences start continued table at (groupsOctets 0 (r .channels) ++ (item 0x1E (waveformOf r) ++ post)) (e ∙ frame-items r post))
-        (λ p q. groups-led (length (r .channels)) (r .sequences) (r .start) continued 0 (r .channels) defaultTable p (item 0x1E (waveformOf r) ++ post) (good .channels) q (omega arith) (good .few) (good .few)))
+        (led-then (opening-led counted sequences start continued table at (groupsOctets 0 (r .channels) ++ (itemOctets 0x1E (waveformOf r) ++ post)) (e ∙ frame-items r post))
+        (λ p q. groups-led (length (r .channels)) (r .sequences) (r .start) continued 0 (r .channels) defaultTable p (itemOctets 0x1E (waveformOf r) ++ post) (good .channels) q (omega arith) (good .few) (good .few)))

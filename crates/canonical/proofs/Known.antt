@@ -3,7 +3,7 @@
 --     channel-known   a channel number in its shortest form
 --     head-known      the head of an item
 --     group-known     the head of a group
---     rest-known, part-short, value-known    what follows some octets, how long they are, and the value of an item
+--     rest-known, part-inside, value-known    what follows some octets, how long they are, and the value of an item
 --     next-plain, next-group, next-member    what stands at a cursor
 --     inside-first, inside-next    a group's items, one after the other
 --     next-left       a group is left at its end
@@ -23,7 +23,9 @@ use lib.Seq.{take-at, drop-drop, take-append-seam, drop-append-seam, drop-append
 use Rattle.octets.specs.Pick.{pick, both}
 use Rattle.octets.specs.Number.{bigFrom, numberOf}
 use Rattle.stores.specs.Number.{be, length-be}
-use Rattle.stores.specs.Length.{holding, holding-one, holding-two, holding-three, holding-four, shortest, shortest-short, shortest-long}
+use Rattle.stores.proofs.Number.{number-back}
+use Rattle.stores.proofs.Length.{holding-between, holding-holds}
+use Rattle.stores.specs.Length.{holding, shortest, shortest-short, shortest-long}
 use Rattle.heads.specs.declared.Channel.the-variants.{Number}
 use Rattle.heads.specs.declared.Length.the-variants.{Known}
 use Rattle.heads.specs.declared.Head.{Head}
@@ -38,33 +40,17 @@ use Rattle.heads.specs.Refusals.{contextTag, barredTag}
 use Rattle.items.specs.Walk.{cursor, itemOf, nextIn, nextOf}
 use Rattle.effects.specs.Effects.{valueAt}
 use Rattle.standing.specs.Standing.{octetsLimit}
-use Rattle.groups.specs.Item.{item}
+use Rattle.groups.specs.Item.{itemOctets}
 use Rattle.groups.specs.Group.{channelOctets}
 use Rattle.groups.proofs.Sizes.{length-item}
-use Rattle.canonical.proofs.Numbers.{number-back}
 
 -- ---- lengths and channel numbers
-
--- The octets that a length takes hold it.
-record Holds (n k : ℕ) : Type 0 where
-  low : 0 < k
-  high : k ≤ 4
-  fits : n < 256 ^ k
-
-holds : (n : ℕ) → n < 4294967296 → Holds n (holding n)
-holds n h = by (decLt n 256) (decLt n 65536) (decLt n 16777216)
-  where
-    by : Dec (n < 256) → Dec (n < 65536) → Dec (n < 16777216) → Holds n (holding n)
-    by (yes a) b c = rw (holding-one n a) (omega arith)
-    by (no a) (yes b) c = rw (holding-two n (omega arith) b) (omega arith)
-    by (no a) (no b) (yes c) = rw (holding-three n (omega arith) c) (omega arith)
-    by (no a) (no b) (no c) = rw (holding-four n (omega arith)) (omega arith)
 
 big-known : (w n : ℕ) (rest : List ℕ) → n < 256 ^ w → bigFrom 0 (take w (be w n ++ rest)) ≡ n
 unfolding numberOf
 big-known w n rest h = rw (take-at (be w n) rest w (length-be w n)) (number-back w n h)
 
-pub length-known : (n : ℕ) (rest : List ℕ) → n < 4294967296 → lengthOf (shortest n ++ rest) ≡ Known n (length (shortest n))
+pub length-known : (n : ℕ) (rest : List ℕ) → n < 2 ^ 32 → lengthOf (shortest n ++ rest) ≡ Known n (length (shortest n))
 unfolding lengthOf
 length-known n rest h = by (decLt n 128)
   where
@@ -72,12 +58,12 @@ length-known n rest h = by (decLt n 128)
     by (yes a) = rw (shortest-short n a) (simp lt-ltb)
     by (no a) =
         let k = holding n in
-        let o = holds n h in
+        let o = holding-between n in
         let e : 128 + k - 128 ≡ k = omega arith in
         let z : k ≡ 0 → ⊥ = λ q. omega arith in
         let v : k ≤ length (be k n ++ rest) = rw (length-append, length-be) (omega arith) in
         rw (shortest-long n (omega arith), length-be)
-        (simp (le-ltb (128 + k) 128 (omega arith), e, ne-eqb k 0 z, le-ltb 4 k (o .high), le-ltb (length (be k n ++ rest)) k v, big-known k n rest (o .fits), add-one))
+        (simp (le-ltb (128 + k) 128 (omega arith), e, ne-eqb k 0 z, le-ltb 4 k (o .1), le-ltb (length (be k n ++ rest)) k v, big-known k n rest (holding-holds n h), add-one))
 
 pub channel-known : (k : ℕ) (rest : List ℕ) → k < 16384 → channelOf 4 0 0 (channelOctets k ++ rest) ≡ Number k (length (channelOctets k))
 unfolding channelOf channelOctets
@@ -110,7 +96,7 @@ head-usual inside tag u t =
     last-picked (Head.Refused contextTag) (Head.Refused barredTag) (groupHead u (channelOf 4 0 0 u)) (primitiveHead tag (length u) (lengthOf u))
     (unknownContext tag) (both inside (rootOnly tag)) (eqb tag 0x3F) t
 
-pub head-known : (inside : Bool) (tag n : ℕ) (rest : List ℕ) → usual inside tag ≡ true → n < 4294967296 → n ≤ length rest → headOf inside (tag ∷ (shortest n ++ rest)) ≡ Primitive tag (length (shortest n) + 1) n
+pub head-known : (inside : Bool) (tag n : ℕ) (rest : List ℕ) → usual inside tag ≡ true → n < 2 ^ 32 → n ≤ length rest → headOf inside (tag ∷ (shortest n ++ rest)) ≡ Primitive tag (length (shortest n) + 1) n
 unfolding primitiveHead
 head-known inside tag n rest t h l =
     let k = length (shortest n) in
@@ -125,7 +111,7 @@ group k u = 0x3F ∷ (channelOctets k ++ (shortest (length u) ++ u))
 abbrev pub ahead : ℕ → ℕ → ℕ
 ahead k n = length (channelOctets k) + length (shortest n) + 1
 
-pub group-known : (k n : ℕ) (rest : List ℕ) → k < 16384 → n < 4294967296 → n ≤ length rest → headOf false (0x3F ∷ (channelOctets k ++ (shortest n ++ rest))) ≡ Definite k (ahead k n) n
+pub group-known : (k n : ℕ) (rest : List ℕ) → k < 16384 → n < 2 ^ 32 → n ≤ length rest → headOf false (0x3F ∷ (channelOctets k ++ (shortest n ++ rest))) ≡ Definite k (ahead k n) n
 unfolding headOf unknownContext groupHead groupLength
 group-known k n rest b h l =
     let j = length (shortest n) in
@@ -138,27 +124,27 @@ module _ (s : List ℕ) (at : ℕ) (u post : List ℕ) (e : drop at s ≡ u ++ p
   pub rest-known : drop (at + length u) s ≡ post
   rest-known = rw (← drop-drop (length u) at s, e) (drop-append-seam u post)
 
-  pub part-short : length u ≤ length s
-  part-short = omega (arith, sym (length-drop at s) ∙ ap length e ∙ length-append u post)
+  pub part-inside : length u ≤ length s
+  part-inside = omega (arith, sym (length-drop at s) ∙ ap length e ∙ length-append u post)
 
 -- Where the value of an item starts.
 abbrev pub startAt : ℕ → ℕ → ℕ
 startAt at n = at + (length (shortest n) + 1)
 
-item-ahead : (tag : ℕ) (v post : List ℕ) → item tag v ++ post ≡ tag ∷ (shortest (length v) ++ (v ++ post))
-unfolding item
+item-ahead : (tag : ℕ) (v post : List ℕ) → itemOctets tag v ++ post ≡ tag ∷ (shortest (length v) ++ (v ++ post))
+unfolding itemOctets
 item-ahead tag v post = ap (λ (u : List ℕ). tag ∷ u) (append-assoc (shortest (length v)) v post)
 
 value-behind : (v post : List ℕ) → length v ≤ length (v ++ post)
 value-behind v post = rw length-append (omega arith)
 
-value-end : (at tag : ℕ) (v : List ℕ) → startAt at (length v) + length v ≡ at + length (item tag v)
+value-end : (at tag : ℕ) (v : List ℕ) → startAt at (length v) + length v ≡ at + length (itemOctets tag v)
 value-end at tag v = rw length-item (omega arith)
 
 -- In a file that is not too long each length can be told.
-module _ (s : List ℕ) (short : length s ≤ octetsLimit) (at tag : ℕ) (v post : List ℕ) (e : drop at s ≡ item tag v ++ post) where
-  value-short : length v < 4294967296
-  value-short = omega (arith, part-short s at (item tag v) post e, length-item tag v)
+module _ (s : List ℕ) (short : length s ≤ octetsLimit) (at tag : ℕ) (v post : List ℕ) (e : drop at s ≡ itemOctets tag v ++ post) where
+  value-short : length v < 2 ^ 32
+  value-short = omega (arith, part-inside s at (itemOctets tag v) post e, length-item tag v)
 
   pub value-known : valueAt s (startAt at (length v)) (length v) ≡ v
   value-known =
@@ -166,7 +152,7 @@ module _ (s : List ℕ) (short : length s ≤ octetsLimit) (at tag : ℕ) (v pos
       let x : drop (startAt at (length v)) s ≡ v ++ post = rw (← drop-drop (length n + 1) at s, e ∙ item-ahead tag v post, add-one) (drop-append-seam n (v ++ post)) in
       rw x (take-append-seam v post)
 
-  pub next-plain : usual false tag ≡ true → nextOf s (cursor at Root) ≡ Found (Plain at tag (startAt at (length v)) (length v)) (cursor (at + length (item tag v)) Root)
+  pub next-plain : usual false tag ≡ true → nextOf s (cursor at Root) ≡ Found (Plain at tag (startAt at (length v)) (length v)) (cursor (at + length (itemOctets tag v)) Root)
   unfolding nextOf nextIn itemOf
   next-plain t = rw (e ∙ item-ahead tag v post, head-known false tag (length v) (v ++ post) t value-short (value-behind v post), value-end at tag v)
 
@@ -181,8 +167,8 @@ group-ahead : (k : ℕ) (u post : List ℕ) → group k u ++ post ≡ 0x3F ∷ (
 group-ahead k u post = simp append-assoc
 
 module _ (s : List ℕ) (short : length s ≤ octetsLimit) (at k : ℕ) (small : k < 16384) (u post : List ℕ) (e : drop at s ≡ group k u ++ post) where
-  items-short : length u < 4294967296
-  items-short = omega (arith, simp length-append at (part-short s at (group k u) post e))
+  items-short : length u < 2 ^ 32
+  items-short = omega (arith, simp length-append at (part-inside s at (group k u) post e))
 
   pub next-group : nextOf s (cursor at Root) ≡ Found (Item.Group at k) (cursor (at + ahead k (length u)) (Within.Definite k (at + ahead k (length u) + length u)))
   unfolding nextOf nextIn itemOf
@@ -198,20 +184,20 @@ module _ (s : List ℕ) (short : length s ≤ octetsLimit) (at k : ℕ) (small :
       }
 
 -- The first item of a group's rest.
-module _ (s : List ℕ) (short : length s ≤ octetsLimit) (at end k tag : ℕ) (v u post : List ℕ) (i : Inside s at end (item tag v ++ u) post) where
-  pub member-rest : drop at s ≡ item tag v ++ (u ++ post)
-  member-rest = i .rest ∙ append-assoc (item tag v) u post
+module _ (s : List ℕ) (short : length s ≤ octetsLimit) (at end k tag : ℕ) (v u post : List ℕ) (i : Inside s at end (itemOctets tag v ++ u) post) where
+  pub member-rest : drop at s ≡ itemOctets tag v ++ (u ++ post)
+  member-rest = i .rest ∙ append-assoc (itemOctets tag v) u post
 
-  pub next-member : usual true tag ≡ true → nextOf s (cursor at (Within.Definite k end)) ≡ Found (Member at k tag (startAt at (length v)) (length v)) (cursor (at + length (item tag v)) (Within.Definite k end))
+  pub next-member : usual true tag ≡ true → nextOf s (cursor at (Within.Definite k end)) ≡ Found (Member at k tag (startAt at (length v)) (length v)) (cursor (at + length (itemOctets tag v)) (Within.Definite k end))
   unfolding nextOf nextIn itemOf
   next-member t =
-      let l : at < end = omega (arith, i .stop, length-append (item tag v) u, length-item tag v) in
-      let d : end - at ≡ length (item tag v ++ u) = omega (arith, i .stop) in
-      let x : take (end - at) (drop at s) ≡ tag ∷ (shortest (length v) ++ (v ++ u)) = rw (i .rest, d, take-append-seam (item tag v ++ u) post) (item-ahead tag v u) in
+      let l : at < end = omega (arith, i .stop, length-append (itemOctets tag v) u, length-item tag v) in
+      let d : end - at ≡ length (itemOctets tag v ++ u) = omega (arith, i .stop) in
+      let x : take (end - at) (drop at s) ≡ tag ∷ (shortest (length v) ++ (v ++ u)) = rw (i .rest, d, take-append-seam (itemOctets tag v ++ u) post) (item-ahead tag v u) in
       simp (lt-ltb at end l) (rw (x, head-known true tag (length v) (v ++ u) t (value-short s short at tag v (u ++ post) member-rest) (value-behind v u), value-end at tag v))
 
-  pub inside-next : Inside s (at + length (item tag v)) end u post
-  inside-next = record { rest = rest-known s at (item tag v) (u ++ post) member-rest; stop = omega (arith, i .stop, length-append (item tag v) u) }
+  pub inside-next : Inside s (at + length (itemOctets tag v)) end u post
+  inside-next = record { rest = rest-known s at (itemOctets tag v) (u ++ post) member-rest; stop = omega (arith, i .stop, length-append (itemOctets tag v) u) }
 
 pub next-left : (s : List ℕ) (at end k : ℕ) (post : List ℕ) → Inside s at end [] post → nextOf s (cursor at (Within.Definite k end)) ≡ nextOf s (cursor at Root)
 unfolding nextOf

@@ -4,7 +4,7 @@
 --     frame-long, frames-long, canonical-long, canonical-none    frames and the file
 -- Assumes nothing.
 use Prim.Native.Nat.{ℕ, zero, suc, _+_, _*_, _/_, _%_, _<_}
-use mathlib.Core.Path.{_≡_, refl, sym, _∙_}
+use mathlib.Core.Path.{_≡_, refl, sym, ap, _∙_}
 use mathlib.Core.List.{List, [], _∷_, map, reverse, reverseAux-eq}
 use mathlib.Core.Bool.{Bool, true, false}
 use native.Mathlib.Omega.{arith}
@@ -12,11 +12,11 @@ use lib.ListN.{length, getD, take, drop, length-append, length-take, length-drop
 use Rattle.octets.specs.Pick.{pick}
 use Rattle.octets.specs.Number.{littleOf, numberOf}
 use Rattle.octets.proofs.Laws.{take-octets, drop-octets}
-use Rattle.stores.specs.Number.{be, Octets}
-use Rattle.stores.proofs.Number.{be-big}
+use Rattle.stores.specs.Number.{be}
+use Rattle.stores.proofs.Number.{Octets, octets-back}
 use Rattle.settings.specs.declared.Settings.{Settings}
 use Rattle.settings.specs.Settings.{zeroSettings}
-use Rattle.layout.specs.Frame.{Frame, widthIn, blockOctets, sequenceOctets, channelIn, samplesOf, offsetOf, reported}
+use Rattle.layout.specs.Frame.{Frame, widthIn, blockOctets, sequenceOctets, channelIn, samplesOf, offsetOf, reported, samplesOctets, octetsSampled}
 use Rattle.layout.specs.Size.{frameSize}
 use Rattle.laid.specs.Laid.{Named, sequence, laidFrom, laid, sampleIn}
 use Rattle.laid.specs.Turned.{turnedAll}
@@ -25,7 +25,6 @@ use Rattle.laid.proofs.Laid.{laid-same, laid-self}
 use Rattle.laid.proofs.Turned.{laid-turned}
 use Rattle.pass.specs.Scan.{sizeOf, sizes}
 use Rattle.reader.proofs.Ordered.{Lies}
-use Rattle.frames.proofs.Given.{length-size}
 use Rattle.canonical.specs.Recording.{sampleBits, tabulate, recordedFrame, recording}
 use Rattle.canonical.specs.Canonical.{waveformOf, frameOctets, framesOctets, canonical}
 use Rattle.groups.proofs.Sizes.{length-item, head-long, groups-long}
@@ -60,10 +59,13 @@ laid-reported : (g : ℕ → ℕ → List ℕ) (cs : List Settings) (S : ℕ) �
 unfolding laid
 laid-reported g cs S = laid-from-reported g cs 0 S
 
-pub octets-reported : (cs : List Settings) → sequenceOctets (map reported cs) ≡ sequenceOctets cs
+octets-reported : (cs : List Settings) → sequenceOctets (map reported cs) ≡ sequenceOctets cs
 unfolding sequenceOctets blockOctets reported
 octets-reported [] = refl
 octets-reported (c ∷ cs) = rw (octets-reported cs)
+
+pub sampled-reported : (f : Frame) → samplesOctets (map reported (f .channels)) (f .sequences) ≡ octetsSampled f
+sampled-reported f = ap (λ (n : ℕ). f .sequences * n) (octets-reported (f .channels))
 
 -- ---- a waveform
 
@@ -74,7 +76,7 @@ highestFirst little v = pick little (reverse v) v
 number-written : (little : Bool) (w : ℕ) (v : List ℕ) → length v ≡ w → Octets v → be w (numberOf little v) ≡ highestFirst little v
 unfolding numberOf
 number-written true w v e o = rw (← e) (be-little v o)
-number-written false w v e o = rw (← e) (be-big v o)
+number-written false w v e o = rw (← e) (octets-back v o)
 
 module _ (s : List ℕ) (f : Frame) (l : Lies s f) (octets : (i : ℕ) → getD (f .waveform) i 0 < 256) where
   sample-octets : (c n : ℕ) → Octets (sampleIn (f .channels) (f .waveform) c n)
@@ -100,7 +102,7 @@ module _ (s : List ℕ) (f : Frame) (l : Lies s f) (octets : (i : ℕ) → getD 
   unfolding waveformOf recordedFrame
   waveform-written = laid-reported _ (f .channels) (f .sequences) ∙ laid-same _ _ (f .channels) (f .sequences) sample-written
 
-  pub waveform-big : f .little ≡ false → waveformOf (recordedFrame f) ≡ take (f .sequences * sequenceOctets (f .channels)) (f .waveform)
+  pub waveform-big : f .little ≡ false → waveformOf (recordedFrame f) ≡ take (octetsSampled f) (f .waveform)
   waveform-big e = waveform-written ∙ rw e (laid-self (f .channels) (f .sequences) (f .waveform))
 
   pub waveform-little : f .little ≡ true → waveformOf (recordedFrame f) ≡ turnedAll (f .channels) (f .sequences) (f .waveform)
@@ -111,8 +113,8 @@ module _ (s : List ℕ) (f : Frame) (l : Lies s f) (octets : (i : ℕ) → getD 
 pub frame-long : (f : Frame) → length (frameOctets (recordedFrame f)) ≡ sizeOf f
 unfolding frameOctets recordedFrame sizeOf frameSize
 frame-long f =
-    let waveform : length (waveformOf (recordedFrame f)) ≡ f .sequences * sequenceOctets (f .channels) = waveform-long (recordedFrame f) ∙ rw octets-reported in
-    simp (length-append, head-long, groups-long, length-item, waveform, length-size) (omega arith)
+    let waveform : length (waveformOf (recordedFrame f)) ≡ octetsSampled f = waveform-long (recordedFrame f) ∙ sampled-reported f in
+    simp (length-append, head-long, groups-long, length-item, waveform) (omega arith)
 
 pub frames-long : (fs : List Frame) → length (framesOctets (recording fs)) ≡ sizes fs
 unfolding framesOctets recording sizes

@@ -19,7 +19,7 @@ use Rattle.standing.specs.Standing.{octetsLimit, framesLimit}
 use Rattle.pass.specs.Verdict.{State, state, firstState, Verdict, accepted, carried, verdict}
 use Rattle.stores.specs.Length.{shortest}
 use Rattle.canonical.specs.Recording.{Recorded, recording}
-use Rattle.groups.specs.Item.{item}
+use Rattle.groups.specs.Item.{itemOctets}
 use Rattle.canonical.specs.Canonical.{framesOctets, canonical}
 use Rattle.canonical.proofs.Good.{GoodRecorded, AllRecorded}
 use Rattle.canonical.proofs.Known.{usual, startAt, next-end}
@@ -62,13 +62,13 @@ module _ (s : List ℕ) (short : length s ≤ octetsLimit) where
   verdict-is = rw (le-ltb octetsLimit (length s) short)
 
 -- The first item, 01 01 00, changes nothing: a file starts big-endian.
-order-led : (s : List ℕ) → length s ≤ octetsLimit → (post : List ℕ) → s ≡ item 0x01 (0 ∷ []) ++ post → Led s firstState (cursor 0 Root) firstState post
+order-led : (s : List ℕ) → length s ≤ octetsLimit → (post : List ℕ) → s ≡ itemOctets 0x01 (0 ∷ []) ++ post → Led s firstState (cursor 0 Root) firstState post
 unfolding usual tagged carried
 order-led s short post e =
     plain-led s short firstState firstState 0 0x01 (0 ∷ []) post e refl refl (rw (order-is 0 0 (pos 0) (pos 0) (startAt 0 1)))
 
-canonical-items : (r : Recorded) (rs : List Recorded) → canonical (r ∷ rs) ≡ item 0x01 (0 ∷ []) ++ framesOctets (r ∷ rs)
-unfolding canonical item shortest
+canonical-items : (r : Recorded) (rs : List Recorded) → canonical (r ∷ rs) ≡ itemOctets 0x01 (0 ∷ []) ++ framesOctets (r ∷ rs)
+unfolding canonical itemOctets shortest
 canonical-items r rs = refl
 
 -- A file is accepted, and holds a recording.

@@ -16,16 +16,16 @@ use borrow.Author.Tests.{eq-eqb, ne-eqb}
 use lib.ListN.{length, getD}
 use Rattle.octets.proofs.Pick.{either-true}
 use Rattle.stores.specs.Number.{be, length-be}
+use Rattle.stores.proofs.Number.{number-back}
 use Rattle.values.specs.declared.Bits.{Bits}
 use Rattle.settings.specs.declared.Settings.{Settings}
-use Rattle.layout.specs.Frame.{offsetBits, Frame, widthIn, blockOctets, sequenceOctets, widthAgrees, channelAgrees, allAgree, channelIn, samplesOf, reported}
+use Rattle.layout.specs.Frame.{offsetBits, Frame, widthIn, blockOctets, sequenceOctets, widthAgrees, channelAgrees, allAgree, channelIn, samplesOf, reported, samplesOctets}
 use Rattle.laid.specs.Laid.{Named}
 use Rattle.laid.proofs.Laid.{laid-length, laid-at}
 use Rattle.framing.specs.Framing.{sequencesOf}
 use Rattle.canonical.specs.Recording.{Recorded, sampleBits, tabulate, recordedFrame}
 use Rattle.canonical.specs.Canonical.{waveformOf}
 use Rattle.canonical.proofs.Good.{GoodReported, AllReported, GoodRecorded}
-use Rattle.canonical.proofs.Numbers.{number-back}
 use Rattle.canonical.proofs.Effects.{width-good}
 
 -- The frame that a recorded one gives, its waveform at a place.
@@ -67,7 +67,7 @@ sequences-back n octets = by (ℕ-discrete n 0)
 abbrev octetsIn : Recorded → ℕ → ℕ → List ℕ
 octetsIn r c n = be (widthIn (channelIn c (r .channels))) (getD (getD (r .samples) c []) n 0)
 
-pub waveform-long : (r : Recorded) → length (waveformOf r) ≡ r .sequences * sequenceOctets (r .channels)
+pub waveform-long : (r : Recorded) → length (waveformOf r) ≡ samplesOctets (r .channels) (r .sequences)
 unfolding waveformOf
 waveform-long r = laid-length (octetsIn r) (r .channels) (r .sequences) (λ c n h. length-be _ _)
 

@@ -31,7 +31,7 @@ use Rattle.standing.specs.declared.Standing.{Standing}
 use Rattle.effects.specs.Effects.{effectOf, plainEffect, rootEffect, memberEffect, oneEffect, groupEffect}
 use Rattle.standing.specs.Standing.{octetsLimit}
 use Rattle.pass.specs.Verdict.{State, state, Verdict, accepted, goes, oneChanged, carried, placeAt, afterItem, interpret}
-use Rattle.groups.specs.Item.{item}
+use Rattle.groups.specs.Item.{itemOctets}
 use Rattle.canonical.proofs.Known.{usual, group, startAt, ahead, Inside, rest-known, value-known, next-plain, next-group, inside-first, next-member, member-rest, inside-next, next-left}
 
 -- The verdict on the items from a cursor on.
@@ -105,9 +105,9 @@ pub record Definition : Type 0 where
   pub change : Change
 
 -- The items of some definitions, one after the other.
-abbrev pub octetsOf : List Definition → List ℕ
-octetsOf [] = []
-octetsOf (p ∷ ps) = item (tagOf (p .attribute)) (p .value) ++ octetsOf ps
+abbrev pub definitionsOctets : List Definition → List ℕ
+definitionsOctets [] = []
+definitionsOctets (p ∷ ps) = itemOctets (tagOf (p .attribute)) (p .value) ++ definitionsOctets ps
 
 -- A record with all of them applied.
 abbrev pub changed : List Definition → Settings → Settings
@@ -126,12 +126,12 @@ withChannel st table fs k c = state st (set table k c) fs
 -- ---- what the items lead to
 
 module _ (s : List ℕ) (short : length s ≤ octetsLimit) where
-  pub plain-led : (x y : State) (at tag : ℕ) (v post : List ℕ) → drop at s ≡ item tag v ++ post → usual false tag ≡ true → tagged tag ≡ Other → carried s x (rootEffect (x .standing) tag (startAt at (length v)) v) ≡ goes y → Led s x (cursor at Root) y post
+  pub plain-led : (x y : State) (at tag : ℕ) (v post : List ℕ) → drop at s ≡ itemOctets tag v ++ post → usual false tag ≡ true → tagged tag ≡ Other → carried s x (rootEffect (x .standing) tag (startAt at (length v)) v) ≡ goes y → Led s x (cursor at Root) y post
   unfolding effectOf plainEffect
   plain-led x y at tag v post e t o h =
       record {
-        place = at + length (item tag v);
-        rest = rest-known s at (item tag v) post e;
+        place = at + length (itemOctets tag v);
+        rest = rest-known s at (itemOctets tag v) post e;
         same = goes-on s x (cursor at Root) y _ _ (next-plain s short at tag v post e t) (rw (value-known s short at tag v post e, o) h);
       }
 
@@ -141,7 +141,7 @@ module _ (s : List ℕ) (short : length s ≤ octetsLimit) where
     unfolding oneChanged
     one-again f c = rw (getD-set-same table k c zeroSettings known) (set-set table k c (f c))
 
-    member-goes : (at end : ℕ) (p : Definition) (u post : List ℕ) (c : Settings) → Inside s at end (item (tagOf (p .attribute)) (p .value) ++ u) post → defined (p .attribute) false (st .root) (p .value) ≡ Changed (p .change) → from s (withChannel st table fs k c) (cursor at (Within.Definite k end)) ≡ from s (withChannel st table fs k (applied (p .change) c)) (cursor (at + length (item (tagOf (p .attribute)) (p .value))) (Within.Definite k end))
+    member-goes : (at end : ℕ) (p : Definition) (u post : List ℕ) (c : Settings) → Inside s at end (itemOctets (tagOf (p .attribute)) (p .value) ++ u) post → defined (p .attribute) false (st .root) (p .value) ≡ Changed (p .change) → from s (withChannel st table fs k c) (cursor at (Within.Definite k end)) ≡ from s (withChannel st table fs k (applied (p .change) c)) (cursor (at + length (itemOctets (tagOf (p .attribute)) (p .value))) (Within.Definite k end))
     unfolding effectOf memberEffect oneEffect carried
     member-goes at end p u post c i d =
         let a = p .attribute in
@@ -150,21 +150,21 @@ module _ (s : List ℕ) (short : length s ≤ octetsLimit) where
         (next-member s short at end k (tagOf a) (p .value) u post i (tag-usual a))
         (rw (value-known s short at (tagOf a) (p .value) (u ++ post) (member-rest s short at end k (tagOf a) (p .value) u post i), tag-defines a, big, d, ne-eqb (st .counted) 0 n, one-again (applied (p .change)) c))
 
-    pub members-led : (at end : ℕ) (ps : List Definition) (post : List ℕ) (c : Settings) → Inside s at end (octetsOf ps) post → AllDefine (st .root) ps → Led s (withChannel st table fs k c) (cursor at (Within.Definite k end)) (withChannel st table fs k (changed ps c)) post
+    pub members-led : (at end : ℕ) (ps : List Definition) (post : List ℕ) (c : Settings) → Inside s at end (definitionsOctets ps) post → AllDefine (st .root) ps → Led s (withChannel st table fs k c) (cursor at (Within.Definite k end)) (withChannel st table fs k (changed ps c)) post
     members-led at end [] post c i d =
         record { place = at; rest = i .rest; same = leaves s (withChannel st table fs k c) at (Within.Definite k end) Root (next-left s at end k post i) }
     members-led at end (p ∷ ps) post c i d =
         let t = tagOf (p .attribute) in
-        let a = members-led (at + length (item t (p .value))) end ps post (applied (p .change) c) (inside-next s short at end k t (p .value) (octetsOf ps) post i) (d .1) in
-        record { place = a .place; rest = a .rest; same = member-goes at end p (octetsOf ps) post c i (d .0) ∙ a .same }
+        let a = members-led (at + length (itemOctets t (p .value))) end ps post (applied (p .change) c) (inside-next s short at end k t (p .value) (definitionsOctets ps) post i) (d .1) in
+        record { place = a .place; rest = a .rest; same = member-goes at end p (definitionsOctets ps) post c i (d .0) ∙ a .same }
 
-    pub group-led : (at : ℕ) (ps : List Definition) (post : List ℕ) → k < 16384 → drop at s ≡ group k (octetsOf ps) ++ post → AllDefine (st .root) ps → Led s (state st table fs) (cursor at Root) (withChannel st table fs k (changed ps (getD table k zeroSettings))) post
+    pub group-led : (at : ℕ) (ps : List Definition) (post : List ℕ) → k < 16384 → drop at s ≡ group k (definitionsOctets ps) ++ post → AllDefine (st .root) ps → Led s (state st table fs) (cursor at Root) (withChannel st table fs k (changed ps (getD table k zeroSettings))) post
     unfolding effectOf groupEffect carried
     group-led at ps post small e d =
         let c = getD table k zeroSettings in
         let n : st .counted ≡ 0 → ⊥ = λ z. omega arith in
         let same = ap (λ (t : List Settings). state st t fs) (sym (set-getD table k zeroSettings)) in
-        let u = octetsOf ps in
+        let u = definitionsOctets ps in
         let a = members-led (at + ahead k (length u)) (at + ahead k (length u) + length u) ps post c (inside-first s short at k small u post e) d in
         let h = goes-on s (state st table fs) (cursor at Root) (withChannel st table fs k c) _ _ (next-group s short at k small u post e) (simp (ne-eqb (st .counted) 0 n, lt-ltb k (st .counted) below) (ap goes same)) in
         record { place = a .place; rest = a .rest; same = h ∙ a .same }

@@ -9,7 +9,7 @@
 use mathlib.Core.Path.{_≡_, refl, sym, ap, subst, _∙_}
 use mathlib.Core.List.{List, [], _∷_, _++_, map, append-assoc, append-nil, map-append}
 use mathlib.Core.Bool.{Bool, true, false}
-use Prim.Native.Nat.{ℕ, suc, _+_, _*_, _^_, _≤_, _<_}
+use Prim.Native.Nat.{ℕ, suc, _+_, _^_, _≤_, _<_}
 use native.Mathlib.Nat.{zero-add, add-assoc}
 use native.Mathlib.Omega.{arith}
 use types.Run.{OneOf, miss}
@@ -39,7 +39,7 @@ use Rattle.stores.specs.Storing.{Put, Putting, put-fits}
 use Rattle.stores.proofs.Stores.{put-then, put-long, sets-front}
 use Rattle.settings.specs.declared.Settings.{Settings}
 use Rattle.settings.specs.Settings.{channelLimit, defaultSettings, defaultTable}
-use Rattle.layout.specs.Frame.{Frame, sequenceOctets, reported}
+use Rattle.layout.specs.Frame.{Frame, samplesOctets, reported}
 use Rattle.layout.specs.declared.Layout.{Layout}
 use Rattle.layout.specs.Measure.{layoutOf}
 use Rattle.layout.specs.Size.{groupsSize, frameSize}
@@ -64,7 +64,7 @@ use Rattle.framing.proofs.Framings.{pointer-small}
 use Rattle.settings.proofs.Shown.{shown, shown-none}
 use Rattle.pass.proofs.Scans.{frame-carried, taken-few, taken-root, shownBy, Records, Filling, frame-shown}
 use Rattle.reader.proofs.Ordered.{Lies, accepted-lies, accepted-small}
-use Rattle.groups.specs.Item.{item}
+use Rattle.groups.specs.Item.{itemOctets}
 use Rattle.groups.specs.Head.{headItems}
 use Rattle.groups.specs.Group.{groupsOctets}
 use Rattle.groups.proofs.Puts.{put-as}
@@ -74,7 +74,7 @@ use Rattle.canonical.specs.Recording.{Recorded, recordedFrame, recording
 use Rattle.canonical.specs.Canonical.{waveformOf, frameOctets, framesOctets, canonical}
 use Rattle.canonical.specs.Write.{framesIn, canonicalOf, fits, outputIn, writtenOf, leftOf, Ready, Wrote}
 use Rattle.heads.specs.Answer.{Answer, answered, refusedAs, refusedBy, mapAnswer, leftBy}
-use Rattle.canonical.proofs.Octets.{waveform-big, waveform-little, frames-long, canonical-long, canonical-none, octets-reported}
+use Rattle.canonical.proofs.Octets.{waveform-big, waveform-little, frames-long, canonical-long, canonical-none, sampled-reported}
 use Rattle.canonical.proofs.Recordings.{waveform-long}
 
 -- ---- the frames met so far are the first of the file's
@@ -95,17 +95,17 @@ frames-grow s x c fs e =
 -- ---- a frame's octets, in the parts in which it is written
 
 recorded-is : (r : Recorded)
-    → frameOctets r ≡ (((headItems (length (r .channels)) (r .sequences) (r .start) ++ groupsOctets 0 (r .channels)) ++ (0x1E ∷ [])) ++ shortest (r .sequences * sequenceOctets (r .channels))) ++ waveformOf r
-unfolding frameOctets item
+    → frameOctets r ≡ (((headItems (length (r .channels)) (r .sequences) (r .start) ++ groupsOctets 0 (r .channels)) ++ (0x1E ∷ [])) ++ shortest (samplesOctets (r .channels) (r .sequences))) ++ waveformOf r
+unfolding frameOctets itemOctets
 recorded-is r =
-    let l : shortest (length (waveformOf r)) ≡ shortest (r .sequences * sequenceOctets (r .channels)) = ap shortest (waveform-long r) in
+    let l : shortest (length (waveformOf r)) ≡ shortest (samplesOctets (r .channels) (r .sequences)) = ap shortest (waveform-long r) in
     rw l (simp append-assoc)
 
 pub frame-is : (f : Frame) → frameOctets (recordedFrame f) ≡ frameParts (f .start) (f .sequences) (f .channels) (waveformOf (recordedFrame f))
 unfolding recordedFrame
 frame-is f =
     recorded-is (recordedFrame f)
-    ∙ (λ i. (((headItems (length-map (f .channels) reported i) (f .sequences) (f .start) ++ groupsOctets 0 (map reported (f .channels))) ++ (0x1E ∷ [])) ++ shortest (f .sequences * octets-reported (f .channels) i)) ++ waveformOf (recordedFrame f))
+    ∙ (λ i. (((headItems (length-map (f .channels) reported i) (f .sequences) (f .start) ++ groupsOctets 0 (map reported (f .channels))) ++ (0x1E ∷ [])) ++ shortest (sampled-reported f i)) ++ waveformOf (recordedFrame f))
 
 -- The samples of a frame, as they are written.
 pub samples-are : (s : List ℕ) (f : Frame) → Lies s f → ((i : ℕ) → getD (f .waveform) i 0 < 256) → samplesTurned (f .little) (f .channels) (f .sequences) (f .waveform) ≡ waveformOf (recordedFrame f)
@@ -116,16 +116,16 @@ samples-are s f l o = by (f .little) refl
     by true e = ap (λ (b : Bool). samplesTurned b (f .channels) (f .sequences) (f .waveform)) e ∙ sym (waveform-little s f l o e)
 
 -- A start pointer within 32 bits, as it is handed on.
-abbrev pub widened : ℤ → ℤ
-widened z = toZ w64 (ofZ w64 z)
+abbrev pub readWide : ℤ → ℤ
+readWide z = toZ w64 (ofZ w64 z)
 
 abbrev pub narrowed : ℤ → ℤ
-narrowed z = toZ w32 (ofZ w32 (widened z))
+narrowed z = toZ w32 (ofZ w32 (readWide z))
 
-wide-is : (z : ℤ) → mag z < 2 ^ 31 → widened z ≡ z
+wide-is : (z : ℤ) → mag z < 2 ^ 31 → readWide z ≡ z
 wide-is z h = let wide : mag z < 2 ^ 63 = omega arith in toZ-ofZ (record { sfits = wide })
 
-narrow-fits : (z : ℤ) → mag z < 2 ^ 31 → SFits w32 (widened z)
+narrow-fits : (z : ℤ) → mag z < 2 ^ 31 → SFits w32 (readWide z)
 narrow-fits z h = subst (SFits w32) (sym (wide-is z h)) (record { sfits = h })
 
 narrow-is : (z : ℤ) → mag z < 2 ^ 31 → narrowed z ≡ z
@@ -284,8 +284,8 @@ module _ {s d : List ℕ} {table : List Settings} {c : Cursor} {st : Standing} {
     same-there : take count table ≡ there .channels
     same-there = ap (λ (k : ℕ). take k table) ec
 
-    octets-there : sequences * sequenceOctets (take count table) ≡ sequences * sequenceOctets (there .channels)
-    octets-there = ap (λ (cs : List Settings). sequences * sequenceOctets cs) same-there
+    octets-there : samplesOctets (take count table) sequences ≡ samplesOctets (there .channels) sequences
+    octets-there = ap (λ (cs : List Settings). samplesOctets cs sequences) same-there
 
     pub frame-few : frames < framesLimit
     frame-few = taken-few (short p) (p .reached) (p .count) 0 l counted i (sym fe ∙ ee) er fr
@@ -296,22 +296,22 @@ module _ {s d : List ℕ} {table : List Settings} {c : Cursor} {st : Standing} {
     start-small : mag (st .start) < 2 ^ 31
     start-small = pointer-small (st .start) (lies .pointer)
 
-    pub frame-start : SFits w32 (widened (st .start))
+    pub frame-start : SFits w32 (readWide (st .start))
     frame-start = narrow-fits (st .start) start-small
 
     -- Where the frame is written it fits.
-    frame-room : at + frameSize sequences (groupsSize 0 (take count table)) (sequences * sequenceOctets (take count table)) ≤ length e
+    frame-room : at + frameSize sequences (groupsSize 0 (take count table)) (samplesOctets (take count table) sequences) ≤ length e
     unfolding sizeOf
     frame-room =
-        let g : frameSize sequences (groupsSize 0 (take count table)) (sequences * sequenceOctets (take count table)) ≡ sizeOf there = ap (λ (cs : List Settings). frameSize sequences (groupsSize 0 cs) (sequences * sequenceOctets cs)) same-there in
+        let g : frameSize sequences (groupsSize 0 (take count table)) (samplesOctets (take count table) sequences) ≡ sizeOf there = ap (λ (cs : List Settings). frameSize sequences (groupsSize 0 cs) (samplesOctets cs sequences)) same-there in
         omega (arith, p .room, sized, put-long (p .put), p .put .next, frames-long (p .met))
 
     -- The frame written.
     pub writing-frame : {w : List ℕ} {at' : ℕ} {e' : List ℕ} → ((k : ℕ) → getD s k 0 < 256) → w ≡ valueAt s start len → Putting e at (frameGiven (narrowed (st .start)) (st .little) sequences (take count table) w) at' e' → Writing s d table d' x (frames + 1) at' e'
     writing-frame {w} {at'} {e'} o ew q =
         let v : length w ≡ length (there .waveform) = ap length ew in
-        let held : sequences * sequenceOctets (take count table) ≤ length w = omega (arith, octets-there, lies .fits) in
-        let few : sequences * sequenceOctets (take count table) ≤ octetsLimit = omega (arith, octets-there, lies .fits, lies .inside, accepted-small s all (p .is)) in
+        let held : samplesOctets (take count table) sequences ≤ length w = omega (arith, octets-there, lies .fits) in
+        let few : samplesOctets (take count table) sequences ≤ octetsLimit = omega (arith, octets-there, lies .fits, lies .inside, accepted-small s all (p .is)) in
         let k : frameParts (narrowed (st .start)) sequences (take count table) (samplesTurned (st .little) (take count table) sequences w) ≡ frameOctets (recordedFrame there) =
         (λ i. frameParts (narrow-is (st .start) start-small i) sequences (same-there i) (samplesTurned (st .little) (same-there i) sequences (ew i)))
         ∙ ap (frameParts (there .start) sequences (there .channels)) (samples-are s there lies (take-octets len (drop start s) (drop-octets start s o)))
@@ -369,7 +369,7 @@ module _ {s d : List ℕ} {table : List Settings} {own : ℕ} {c : Cursor} {st :
       pub going-few : frames < framesLimit
       going-few = frame-few (p .pass) count l ec laid en fn ee fe er fr
 
-      pub going-start : SFits w32 (widened (st .start))
+      pub going-start : SFits w32 (readWide (st .start))
       going-start = frame-start (p .pass) count l ec laid en fn ee fe er fr
 
       pub going-frame : {w : List ℕ} {at' : ℕ} {e' : List ℕ} → ((k : ℕ) → getD s k 0 < 256) → w ≡ valueAt s start len → Putting e at (frameGiven (narrowed (st .start)) (st .little) sequences (take count table) w) at' e' → Going s d table own d' x (frames + 1) at' e'

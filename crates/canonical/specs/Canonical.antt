@@ -5,7 +5,7 @@ use lib.ListN.{length, getD}
 use Rattle.stores.specs.Number.{be}
 use Rattle.layout.specs.Frame.{widthIn, channelIn}
 use Rattle.laid.specs.Laid.{laid}
-use Rattle.groups.specs.Item.{item}
+use Rattle.groups.specs.Item.{itemOctets}
 use Rattle.groups.specs.Head.{headItems}
 use Rattle.groups.specs.Group.{groupsOctets}
 use Rattle.canonical.specs.Recording.{Recorded}
@@ -20,7 +20,7 @@ unfoldable pub frameOctets : Recorded → List ℕ
 frameOctets r =
     headItems (length (r .channels)) (r .sequences) (r .start)
     ++ (groupsOctets 0 (r .channels)
-    ++ item 0x1E (waveformOf r))
+    ++ itemOctets 0x1E (waveformOf r))
 
 -- The frames, one after the other.
 unfoldable pub framesOctets : List Recorded → List ℕ

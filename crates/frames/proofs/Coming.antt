@@ -3,7 +3,10 @@
 --     coming-put, coming-step  after one run
 --     coming-room              the next run fits
 --     coming-done              after the last run
---     groups-next, sequence-next, all-next    the next run of a frame's groups and of a waveform that is turned round
+--     Nth, nth, taken-long     a record of the first ones of a table
+--     Grouped, grouped-..      the loop over a frame's groups
+--     Blocks, blocks-..        the loop over the blocks of a sequence that is turned round
+--     Sequences, sequences-..  the loop over the sequences of a waveform
 -- Assumes nothing.
 use mathlib.Core.Path.{_≡_, refl, sym, ap, ap₂, subst, _∙_}
 use mathlib.Core.List.{List, [], _∷_, _++_, map}
@@ -19,10 +22,12 @@ use Rattle.stores.proofs.Stores.{sets-append, put-long}
 use Rattle.runs.proofs.Turned.{run-there, length-turned}
 use Rattle.values.specs.Sample.{widthOf}
 use Rattle.settings.specs.declared.Settings.{Settings}
-use Rattle.settings.specs.Settings.{zeroSettings}
-use Rattle.layout.specs.Frame.{widthIn, blockOctets, sequenceOctets, reported}
+use Rattle.settings.specs.Settings.{channelLimit, zeroSettings}
+use Rattle.layout.specs.Frame.{widthIn, blockOctets, sequenceOctets, reported, samplesOctets}
 use Rattle.laid.specs.Turned.{turnedSequence, turnedAll}
+use Rattle.layout.specs.Size.{groupsSize}
 use Rattle.groups.specs.Group.{groupOctets, groupsOctets}
+use Rattle.groups.proofs.Sizes.{groups-long}
 
 pub record Coming (d : List ℕ) (at : ℕ) (all : List ℕ) (next : ℕ) (rest e : List ℕ) : Type 0 where
   pub stored : sets e next rest ≡ sets d at all
@@ -59,49 +64,80 @@ coming-done x p =
     let q = coming-as x p in
     record { next = omega (arith, q .place); stored = q .stored }
 
+-- ---- the first records of a table
+
+-- Record i of the channels cs is c.
+pub record Nth (cs : List Settings) (i : ℕ) (c : Settings) : Type 0 where
+  pub inside : i < length cs
+  pub is : c ≡ getD cs i zeroSettings
+
+pub nth : (t : List Settings) (n i : ℕ) → length (take n t) ≡ n → i < n → Nth (take n t) i (getD t i zeroSettings)
+nth t n i e h = record { inside = omega arith; is = sym (getD-take n t i zeroSettings h) }
+
+pub taken-long : (t : List Settings) (n : ℕ) → length t ≡ channelLimit → n ≤ channelLimit → length (take n t) ≡ n
+taken-long t n e h = length-take-le n t (omega arith)
+
 -- ---- groups
 
-pub groups-next : (cs : List Settings) (i : ℕ) (c : Settings) → i < length cs → c ≡ getD cs i zeroSettings → groupsOctets i (map reported (drop i cs)) ≡ groupOctets i (reported c) ++ groupsOctets (i + 1) (map reported (drop (i + 1) cs))
+groups-next : {cs : List Settings} {i : ℕ} {c : Settings} → Nth cs i c → groupsOctets i (map reported (drop i cs)) ≡ groupOctets i (reported c) ++ groupsOctets (i + 1) (map reported (drop (i + 1) cs))
 unfolding groupsOctets
-groups-next cs i c h e = rw (drop-cons cs i zeroSettings h, add-one, ← e)
+groups-next {cs} {i} n = rw (drop-cons cs i zeroSettings (n .inside), add-one, ← n .is)
 
-pub groups-done : (cs : List Settings) (i : ℕ) → length cs ≤ i → groupsOctets i (map reported (drop i cs)) ≡ []
+groups-done : (cs : List Settings) (i : ℕ) → length cs ≤ i → groupsOctets i (map reported (drop i cs)) ≡ []
 unfolding groupsOctets
 groups-done cs i h = rw (drop-of-length-le cs h)
+
+-- The groups of the channels cs, stored from `at` on in d: i of them are behind.
+pub record Grouped (cs : List Settings) (d : List ℕ) (at i next : ℕ) (e : List ℕ) : Type 0 where
+  pub low : i ≤ length cs
+  pub room : at + length (groupsOctets 0 (map reported cs)) ≤ length d
+  pub coming : Coming d at (groupsOctets 0 (map reported cs)) next (groupsOctets i (map reported (drop i cs))) e
+
+pub grouped-first : (cs : List Settings) (d : List ℕ) (at : ℕ) → at + groupsSize 0 cs ≤ length d → Grouped cs d at 0 at d
+grouped-first cs d at h =
+    record { low = omega arith; room = omega (arith, groups-long 0 cs); coming = coming-first d at (groupsOctets 0 (map reported cs)) }
+
+module _ {cs : List Settings} {d e : List ℕ} {at i next : ℕ} (p : Grouped cs d at i next e) where
+  pub grouped-next : {c : Settings} {r : ℕ} {f : List ℕ} → Nth cs i c → Putting e next (groupOctets i (reported c)) r f → Grouped cs d at (i + 1) r f
+  grouped-next n q =
+      record { low = omega (arith, n .inside); room = p .room; coming = coming-step (p .coming) (groups-next n) (p .room) q }
+
+  pub grouped-done : length cs ≤ i → Put d at (groupsOctets 0 (map reported cs)) next e
+  grouped-done h = coming-done (groups-done cs i h) (p .coming)
 
 -- ---- a waveform that is turned round
 
 -- One block of a sequence, and the rest of it.
-pub sequence-next : (cs : List Settings) (i : ℕ) (c : Settings) (x : List ℕ) (place : ℕ) → i < length cs → c ≡ getD cs i zeroSettings → turnedSequence (drop i cs) (drop place x) ≡ turned (widthIn c) (c .block) (drop place x) ++ turnedSequence (drop (i + 1) cs) (drop (place + blockOctets c) x)
+sequence-next : {cs : List Settings} {i : ℕ} {c : Settings} (x : List ℕ) (place : ℕ) → Nth cs i c → turnedSequence (drop i cs) (drop place x) ≡ turned (widthIn c) (c .block) (drop place x) ++ turnedSequence (drop (i + 1) cs) (drop (place + blockOctets c) x)
 unfolding turnedSequence
-sequence-next cs i c x place h e = rw (drop-cons cs i zeroSettings h, add-one, ← e, drop-drop)
+sequence-next {cs} {i} x place n = rw (drop-cons cs i zeroSettings (n .inside), add-one, ← n .is, drop-drop)
 
-pub octets-next : (cs : List Settings) (i : ℕ) (c : Settings) → i < length cs → c ≡ getD cs i zeroSettings → sequenceOctets (drop i cs) ≡ blockOctets c + sequenceOctets (drop (i + 1) cs)
+octets-next : {cs : List Settings} {i : ℕ} {c : Settings} → Nth cs i c → sequenceOctets (drop i cs) ≡ blockOctets c + sequenceOctets (drop (i + 1) cs)
 unfolding sequenceOctets
-octets-next cs i c h e = rw (drop-cons cs i zeroSettings h, add-one, ← e)
+octets-next {cs} {i} n = rw (drop-cons cs i zeroSettings (n .inside), add-one, ← n .is)
 
-pub sequence-done : (cs : List Settings) (i : ℕ) (x : List ℕ) → length cs ≤ i → turnedSequence (drop i cs) x ≡ []
+sequence-done : (cs : List Settings) (i : ℕ) (x : List ℕ) → length cs ≤ i → turnedSequence (drop i cs) x ≡ []
 unfolding turnedSequence
 sequence-done cs i x h = rw (drop-of-length-le cs h)
 
-pub octets-done : (cs : List Settings) (i : ℕ) → length cs ≤ i → sequenceOctets (drop i cs) ≡ 0
+octets-done : (cs : List Settings) (i : ℕ) → length cs ≤ i → sequenceOctets (drop i cs) ≡ 0
 unfolding sequenceOctets
 octets-done cs i h = rw (drop-of-length-le cs h)
 
 -- One sequence, and those after it.
-pub all-next : (cs : List Settings) (n q : ℕ) (x : List ℕ) (place : ℕ) → q < n → turnedAll cs (n - q) (drop place x) ≡ turnedSequence cs (drop place x) ++ turnedAll cs (n - (q + 1)) (drop (place + sequenceOctets cs) x)
+all-next : (cs : List Settings) (n q : ℕ) (x : List ℕ) (place : ℕ) → q < n → turnedAll cs (n - q) (drop place x) ≡ turnedSequence cs (drop place x) ++ turnedAll cs (n - (q + 1)) (drop (place + sequenceOctets cs) x)
 unfolding turnedAll
 all-next cs n q x place h =
     let e : n - q ≡ suc (n - (q + 1)) = omega arith in
     rw (e, drop-drop)
 
-pub all-done : (cs : List Settings) (n q : ℕ) (x : List ℕ) → n ≤ q → turnedAll cs (n - q) x ≡ []
+all-done : (cs : List Settings) (n q : ℕ) (x : List ℕ) → n ≤ q → turnedAll cs (n - q) x ≡ []
 unfolding turnedAll
 all-done cs n q x h =
     let e : n - q ≡ 0 = omega arith in
     rw e
 
-pub length-sequence : (cs : List Settings) (x : List ℕ) → sequenceOctets cs ≤ length x → length (turnedSequence cs x) ≡ sequenceOctets cs
+length-sequence : (cs : List Settings) (x : List ℕ) → sequenceOctets cs ≤ length x → length (turnedSequence cs x) ≡ sequenceOctets cs
 unfolding turnedSequence sequenceOctets blockOctets
 length-sequence [] x h = refl
 length-sequence (c ∷ cs) x h =
@@ -111,31 +147,24 @@ length-sequence (c ∷ cs) x h =
     length-append (turned (widthIn c) (c .block) x) (turnedSequence cs (drop (c .block * widthIn c) x))
     ∙ ap₂ _+_ (length-turned (widthIn c) (c .block) x a) (length-sequence cs (drop (c .block * widthIn c) x) b)
 
-pub length-all : (cs : List Settings) (n : ℕ) (x : List ℕ) → n * sequenceOctets cs ≤ length x → length (turnedAll cs n x) ≡ n * sequenceOctets cs
+pub length-all : (cs : List Settings) (n : ℕ) (x : List ℕ) → samplesOctets cs n ≤ length x → length (turnedAll cs n x) ≡ samplesOctets cs n
 unfolding turnedAll
 length-all cs zero x h = omega arith
 length-all cs (suc n) x h =
     let l = length-drop (sequenceOctets cs) x in
     let a : sequenceOctets cs ≤ length x = omega arith in
-    let b : n * sequenceOctets cs ≤ length (drop (sequenceOctets cs) x) = omega arith in
+    let b : samplesOctets cs n ≤ length (drop (sequenceOctets cs) x) = omega arith in
     length-append (turnedSequence cs x) (turnedAll cs n (drop (sequenceOctets cs) x))
     ∙ ap₂ _+_ (length-sequence cs x a) (length-all cs n (drop (sequenceOctets cs) x) b)
     ∙ omega arith
 
 -- A block that is turned round, as it was asked for.
-pub block-stored : {e f : List ℕ} {next r : ℕ} (c : Settings) (v place : ℕ) (x : List ℕ) → v ≡ widthOf (c .kind) → place + blockOctets c ≤ length x → Putting e next (turnedRun v (c .block) (drop place x)) r f → Putting e next (turned (widthIn c) (c .block) (drop place x)) r f
+block-stored : {e f : List ℕ} {next r : ℕ} (c : Settings) (v place : ℕ) (x : List ℕ) → v ≡ widthOf (c .kind) → place + blockOctets c ≤ length x → Putting e next (turnedRun v (c .block) (drop place x)) r f → Putting e next (turned (widthIn c) (c .block) (drop place x)) r f
 unfolding blockOctets
 block-stored {e} {f} {next} {r} c v place x ev h p =
     let l = length-drop place x in
     let k : c .block * widthIn c ≤ length (drop place x) = omega arith in
     subst (λ (u : List ℕ). Putting e next u r f) (ap (λ (w : ℕ). turnedRun w (c .block) (drop place x)) ev ∙ run-there (widthIn c) (c .block) (drop place x) k) p
-
--- An element of the first records of a table.
-pub taken-at : (t : List Settings) (n i : ℕ) → i < n → getD t i zeroSettings ≡ getD (take n t) i zeroSettings
-taken-at t n i h = sym (getD-take n t i zeroSettings h)
-
-pub taken-long : (t : List Settings) (n : ℕ) → length t ≡ 256 → n ≤ 256 → length (take n t) ≡ n
-taken-long t n e h = length-take-le n t (omega arith)
 
 -- ---- the loops over a waveform that is turned round
 
@@ -158,24 +187,24 @@ blocks-first cs x from base d h k =
     record { low = omega arith; fits = h; room = omega (arith, from-long cs x from h); sum = refl; coming = coming-first d base (turnedSequence cs (drop from x)) }
 
 module _ {cs : List Settings} {x : List ℕ} {from base : ℕ} {d : List ℕ} {i place next : ℕ} {e : List ℕ} (p : Blocks cs x from base d i place next e) where
-  pub blocks-fit : (c : Settings) → i < length cs → c ≡ getD cs i zeroSettings → place + blockOctets c ≤ length x
-  blocks-fit c h ec = omega (arith, p .sum, p .fits, octets-next cs i c h ec)
+  blocks-fit : {c : Settings} → Nth cs i c → place + blockOctets c ≤ length x
+  blocks-fit n = omega (arith, p .sum, p .fits, octets-next n)
 
-  pub blocks-sum : (c : Settings) (v : ℕ) → i < length cs → c ≡ getD cs i zeroSettings → v ≡ widthOf (c .kind) → place + c .block * v ≤ length x
+  pub blocks-sum : {c : Settings} {v : ℕ} → Nth cs i c → v ≡ widthOf (c .kind) → place + c .block * v ≤ length x
   unfolding blockOctets
-  blocks-sum c v h ec ev = rw ev (blocks-fit c h ec)
+  blocks-sum n ev = rw ev (blocks-fit n)
 
-  pub blocks-next : (c : Settings) (v : ℕ) {r : ℕ} {f : List ℕ} → i < length cs → c ≡ getD cs i zeroSettings → v ≡ widthOf (c .kind) → Putting e next (turnedRun v (c .block) (drop place x)) r f → Blocks cs x from base d (i + 1) (place + c .block * v) r f
+  pub blocks-next : {c : Settings} {v r : ℕ} {f : List ℕ} → Nth cs i c → v ≡ widthOf (c .kind) → Putting e next (turnedRun v (c .block) (drop place x)) r f → Blocks cs x from base d (i + 1) (place + c .block * v) r f
   unfolding blockOctets
-  blocks-next c v {r} {f} h ec ev q =
+  blocks-next {c} {v} n ev q =
       let m : place + c .block * v ≡ place + blockOctets c = ap (λ (w : ℕ). place + c .block * w) ev in
       rw m
       record {
-        low = omega arith;
+        low = omega (arith, n .inside);
         fits = p .fits;
         room = p .room;
-        sum = omega (arith, p .sum, octets-next cs i c h ec);
-        coming = coming-step (p .coming) (sequence-next cs i c x place h ec) (p .room) (block-stored c v place x ev (blocks-fit c h ec) q);
+        sum = omega (arith, p .sum, octets-next n);
+        coming = coming-step (p .coming) (sequence-next x place n) (p .room) (block-stored c v place x ev (blocks-fit n) q);
       }
 
   pub blocks-place : length cs ≤ i → place ≡ from + sequenceOctets cs
@@ -187,12 +216,12 @@ module _ {cs : List Settings} {x : List ℕ} {from base : ℕ} {d : List ℕ} {i
 -- All sequences of a waveform x, stored from `at` on in d: q of n are behind.
 pub record Sequences (cs : List Settings) (n : ℕ) (x d : List ℕ) (at q place next : ℕ) (e : List ℕ) : Type 0 where
   pub low : q ≤ n
-  pub fits : n * sequenceOctets cs ≤ length x
+  pub fits : samplesOctets cs n ≤ length x
   pub room : at + length (turnedAll cs n x) ≤ length d
   pub passed : place ≡ q * sequenceOctets cs
   pub coming : Coming d at (turnedAll cs n x) next (turnedAll cs (n - q) (drop place x)) e
 
-pub sequences-first : (cs : List Settings) (n : ℕ) (x d : List ℕ) (at : ℕ) → n * sequenceOctets cs ≤ length x → at + n * sequenceOctets cs ≤ length d → Sequences cs n x d at 0 0 at d
+pub sequences-first : (cs : List Settings) (n : ℕ) (x d : List ℕ) (at : ℕ) → samplesOctets cs n ≤ length x → at + samplesOctets cs n ≤ length d → Sequences cs n x d at 0 0 at d
 sequences-first cs n x d at h k =
     let e : n - 0 ≡ n = omega arith in
     record { low = omega arith; fits = h; room = omega (arith, length-all cs n x h); passed = omega arith; coming = rw e (coming-first d at (turnedAll cs n x)) }

@@ -1,32 +1,30 @@
 -- Laws of the frame that is given: when there is one, and how many octets it takes.
---     length-size     a length
 --     samples-long    the samples
 --     parts-long      the frame
 --     given-some, given-none    where the waveform holds the sequences, and where it does not
 --     frame-put       a frame that is given and fits is stored
 --     held-none, held-by    the test of that, by how many sequences fit in
---     groups-small, not-held, parts-given, given-long, frame-asked    the same of the first records of a table, whose layout is known
+--     Told, Held      the first records of a table, whose layout is known, and the test by it
+--     told-groups, not-held, held-few, parts-given, given-long, frame-asked    the same of these
 -- Assumes nothing.
 use mathlib.Core.Path.{_≡_, refl, sym, ap, subst, _∙_}
-use mathlib.Core.List.{List, [], _∷_}
+use mathlib.Core.List.{List, []}
 use mathlib.Core.Bool.{Bool, true, false}
-use Prim.Native.Nat.{ℕ, suc, _+_, _*_, _/_, _≤_, _<_, min}
+use Prim.Native.Nat.{ℕ, _+_, _*_, _/_, _≤_, _<_, min}
 use native.Mathlib.Nat.{mul-zero, le-div-iff-mul-le, div-lt-iff-lt-mul}
 use native.Mathlib.Omega.{arith}
 use borrow.Author.Tests.{le-leb, lt-leb, leb-true, leb-false}
-use lib.Dec.{ltb, leb}
+use lib.Dec.{leb}
 use lib.IntN.{ℤ}
 use lib.ListN.{length, take, length-append}
 use lib.Seq.{length-take-le}
 use Rattle.standing.specs.Standing.{octetsLimit}
-use Rattle.octets.specs.Pick.{pick}
-use Rattle.stores.specs.Number.{be, length-be}
-use Rattle.stores.specs.Length.{holding, shortest}
 use Rattle.stores.specs.Storing.{Put, Putting, put-fits}
 use Rattle.stores.proofs.Stores.{putting-none}
 use Rattle.settings.specs.declared.Settings.{Settings}
-use Rattle.layout.specs.Frame.{sequenceOctets}
-use Rattle.layout.specs.Size.{lengthSize, groupsSize, frameSize}
+use Rattle.settings.specs.Settings.{channelLimit}
+use Rattle.layout.specs.Frame.{sequenceOctets, samplesOctets}
+use Rattle.layout.specs.Size.{groupsSize, frameSize}
 use Rattle.layout.specs.declared.Layout.{Layout}
 use Rattle.layout.specs.Measure.{layoutOf}
 use Rattle.layout.proofs.Laws.{take-few, groups-few}
@@ -34,42 +32,33 @@ use Rattle.groups.proofs.Sizes.{head-long, groups-long}
 use Rattle.frames.specs.Parts.{samplesTurned, frameParts, frameGiven}
 use Rattle.frames.proofs.Coming.{length-all}
 
-pub length-size : (n : ℕ) → length (shortest n) ≡ lengthSize n
-unfolding shortest holding
-length-size n = by (ltb n 128) (ltb n 256) (ltb n 65_536) (ltb n 16_777_216)
-  where
-    by : (a b c d : Bool) → length (pick a (n ∷ []) ((128 + pick b 1 (pick c 2 (pick d 3 4))) ∷ be (pick b 1 (pick c 2 (pick d 3 4))) n)) ≡ pick a 1 (pick b 2 (pick c 3 (pick d 4 5)))
-    by true b c d = refl
-    by false true c d = ap suc (length-be 1 n)
-    by false false true d = ap suc (length-be 2 n)
-    by false false false true = ap suc (length-be 3 n)
-    by false false false false = ap suc (length-be 4 n)
-
 module _ (start : ℤ) (little : Bool) (sequences : ℕ) (cs : List Settings) (x : List ℕ) where
-  pub given-some : leb (sequences * sequenceOctets cs) (min (length x) octetsLimit) ≡ true → frameGiven start little sequences cs x ≡ frameParts start sequences cs (samplesTurned little cs sequences x)
+  pub given-some : leb (samplesOctets cs sequences) (min (length x) octetsLimit) ≡ true → frameGiven start little sequences cs x ≡ frameParts start sequences cs (samplesTurned little cs sequences x)
   unfolding frameGiven
   given-some e = rw e
 
-  pub given-none : leb (sequences * sequenceOctets cs) (min (length x) octetsLimit) ≡ false → frameGiven start little sequences cs x ≡ []
+  pub given-none : leb (samplesOctets cs sequences) (min (length x) octetsLimit) ≡ false → frameGiven start little sequences cs x ≡ []
   unfolding frameGiven
   given-none e = rw e
 
-  module _ (held : sequences * sequenceOctets cs ≤ length x) where
-    samples-long : length (samplesTurned little cs sequences x) ≡ sequences * sequenceOctets cs
+  module _ (held : samplesOctets cs sequences ≤ length x) where
+    samples-long : length (samplesTurned little cs sequences x) ≡ samplesOctets cs sequences
     samples-long = by little
       where
-        by : (b : Bool) → length (samplesTurned b cs sequences x) ≡ sequences * sequenceOctets cs
-        by false = length-take-le (sequences * sequenceOctets cs) x held
+        by : (b : Bool) → length (samplesTurned b cs sequences x) ≡ samplesOctets cs sequences
+        by false = length-take-le (samplesOctets cs sequences) x held
         by true = length-all cs sequences x held
 
-    pub parts-long : length (frameParts start sequences cs (samplesTurned little cs sequences x)) ≡ frameSize sequences (groupsSize 0 cs) (sequences * sequenceOctets cs)
+    pub parts-long : length (frameParts start sequences cs (samplesTurned little cs sequences x)) ≡ frameSize sequences (groupsSize 0 cs) (samplesOctets cs sequences)
     unfolding frameSize
     parts-long =
-        simp (length-append, head-long, groups-long, length-size, samples-long) (omega arith)
+        simp (length-append, head-long, groups-long, samples-long) (omega arith)
 
-    pub frame-put : {d e : List ℕ} {at r : ℕ} → sequences * sequenceOctets cs ≤ octetsLimit → at + frameSize sequences (groupsSize 0 cs) (sequences * sequenceOctets cs) ≤ length d → Putting d at (frameGiven start little sequences cs x) r e → Put d at (frameParts start sequences cs (samplesTurned little cs sequences x)) r e
+    pub frame-put : {d e : List ℕ} {at r : ℕ} → samplesOctets cs sequences ≤ octetsLimit → at + frameSize sequences (groupsSize 0 cs) (samplesOctets cs sequences) ≤ length d
+        → Putting d at (frameGiven start little sequences cs x) r e → Put d at (frameParts start sequences cs (samplesTurned little cs sequences x)) r e
     frame-put {d} {e} {at} {r} few room p =
-        put-fits (rw parts-long room) (subst (λ (v : List ℕ). Putting d at v r e) (given-some (le-leb (sequences * sequenceOctets cs) (min (length x) octetsLimit) (omega arith))) p)
+        let some = given-some (le-leb (samplesOctets cs sequences) (min (length x) octetsLimit) (omega arith)) in
+        put-fits (rw parts-long room) (subst (λ (v : List ℕ). Putting d at v r e) some p)
 
 -- ---- the test
 
@@ -90,33 +79,46 @@ held-by sequences octets most n = by (leb sequences (most / octets)) refl
 
 -- ---- the first records of a table
 
-module _ (table : List Settings) (count k : ℕ) (full : length table ≡ 256) (ek : k ≡ min count 256) (l : Layout) (el : l ≡ layoutOf 0 (take k table)) where
+-- The first k records of a table are those of `count` channels, and l is their layout.
+pub record Told (table : List Settings) (count k : ℕ) (l : Layout) : Type 0 where
+  pub full : length table ≡ channelLimit
+  pub few : k ≡ min count channelLimit
+  pub layout : l ≡ layoutOf 0 (take k table)
+
+-- The test of a waveform of some sequences.
+abbrev pub Held : ℕ → Layout → List ℕ → Bool → Type 0
+Held sequences l x t = leb (sequences * l .octets) (min (length x) octetsLimit) ≡ t
+
+-- What `store_frame` asks for.
+abbrev Asked : List Settings → ℕ → ℕ → ℕ → List ℕ → ℕ → ℕ → Type 0
+Asked table k sequences octets x at long =
+    ((k ≤ channelLimit) × (octets ≡ samplesOctets (take k table) sequences))
+    × ((octets ≤ length x) × (octets ≤ octetsLimit) × (at + frameSize sequences (groupsSize 0 (take k table)) octets ≤ long))
+
+module _ {table : List Settings} {count k : ℕ} {l : Layout} (t : Told table count k l) where
   first-same : take k table ≡ take count table
-  first-same = ap (λ (n : ℕ). take n table) ek ∙ take-few count table full
+  first-same = ap (λ (n : ℕ). take n table) (t .few) ∙ take-few count table (t .full)
 
   octets-are : l .octets ≡ sequenceOctets (take k table)
   unfolding layoutOf
-  octets-are = ap (λ (m : Layout). m .octets) el
+  octets-are = ap (λ (m : Layout). m .octets) (t .layout)
 
   groups-are : l .groups ≡ groupsSize 0 (take k table)
   unfolding layoutOf
-  groups-are = ap (λ (m : Layout). m .groups) el
+  groups-are = ap (λ (m : Layout). m .groups) (t .layout)
 
-  pub groups-small : l .groups ≤ 16384
-  groups-small = omega (arith, groups-are, groups-few 0 (take k table), length-take-le k table (omega arith))
+  pub told-groups : l .groups ≤ channelLimit * 64
+  told-groups = omega (arith, groups-are, groups-few 0 (take k table), length-take-le k table (omega (arith, t .few, t .full)), t .few)
 
   module _ (sequences : ℕ) (x : List ℕ) where
-    abbrev Held : Bool → Type 0
-    Held t = leb (sequences * l .octets) (min (length x) octetsLimit) ≡ t
-
-    held-first : {t : Bool} → Held t → leb (sequences * sequenceOctets (take count table)) (min (length x) octetsLimit) ≡ t
+    held-first : {b : Bool} → Held sequences l x b → leb (samplesOctets (take count table) sequences) (min (length x) octetsLimit) ≡ b
     held-first h = ap (λ (n : ℕ). leb (sequences * n) (min (length x) octetsLimit)) (sym (octets-are ∙ ap sequenceOctets first-same)) ∙ h
 
-    pub not-held : (start : ℤ) (little : Bool) (d : List ℕ) (at : ℕ) → Held false → Putting d at (frameGiven start little sequences (take count table) x) at d
+    pub not-held : (start : ℤ) (little : Bool) (d : List ℕ) (at : ℕ) → Held sequences l x false → Putting d at (frameGiven start little sequences (take count table) x) at d
     not-held start little d at h =
         subst (λ (v : List ℕ). Putting d at v at d) (sym (given-none start little sequences (take count table) x (held-first h))) (putting-none d at)
 
-    module _ (h : Held true) where
+    module _ (h : Held sequences l x true) where
       pub held-few : (sequences * l .octets ≤ length x) × (sequences * l .octets ≤ octetsLimit)
       held-few =
           let m = leb-true (sequences * l .octets) (min (length x) octetsLimit) h in
@@ -129,13 +131,11 @@ module _ (table : List Settings) (count k : ℕ) (full : length table ≡ 256) (
 
       pub given-long : (start : ℤ) (little : Bool) → length (frameGiven start little sequences (take count table) x) ≡ frameSize sequences (l .groups) (sequences * l .octets)
       given-long start little =
-          let o : sequences * sequenceOctets (take k table) ≤ length x = rw (← octets-are) (held-few .0) in
+          let o : samplesOctets (take k table) sequences ≤ length x = rw (← octets-are) (held-few .0) in
           ap length (sym (parts-given {start = start} little refl))
           ∙ parts-long start little sequences (take k table) x o
           ∙ (λ i. frameSize sequences (sym groups-are i) (sequences * sym octets-are i))
 
-      pub frame-asked : (at long : ℕ) → at + frameSize sequences (l .groups) (sequences * l .octets) ≤ long
-          → ((k ≤ 256) × (sequences * l .octets ≡ sequences * sequenceOctets (take k table)))
-          × ((sequences * l .octets ≤ length x) × (sequences * l .octets < 4294967296) × (at + frameSize sequences (groupsSize 0 (take k table)) (sequences * l .octets) ≤ long))
+      pub frame-asked : (at long : ℕ) → at + frameSize sequences (l .groups) (sequences * l .octets) ≤ long → Asked table k sequences (sequences * l .octets) x at long
       frame-asked at long r =
-          ((omega arith, ap (λ (n : ℕ). sequences * n) octets-are), (held-few .0, omega (arith, held-few .1), rw (← groups-are) r))
+          ((omega (arith, t .few), ap (λ (n : ℕ). sequences * n) octets-are), (held-few .0, held-few .1, rw (← groups-are) r))

@@ -12,12 +12,12 @@ use lib.ListN.{length, take, length-take}
 use Rattle.runs.specs.Turned.{turnedRun}
 use Rattle.runs.proofs.Turned.{turned-one, run-there, length-turned}
 use Rattle.settings.specs.declared.Settings.{Settings}
-use Rattle.layout.specs.Frame.{sequenceOctets}
+use Rattle.layout.specs.Frame.{samplesOctets}
 use Rattle.laid.specs.Turned.{Even, turnedAll, sequenceSamples}
 use Rattle.laid.proofs.Turned.{octets-even, turned-even}
 use Rattle.frames.specs.Parts.{samplesTurned}
 
-module _ (cs : List Settings) (sequences : ℕ) (x : List ℕ) (n : ℕ) (e : n ≡ sequences * sequenceOctets cs) where
+module _ (cs : List Settings) (sequences : ℕ) (x : List ℕ) (n : ℕ) (e : n ≡ samplesOctets cs sequences) where
   pub samples-narrow : Even 1 cs → take n x ≡ turnedAll cs sequences x
   samples-narrow h =
       let k : sequences * sequenceSamples cs ≡ n = rw (octets-even 1 cs h, mul-one) at (sym e) in
@@ -45,7 +45,7 @@ module _ (cs : List Settings) (sequences : ℕ) (x : List ℕ) (n : ℕ) (e : n 
 pub taken-room : (n at : ℕ) (x d : List ℕ) → at + n ≤ length d → at + length (take n x) ≤ length d
 taken-room n at x d h = omega (arith, length-take n x, min-le-left n (length x))
 
-pub samples-big : {little : Bool} (cs : List Settings) (sequences n : ℕ) (x : List ℕ) → little ≡ false → n ≡ sequences * sequenceOctets cs → take n x ≡ samplesTurned little cs sequences x
+pub samples-big : {little : Bool} (cs : List Settings) (sequences n : ℕ) (x : List ℕ) → little ≡ false → n ≡ samplesOctets cs sequences → take n x ≡ samplesTurned little cs sequences x
 samples-big cs sequences n x l e = rw l (ap (λ (m : ℕ). take m x) e)
 
 pub samples-little : {little : Bool} (cs : List Settings) (sequences : ℕ) (x : List ℕ) → little ≡ true → turnedAll cs sequences x ≡ samplesTurned little cs sequences x

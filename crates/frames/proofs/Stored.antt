@@ -6,7 +6,7 @@
 -- Assumes nothing.
 use mathlib.Core.Path.{_≡_, sym}
 use mathlib.Core.List.{List, [], _∷_, _++_, map}
-use Prim.Native.Nat.{ℕ, _+_, _*_, _≤_}
+use Prim.Native.Nat.{ℕ, _+_, _≤_}
 use native.Mathlib.Omega.{arith}
 use lib.IntN.{ℤ}
 use lib.ListN.{length}
@@ -14,17 +14,16 @@ use Rattle.stores.specs.Length.{shortest}
 use Rattle.stores.specs.Storing.{Put, Putting, put-fits}
 use Rattle.stores.proofs.Stores.{put-then, put-long}
 use Rattle.settings.specs.declared.Settings.{Settings}
-use Rattle.layout.specs.Frame.{sequenceOctets, reported}
+use Rattle.layout.specs.Frame.{samplesOctets, reported}
 use Rattle.layout.specs.Size.{groupsSize, frameSize}
 use Rattle.groups.specs.Head.{headItems}
 use Rattle.groups.specs.Group.{groupsOctets}
 use Rattle.groups.proofs.Sizes.{head-long, groups-long}
 use Rattle.groups.proofs.Puts.{put-as}
 use Rattle.frames.specs.Parts.{frameParts}
-use Rattle.frames.proofs.Given.{length-size}
 
-module _ {d e : List ℕ} {at a : ℕ} (cs : List Settings) (sequences : ℕ) {count octets : ℕ} {z start : ℤ} (ec : length cs ≡ count) (eo : octets ≡ sequences * sequenceOctets cs) (ez : z ≡ start)
-    (room : at + frameSize sequences (groupsSize 0 cs) octets ≤ length d) (p : Putting d at (headItems count sequences z) a e) where
+module _ {d e : List ℕ} {at a : ℕ} (cs : List Settings) (sequences : ℕ) {count octets : ℕ} {z start : ℤ}
+    (ec : length cs ≡ count) (eo : octets ≡ samplesOctets cs sequences) (ez : z ≡ start) (room : at + frameSize sequences (groupsSize 0 cs) octets ≤ length d) (p : Putting d at (headItems count sequences z) a e) where
   head-put : Put d at (headItems count sequences z) a e
   unfolding frameSize
   head-put = put-fits (omega (arith, head-long count sequences z)) p
@@ -40,11 +39,11 @@ module _ {d e : List ℕ} {at a : ℕ} (cs : List Settings) (sequences : ℕ) {c
 
     length-put : Put g c (shortest octets) t h
     unfolding frameSize
-    length-put = put-fits (omega (arith, head-long count sequences z, head-put .next, put-long head-put, groups-long 0 cs, q .next, put-long q, tag-put .next, put-long tag-put, length-size octets)) r
+    length-put = put-fits (omega (arith, head-long count sequences z, head-put .next, put-long head-put, groups-long 0 cs, q .next, put-long q, tag-put .next, put-long tag-put)) r
 
     pub samples-room : t + octets ≤ length h
     unfolding frameSize
-    samples-room = omega (arith, head-long count sequences z, head-put .next, put-long head-put, groups-long 0 cs, q .next, put-long q, tag-put .next, put-long tag-put, length-size octets, length-put .next, put-long length-put)
+    samples-room = omega (arith, head-long count sequences z, head-put .next, put-long head-put, groups-long 0 cs, q .next, put-long q, tag-put .next, put-long tag-put, length-put .next, put-long length-put)
 
     pub frame-stored : {samples i : List ℕ} {u : ℕ} → Put h t samples u i → Put d at (frameParts start sequences cs samples) u i
     frame-stored {samples} s =

@@ -10,21 +10,21 @@ use Rattle.octets.specs.Pick.{pick}
 use Rattle.stores.specs.Length.{shortest}
 use Rattle.laid.specs.Turned.{turnedAll}
 use Rattle.settings.specs.declared.Settings.{Settings}
-use Rattle.layout.specs.Frame.{sequenceOctets, reported}
+use Rattle.layout.specs.Frame.{samplesOctets, reported}
 use Rattle.groups.specs.Head.{headItems}
 use Rattle.groups.specs.Group.{groupsOctets}
 
 -- The samples of a waveform, big-endian: as they stand where the byte order is big, else each turned round.
 abbrev pub samplesTurned : Bool → List Settings → ℕ → List ℕ → List ℕ
-samplesTurned false cs sequences x = take (sequences * sequenceOctets cs) x
+samplesTurned false cs sequences x = take (samplesOctets cs sequences) x
 samplesTurned true cs sequences x = turnedAll cs sequences x
 
 -- 05, 06 and 07; a group for each channel in order; then 1E, its length and the samples' octets.
 abbrev pub frameParts : ℤ → ℕ → List Settings → List ℕ → List ℕ
 frameParts start sequences cs samples =
-    (((headItems (length cs) sequences start ++ groupsOctets 0 (map reported cs)) ++ (0x1E ∷ [])) ++ shortest (sequences * sequenceOctets cs)) ++ samples
+    (((headItems (length cs) sequences start ++ groupsOctets 0 (map reported cs)) ++ (0x1E ∷ [])) ++ shortest (samplesOctets cs sequences)) ++ samples
 
 -- The frame of a waveform x that holds its sequences, if these are no more octets than a file may have; else no octets.
 unfoldable pub frameGiven : ℤ → Bool → ℕ → List Settings → List ℕ → List ℕ
 frameGiven start little sequences cs x =
-    pick (leb (sequences * sequenceOctets cs) (min (length x) octetsLimit)) (frameParts start sequences cs (samplesTurned little cs sequences x)) []
+    pick (leb (samplesOctets cs sequences) (min (length x) octetsLimit)) (frameParts start sequences cs (samplesTurned little cs sequences x)) []

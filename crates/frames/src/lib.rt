@@ -10,7 +10,7 @@ ghost use Prim.Native.Nat.{_+_, _*_, _≤_, _<_, min};
 ghost use lib.Dec.{leb};
 ghost use lib.ListN.{length, take};
 ghost use Rattle.stores.specs.Storing.{Put, Putting};
-ghost use Rattle.layout.specs.Frame.{sequenceOctets, reported};
+ghost use Rattle.layout.specs.Frame.{samplesOctets, reported};
 ghost use Rattle.layout.specs.Size.{groupsSize, frameSize};
 ghost use Rattle.laid.specs.Turned.{Even, turnedAll};
 ghost use Rattle.groups.specs.Group.{groupsOctets};
@@ -21,7 +21,12 @@ use settings::Settings;
 use standing::Standing;
 
 // The groups of the first `count` channels.
-fn put_groups(out: &mut [u8], at: usize, table: [Settings; Settings::CHANNELS], count: usize) -> usize
+fn put_groups(
+    out: &mut [u8],
+    at: usize,
+    table: [Settings; Settings::CHANNELS],
+    count: usize,
+) -> usize
     requires { ⌜ (count ≤ channelLimit) × (at + groupsSize 0 (take count table) ≤ length (now out)) ⌝ }
     ensures { λ r. ⌜ Put (now (out .entry)) at (groupsOctets 0 (map reported (take count table))) r (now (out .exit)) ⌝ }
 {
@@ -62,8 +67,8 @@ fn put_blocks(
     out: &mut [u8],
     at: usize,
 ) -> usize
-    requires { ⌜ (count ≤ channelLimit) × (sequences * sequenceOctets (take count table) ≤ length (now w)) ⌝ }
-    requires { ⌜ at + sequences * sequenceOctets (take count table) ≤ length (now out) ⌝ }
+    requires { ⌜ (count ≤ channelLimit) × (samplesOctets (take count table) sequences ≤ length (now w)) ⌝ }
+    requires { ⌜ at + samplesOctets (take count table) sequences ≤ length (now out) ⌝ }
     ensures { λ r. ⌜ Put (now (out .entry)) at (turnedAll (take count table) sequences (now (w .entry))) r (now (out .exit)) ⌝ }
 {
     let mut q = 0u32;
@@ -95,7 +100,7 @@ fn put_samples(
     out: &mut [u8],
     at: usize,
 ) -> usize
-    requires { ⌜ (count ≤ channelLimit) × (octets ≡ sequences * sequenceOctets (take count table)) ⌝ }
+    requires { ⌜ (count ≤ channelLimit) × (octets ≡ samplesOctets (take count table) sequences) ⌝ }
     requires { ⌜ (octets ≤ length (now w)) × (at + octets ≤ length (now out)) ⌝ }
     ensures { λ r. ⌜ Put (now (out .entry)) at (samplesTurned «little» (take count table) sequences (now (w .entry))) r (now (out .exit)) ⌝ }
 {
@@ -124,8 +129,8 @@ fn store_frame(
     out: &mut [u8],
     at: usize,
 ) -> usize
-    requires { ⌜ (count ≤ channelLimit) × (octets ≡ sequences * sequenceOctets (take count table)) ⌝ }
-    requires { ⌜ (octets ≤ length (now w)) × (octets < 4294967296) × (at + frameSize sequences (groupsSize 0 (take count table)) octets ≤ length (now out)) ⌝ }
+    requires { ⌜ (count ≤ channelLimit) × (octets ≡ samplesOctets (take count table) sequences) ⌝ }
+    requires { ⌜ (octets ≤ length (now w)) × (octets ≤ octetsLimit) × (at + frameSize sequences (groupsSize 0 (take count table)) octets ≤ length (now out)) ⌝ }
     ensures { λ r. ⌜ Put (now (out .entry)) at (frameParts start sequences (take count table) (samplesTurned «little» (take count table) sequences (now (w .entry)))) r (now (out .exit)) ⌝ }
 {
     let a = groups::put_head(out, at, count as u32, sequences, start);

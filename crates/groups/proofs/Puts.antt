@@ -3,8 +3,8 @@
 --     put-as               what was stored, under another name
 --     field-is             a number's item, as it is stored
 --     scale-is, items-is, group-is, head-is    an item of a scale, the items of a group, the group and a frame's head, as they are stored
+--     length-items                             the items of a group take what their three parts take
 --     sequences-none, sequences-some           06, as it is stored
---     length-first, length-scales, length-ahead    how many octets parts of a group take
 --     ahead-stored, head-stored    what stands ahead of a group's items, and a frame's head, stored part by part
 -- Assumes nothing.
 use mathlib.Core.Path.{_≡_, sym, ap, subst, _∙_}
@@ -17,7 +17,7 @@ use lib.Dec.{eqb}
 use lib.IntN.{ℤ}
 use lib.ListN.{length, length-append}
 use Rattle.octets.proofs.Pick.{pick-cases}
-use Rattle.stores.specs.Number.{be, length-be, field, length-field}
+use Rattle.stores.specs.Number.{be, length-be, field}
 use Rattle.stores.specs.Length.{shortest, shortest-short}
 use Rattle.stores.specs.Storing.{Put, Putting, put-fits}
 use Rattle.stores.proofs.Stores.{put-then, put-long, putting-then}
@@ -25,12 +25,12 @@ use Rattle.values.proofs.Laws.{width-le}
 use Rattle.settings.specs.declared.Scale.{Scale}
 use Rattle.settings.specs.declared.Settings.{Settings}
 use Rattle.layout.specs.Frame.{widthIn, reported}
-use Rattle.layout.specs.Size.{channelSize, nullSize, contentSize, sequencesSize}
-use Rattle.groups.specs.Item.{item, numberItem, unsignedOf}
+use Rattle.layout.specs.Size.{nullSize, contentSize}
+use Rattle.groups.specs.Item.{itemOctets, numberItem, unsignedOf}
 use Rattle.groups.specs.Head.{sequencesItem, headItems}
 use Rattle.groups.specs.Group.{channelOctets, scaleItem, nullItem, groupItems, groupOctets}
 use Rattle.groups.specs.Parts.{firstItems, scaleItems, lastItems}
-use Rattle.groups.proofs.Sizes.{sequences-long, scale-long, channel-long, content-octet}
+use Rattle.groups.proofs.Sizes.{content-octet}
 
 -- ---- one store after another
 
@@ -48,7 +48,7 @@ put-as {d} {e} {at = at} {r = r} p q = subst (λ (l : List ℕ). Put d at l r e)
 -- ---- items, as they are stored
 
 field-is : (tag w n : ℕ) → w < 128 → numberItem tag w n ≡ field tag w n
-unfolding numberItem item field
+unfolding numberItem itemOctets field
 field-is tag w n h =
     let e : shortest (length (be w n)) ≡ w ∷ [] = ap shortest (length-be w n) ∙ shortest-short w h in
     ap (λ (l : List ℕ). tag ∷ (l ++ be w n)) e
@@ -58,27 +58,21 @@ abbrev pub scaleParts : ℕ → Scale → List ℕ
 scaleParts tag x = (((tag ∷ 6 ∷ []) ++ (x .unit ∷ [])) ++ be 1 (unsignedOf 1 (x .exponent))) ++ be 4 (unsignedOf 4 (x .mantissa))
 
 pub scale-is : (tag : ℕ) (x : Scale) → scaleItem tag x ≡ scaleParts tag x
-unfolding scaleItem item
+unfolding scaleItem itemOctets
 scale-is tag x =
     let v = x .unit ∷ (be 1 (unsignedOf 1 (x .exponent)) ++ be 4 (unsignedOf 4 (x .mantissa))) in
     let l : length v ≡ 6 = simp (length-append, length-be) in
     let e : shortest (length v) ≡ 6 ∷ [] = ap shortest l ∙ shortest-short 6 (omega arith) in
     ap (λ (s : List ℕ). tag ∷ (s ++ v)) e
 
-pub length-first : (c : Settings) → length (firstItems c) ≡ 17
-length-first c = simp (length-append, length-field)
-
-pub length-scales : (c : Settings) → length (scaleItems c) ≡ 16
-length-scales c = simp (length-append, scale-long)
-
-null-none : (c : Settings) → eqb (c .null .width) 0 ≡ true → item 0x12 [] ≡ field 0x12 (nullSize c) (c .null .bits)
-unfolding item field be shortest
+null-none : (c : Settings) → eqb (c .null .width) 0 ≡ true → itemOctets 0x12 [] ≡ field 0x12 (nullSize (widthIn c) (c .null)) (c .null .bits)
+unfolding itemOctets field be shortest
 null-none c e = simp e
 
-null-is : (c : Settings) → nullItem (reported c) ≡ field 0x12 (nullSize c) (c .null .bits)
+null-is : (c : Settings) → nullItem (reported c) ≡ field 0x12 (nullSize (widthIn c) (c .null)) (c .null .bits)
 unfolding nullItem reported
 null-is c =
-    pick-cases (λ (l : List ℕ). l ≡ field 0x12 (nullSize c) (c .null .bits)) (eqb (c .null .width) 0)
+    pick-cases (λ (l : List ℕ). l ≡ field 0x12 (nullSize (widthIn c) (c .null)) (c .null .bits)) (eqb (c .null .width) 0)
     (null-none c)
     (λ e. field-is 0x12 (widthIn c) (c .null .bits) (omega (arith, width-le (c .kind))) ∙ simp e)
 
@@ -92,24 +86,27 @@ items-is c =
     let h : 1 < 128 = omega arith in
     simp (field-is, null-is c, append-assoc)
 
+pub length-items : (c : Settings) → length (groupItems (reported c)) ≡ length (firstItems c) + length (scaleItems c) + length (lastItems c)
+length-items c =
+    let last = length-append (firstItems c ++ scaleItems c) (lastItems c) in
+    let front = length-append (firstItems c) (scaleItems c) in
+    omega (arith, ap length (items-is c))
+
 -- What stands ahead of a group's items.
 abbrev pub aheadParts : ℕ → ℕ → List ℕ
 aheadParts k n = ((0x3F ∷ []) ++ channelOctets k) ++ (n ∷ [])
 
-pub length-ahead : (k n : ℕ) → length (aheadParts k n) ≡ 2 + channelSize k
-length-ahead k n = simp (length-append, channel-long) (omega arith)
-
 -- A channel's group.
-pub group-is : (k n : ℕ) (c : Settings) → n ≡ contentSize c → aheadParts k n ++ groupItems (reported c) ≡ groupOctets k (reported c)
+pub group-is : (k n : ℕ) (c : Settings) → n ≡ contentSize (widthIn c) (c .null) → aheadParts k n ++ groupItems (reported c) ≡ groupOctets k (reported c)
 unfolding groupOctets
 group-is k n c e =
     ap (λ (m : ℕ). aheadParts k m ++ groupItems (reported c)) e
-    ∙ ap (λ (l : List ℕ). 0x3F ∷ l) (append-assoc (channelOctets k) (contentSize c ∷ []) (groupItems (reported c)))
+    ∙ ap (λ (l : List ℕ). 0x3F ∷ l) (append-assoc (channelOctets k) (contentSize (widthIn c) (c .null) ∷ []) (groupItems (reported c)))
     ∙ ap (λ (l : List ℕ). 0x3F ∷ (channelOctets k ++ (l ++ groupItems (reported c)))) (sym (content-octet c))
 
 -- 06.
 pub sequences-none : (n : ℕ) → n ≡ 0 → sequencesItem n ≡ 0x06 ∷ 0 ∷ []
-unfolding sequencesItem item shortest
+unfolding sequencesItem itemOctets shortest
 sequences-none n e = simp (eq-eqb n 0 e)
 
 pub sequences-some : (n : ℕ) → (n ≡ 0 → ⊥) → sequencesItem n ≡ field 0x06 4 n
@@ -126,14 +123,14 @@ head-is count sequences n start e =
 -- ---- one store after another, from tag to tag
 
 module _ {d e f g : List ℕ} {at r t v : ℕ} where
-  pub ahead-stored : (k n : ℕ) → at + 2 + channelSize k ≤ length d → Putting d at (0x3F ∷ []) r e → Putting e r (channelOctets k) t f → Putting f t (n ∷ []) v g → Put d at (aheadParts k n) v g
+  pub ahead-stored : (k n : ℕ) → at + length (aheadParts k n) ≤ length d → Putting d at (0x3F ∷ []) r e → Putting e r (channelOctets k) t f → Putting f t (n ∷ []) v g → Put d at (aheadParts k n) v g
   ahead-stored k n h p q o =
-      let l = channel-long k in
+      let room = simp length-append at h in
       put-more (simp length-append (omega arith)) (put-two (omega arith) p q) o
 
-  pub head-stored : (count sequences n : ℕ) (start : ℤ) → n ≡ unsignedOf 4 start → at + 12 + sequencesSize sequences ≤ length d → Putting d at (field 0x05 4 count) r e → Putting e r (sequencesItem sequences) t f → Putting f t (field 0x07 4 n) v g → Put d at (headItems count sequences start) v g
+  pub head-stored : (count sequences n : ℕ) (start : ℤ) → n ≡ unsignedOf 4 start → at + length (headItems count sequences start) ≤ length d
+      → Putting d at (field 0x05 4 count) r e → Putting e r (sequencesItem sequences) t f → Putting f t (field 0x07 4 n) v g → Put d at (headItems count sequences start) v g
   head-stored count sequences n start e h p q o =
-      let l = sequences-long sequences in
-      let a = length-field 0x05 4 count in
-      let b = length-field 0x07 4 n in
-      put-as (head-is count sequences n start e) (put-more (simp length-append (omega arith)) (put-two (omega arith) p q) o)
+      let is = head-is count sequences n start e in
+      let room = simp length-append at (rw (← is) at h) in
+      put-as is (put-more (simp length-append (omega arith)) (put-two (omega arith) p q) o)

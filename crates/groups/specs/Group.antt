@@ -9,7 +9,7 @@ use Rattle.stores.specs.Length.{shortest}
 use Rattle.settings.specs.declared.Scale.{Scale}
 use Rattle.settings.specs.declared.Settings.{Settings}
 use Rattle.layout.specs.Frame.{widthIn}
-use Rattle.groups.specs.Item.{item, numberItem, unsignedOf}
+use Rattle.groups.specs.Item.{itemOctets, numberItem, unsignedOf}
 
 -- The shortest form of a channel number below 16,384: seven bits an octet, highest first.
 unfoldable pub channelOctets : ℕ → List ℕ
@@ -17,11 +17,11 @@ channelOctets k = pick (ltb k 128) (k ∷ []) ((128 + k / 128) ∷ (k % 128) ∷
 
 -- 0B and 0C: a unit octet, an exponent octet and a mantissa of four octets.
 unfoldable pub scaleItem : ℕ → Scale → List ℕ
-scaleItem tag x = item tag (x .unit ∷ (be 1 (unsignedOf 1 (x .exponent)) ++ be 4 (unsignedOf 4 (x .mantissa))))
+scaleItem tag x = itemOctets tag (x .unit ∷ (be 1 (unsignedOf 1 (x .exponent)) ++ be 4 (unsignedOf 4 (x .mantissa))))
 
 -- 12 with the sample width, or 12 00 for none.
 unfoldable pub nullItem : Settings → List ℕ
-nullItem c = pick (eqb (c .null .width) 0) (item 0x12 []) (numberItem 0x12 (widthIn c) (c .null .bits))
+nullItem c = pick (eqb (c .null .width) 0) (itemOctets 0x12 []) (numberItem 0x12 (widthIn c) (c .null .bits))
 
 -- The items of a group: 04 (4 octets), 08, 09 (2 each), 0A (1), 0B, 0C (6 each), 0D (sample width), 12.
 unfoldable pub groupItems : Settings → List ℕ

@@ -7,12 +7,12 @@ use Rattle.stores.specs.Number.{be}
 use Rattle.stores.specs.Length.{shortest}
 
 -- An item: its tag, its length in the shortest form, its value.
-unfoldable pub item : ℕ → List ℕ → List ℕ
-item tag v = tag ∷ (shortest (length v) ++ v)
+unfoldable pub itemOctets : ℕ → List ℕ → List ℕ
+itemOctets tag v = tag ∷ (shortest (length v) ++ v)
 
 -- An item that holds a number in w octets, big-endian.
 unfoldable pub numberItem : ℕ → ℕ → ℕ → List ℕ
-numberItem tag w n = item tag (be w n)
+numberItem tag w n = itemOctets tag (be w n)
 
 -- The w octets of a signed number, as a number: two's complement.
 unfoldable pub unsignedOf : ℕ → ℤ → ℕ

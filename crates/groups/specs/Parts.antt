@@ -23,4 +23,4 @@ scaleItems c = scaleItem 0x0B (c .interval) ++ scaleItem 0x0C (c .resolution)
 
 -- 0D and 12.
 abbrev pub lastItems : Settings → List ℕ
-lastItems c = field 0x0D (widthIn c) (offsetBits c .bits) ++ field 0x12 (nullSize c) (c .null .bits)
+lastItems c = field 0x0D (widthIn c) (offsetBits c .bits) ++ field 0x12 (nullSize (widthIn c) (c .null)) (c .null .bits)

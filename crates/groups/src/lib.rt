@@ -3,14 +3,14 @@
 // Promises: `put_head` and `put_group` store these octets from the place `at` on and return the place after them; where they do not fit, nothing
 // is stored and `at` is returned. `Putting` of crate stores says this once.
 // Read first: specs/Head.antt and specs/Group.antt (the octets).
-// Each of the two makes one test, against the known size. What is private here stores what fits: `Put` says which octets, from where on.
+// Each of the two makes one test, against the size that crate layout answers. What is private here stores what fits: `Put` says which octets, from where on.
 ghost use mathlib.Core.Path.{_≡_};
 ghost use Prim.Native.Nat.{_+_, _≤_, _<_};
 ghost use lib.ListN.{length};
 ghost use lib.Signed.{mag};
 ghost use Rattle.stores.specs.Storing.{Put, Putting};
 ghost use Rattle.layout.specs.Frame.{widthIn, reported};
-ghost use Rattle.layout.specs.Size.{channelSize, nullSize, contentSize, groupSize, sequencesSize};
+ghost use Rattle.layout.specs.Size.{contentSize};
 ghost use Rattle.groups.specs.Head.{sequencesItem, headItems};
 ghost use Rattle.groups.specs.Group.{channelOctets, scaleItem, groupItems, groupOctets};
 ghost use Rattle.groups.specs.Parts.{unsignedBy, firstItems, scaleItems, lastItems};
@@ -30,7 +30,7 @@ fn unsigned(z: i64, full: u64) -> u64
 
 // 0B or 0C.
 fn put_scale(out: &mut [u8], at: usize, tag: u8, x: Scale) -> usize
-    requires { ⌜ at + 8 ≤ length (now out) ⌝ }
+    requires { ⌜ at + length (scaleItem tag x) ≤ length (now out) ⌝ }
     ensures { λ r. ⌜ Put (now (out .entry)) at (scaleItem tag x) r (now (out .exit)) ⌝ }
 {
     let exponent = unsigned(x.exponent as i64, 256);
@@ -43,7 +43,7 @@ fn put_scale(out: &mut [u8], at: usize, tag: u8, x: Scale) -> usize
 
 // 04, 08, 09 and 0A.
 fn put_first(out: &mut [u8], at: usize, c: Settings) -> usize
-    requires { ⌜ at + 17 ≤ length (now out) ⌝ }
+    requires { ⌜ at + length (firstItems c) ≤ length (now out) ⌝ }
     ensures { λ r. ⌜ Put (now (out .entry)) at (firstItems c) r (now (out .exit)) ⌝ }
 {
     let a = stores::put_field(out, at, 0x04, 4, c.block as u64);
@@ -54,7 +54,7 @@ fn put_first(out: &mut [u8], at: usize, c: Settings) -> usize
 
 // 0B and 0C.
 fn put_scales(out: &mut [u8], at: usize, c: Settings) -> usize
-    requires { ⌜ at + 16 ≤ length (now out) ⌝ }
+    requires { ⌜ at + length (scaleItems c) ≤ length (now out) ⌝ }
     ensures { λ r. ⌜ Put (now (out .entry)) at (scaleItems c) r (now (out .exit)) ⌝ }
 {
     let interval = c.interval;
@@ -63,33 +63,22 @@ fn put_scales(out: &mut [u8], at: usize, c: Settings) -> usize
     put_scale(out, a, 0x0C, resolution)
 }
 
-// How many octets of null follow its head.
-fn null_octets(c: Settings) -> u8
-    ensures { λ r. ⌜ (r ≡ nullSize c) × (r ≤ 8) ⌝ }
-{
-    let null = c.null;
-    if null.width == 0 {
-        return 0;
-    }
-    values::width(c.kind) as u8
-}
-
 // 0D and 12.
 fn put_last(out: &mut [u8], at: usize, c: Settings) -> usize
-    requires { ⌜ at + 4 + widthIn c + nullSize c ≤ length (now out) ⌝ }
+    requires { ⌜ at + length (lastItems c) ≤ length (now out) ⌝ }
     ensures { λ r. ⌜ Put (now (out .entry)) at (lastItems c) r (now (out .exit)) ⌝ }
 {
     let offset = layout::offset_bits(c);
     let null = c.null;
     let w = values::width(c.kind) as u8;
-    let k = null_octets(c);
+    let n = layout::null_size(w, null) as u8;
     let a = stores::put_field(out, at, 0x0D, w, offset.bits);
-    stores::put_field(out, a, 0x12, k, null.bits)
+    stores::put_field(out, a, 0x12, n, null.bits)
 }
 
 // The items of a channel's group.
 fn put_items(out: &mut [u8], at: usize, c: Settings) -> usize
-    requires { ⌜ at + contentSize c ≤ length (now out) ⌝ }
+    requires { ⌜ at + length (groupItems (reported c)) ≤ length (now out) ⌝ }
     ensures { λ r. ⌜ Put (now (out .entry)) at (groupItems (reported c)) r (now (out .exit)) ⌝ }
 {
     let a = put_first(out, at, c);
@@ -107,27 +96,9 @@ fn put_channel(out: &mut [u8], at: usize, k: u8) -> usize
     stores::put_two(out, at, 128 + k / 128, k % 128)
 }
 
-// How many octets the items of a channel's group take.
-fn content_size(c: Settings) -> u8
-    ensures { λ r. ⌜ (r ≡ contentSize c) × (r ≤ 53) ⌝ }
-{
-    let w = values::width(c.kind) as u8;
-    37 + w + null_octets(c)
-}
-
-// How many octets a channel's group takes whose items take n: tag, channel number, one length octet and the items.
-fn group_octets(k: u8, n: u8) -> usize
-    ensures { λ r. ⌜ r ≡ 2 + channelSize k + n ⌝ }
-{
-    if 128 <= k {
-        return 4 + n as usize;
-    }
-    3 + n as usize
-}
-
 // A channel's group, with the octets that its items take.
 fn store_group(out: &mut [u8], at: usize, k: u8, n: u8, c: Settings) -> usize
-    requires { ⌜ (n ≡ contentSize c) × (at + groupSize k c ≤ length (now out)) ⌝ }
+    requires { ⌜ (n ≡ contentSize (widthIn c) (c .null)) × (at + length (groupOctets k (reported c)) ≤ length (now out)) ⌝ }
     ensures { λ r. ⌜ Put (now (out .entry)) at (groupOctets k (reported c)) r (now (out .exit)) ⌝ }
 {
     let a = stores::put_octet(out, at, 0x3F);
@@ -140,11 +111,12 @@ fn store_group(out: &mut [u8], at: usize, k: u8, n: u8, c: Settings) -> usize
 pub fn put_group(out: &mut [u8], at: usize, k: u8, c: Settings) -> usize
     ensures { λ r. ⌜ Putting (now (out .entry)) at (groupOctets k (reported c)) r (now (out .exit)) ⌝ }
 {
-    let n = content_size(c);
-    if stores::overruns(out.len(), at, group_octets(k, n)) {
+    let w = values::width(c.kind) as u8;
+    let null = c.null;
+    if stores::overruns(out.len(), at, layout::group_size(k as usize, w, null)) {
         return at;
     }
-    store_group(out, at, k, n, c)
+    store_group(out, at, k, layout::content_size(w, null) as u8, c)
 }
 
 // 06 with four octets, or none for 0 sequences.
@@ -157,19 +129,9 @@ fn put_sequences(out: &mut [u8], at: usize, sequences: u32) -> usize
     stores::put_field(out, at, 0x06, 4, sequences as u64)
 }
 
-// How many octets 06 takes.
-fn sequences_octets(sequences: u32) -> usize
-    ensures { λ r. ⌜ (r ≡ sequencesSize sequences) × (r ≤ 6) ⌝ }
-{
-    if 0 < sequences {
-        return 6;
-    }
-    2
-}
-
 // 05, 06 and 07.
 fn store_head(out: &mut [u8], at: usize, count: u32, sequences: u32, start: i32) -> usize
-    requires { ⌜ at + 12 + sequencesSize sequences ≤ length (now out) ⌝ }
+    requires { ⌜ at + length (headItems count sequences start) ≤ length (now out) ⌝ }
     ensures { λ r. ⌜ Put (now (out .entry)) at (headItems count sequences start) r (now (out .exit)) ⌝ }
 {
     let z = unsigned(start as i64, 4_294_967_296);
@@ -182,7 +144,7 @@ fn store_head(out: &mut [u8], at: usize, count: u32, sequences: u32, start: i32)
 pub fn put_head(out: &mut [u8], at: usize, count: u32, sequences: u32, start: i32) -> usize
     ensures { λ r. ⌜ Putting (now (out .entry)) at (headItems count sequences start) r (now (out .exit)) ⌝ }
 {
-    if stores::overruns(out.len(), at, 12 + sequences_octets(sequences)) {
+    if stores::overruns(out.len(), at, layout::head_size(sequences)) {
         return at;
     }
     store_head(out, at, count, sequences, start)

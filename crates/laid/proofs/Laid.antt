@@ -13,7 +13,7 @@ use native.Mathlib.Omega.{arith}
 use lib.ListN.{length, take, drop, length-append}
 use lib.Seq.{take-at, drop-at, drop-drop, take-add}
 use Rattle.settings.specs.declared.Settings.{Settings}
-use Rattle.layout.specs.Frame.{widthIn, blockOctets, sequenceOctets, channelIn, offsetOf}
+use Rattle.layout.specs.Frame.{widthIn, blockOctets, sequenceOctets, channelIn, offsetOf, samplesOctets}
 use Rattle.laid.specs.Laid.{Named, block, sequence, laidFrom, laid, sampleIn}
 use Rattle.laid.proofs.Each.{UpEach, SequenceEach, Each, up-each, at-up, up-map, each, at-each}
 
@@ -78,7 +78,7 @@ module _ (g : ℕ → ℕ → List ℕ) (cs : List Settings) (S : ℕ) (sized : 
   each-long : UpEach (λ q p. length (sequence g 0 cs q) ≡ sequenceOctets cs) (sequenceOctets cs) 0 0 S
   each-long = up-map _ _ (sequenceOctets cs) 0 0 S (sequence-length g 0 cs) each-sized
 
-  pub laid-length : length (laid g cs S) ≡ S * sequenceOctets cs
+  pub laid-length : length (laid g cs S) ≡ samplesOctets cs S
   laid-length = rw laid-is (block-length (λ k p. sequence g k cs p) 0 (sequenceOctets cs) 0 0 S each-long)
 
   each-stands : Each (λ c n s p. Stands (laid g cs S) p (g c n)) cs S
@@ -154,7 +154,7 @@ steps-in-take [] x = refl
 steps-in-take (s ∷ cs) x =
     rw (take-add, steps-take (λ y. take (widthIn s) y) (widthIn s) (s .block) x (λ y. refl), steps-in-take cs (drop (s .block * widthIn s) x))
 
-pub laid-self : (cs : List Settings) (S : ℕ) (x : List ℕ) → laid (sampleIn cs x) cs S ≡ take (S * sequenceOctets cs) x
+pub laid-self : (cs : List Settings) (S : ℕ) (x : List ℕ) → laid (sampleIn cs x) cs S ≡ take (samplesOctets cs S) x
 laid-self cs S x =
     let f : Settings → List ℕ → List ℕ = λ s y. take (widthIn s) y in
     laid-steps (sampleIn cs x) f cs S x (λ c n h. refl) ∙ steps-take (stepsIn f cs) (sequenceOctets cs) S x (steps-in-take cs)

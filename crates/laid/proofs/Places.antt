@@ -16,7 +16,7 @@ use native.Mathlib.Omega.{arith}
 use lib.ListN.{length}
 use lib.Seq.{take-length}
 use Rattle.settings.specs.declared.Settings.{Settings}
-use Rattle.layout.specs.Frame.{widthIn, blockOctets, sequenceOctets, octetsBelow, channelIn, offsetOf}
+use Rattle.layout.specs.Frame.{widthIn, blockOctets, sequenceOctets, octetsBelow, channelIn, offsetOf, samplesOctets}
 use Rattle.laid.specs.Laid.{Named, Covered}
 
 -- ---- rows of equal cells
@@ -88,7 +88,7 @@ offset-within : (cs : List Settings) (c n i : ℕ) → offsetOf cs c n + i ≡ n
 unfolding offsetOf
 offset-within cs c n i = omega arith
 
-pub offset-inside : {cs : List Settings} {S c n : ℕ} → Named cs S c n → offsetOf cs c n + widthIn (channelIn c cs) ≤ S * sequenceOctets cs
+pub offset-inside : {cs : List Settings} {S c n : ℕ} → Named cs S c n → offsetOf cs c n + widthIn (channelIn c cs) ≤ samplesOctets cs S
 unfolding blockOctets
 offset-inside {cs} {S} {c} {n} h =
     let s = channelIn c cs in
@@ -144,7 +144,7 @@ block-of (s ∷ cs) x h = go (decLt x (blockOctets s)) (block-of cs (x - blockOc
         let b = f (omega arith) in
         record { channel = suc (b .channel); rest = b .rest; known = omega arith; below = b .below; place = omega arith }
 
-pub offset-covers : (cs : List Settings) (S o : ℕ) → o < S * sequenceOctets cs → Covered cs S o
+pub offset-covers : (cs : List Settings) (S o : ℕ) → o < samplesOctets cs S → Covered cs S o
 unfolding blockOctets
 offset-covers cs S o h =
     let G = sequenceOctets cs in

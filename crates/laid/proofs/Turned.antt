@@ -1,20 +1,19 @@
 -- Samples turned about.
 --     laid-turned    the samples of a waveform, each turned about, are the waveform so turned
---     turned-add     a run of samples and the run behind it
 --     octets-even    the octets of a sequence, where all widths are one number
 --     turned-even    such a waveform is turned as one run of samples
 -- Assumes nothing.
-use Prim.Native.Nat.{ℕ, zero, suc, _+_, _*_}
-use mathlib.Core.Path.{_≡_, refl, _∙_}
-use mathlib.Core.List.{List, [], _∷_, _++_, reverse, append-assoc}
-use native.Mathlib.Nat.{zero-mul, suc-mul, zero-add, suc-add, add-mul, add-comm}
+use Prim.Native.Nat.{ℕ, zero, suc, _*_}
+use mathlib.Core.Path.{_≡_, refl, sym, _∙_}
+use mathlib.Core.List.{List, [], _∷_, reverse}
+use native.Mathlib.Nat.{zero-mul, suc-mul, add-mul, add-comm}
 use native.Mathlib.Omega.{arith}
 use lib.ListN.{take, drop}
-use lib.Seq.{drop-drop}
 use Rattle.settings.specs.declared.Settings.{Settings}
 use Rattle.layout.specs.Frame.{widthIn, blockOctets, sequenceOctets}
 use Rattle.laid.specs.Laid.{laid, sampleIn}
 use Rattle.runs.specs.Turned.{turned}
+use Rattle.runs.proofs.Turned.{turned-add}
 use Rattle.laid.specs.Turned.{turnedSequence, turnedAll, sequenceSamples, Even}
 use Rattle.laid.proofs.Laid.{steps, stepsIn, laid-steps}
 
@@ -26,28 +25,23 @@ turned-steps w zero x = refl
 turned-steps w (suc k) x = rw (turned-steps w k (drop w x))
 
 -- The sample that octets start with, turned about.
-abbrev first : Settings → List ℕ → List ℕ
-first s y = reverse (take (widthIn s) y)
+abbrev turnedFirst : Settings → List ℕ → List ℕ
+turnedFirst s y = reverse (take (widthIn s) y)
 
-sequence-steps : (cs : List Settings) (x : List ℕ) → stepsIn first cs x ≡ turnedSequence cs x
+sequence-steps : (cs : List Settings) (x : List ℕ) → stepsIn turnedFirst cs x ≡ turnedSequence cs x
 unfolding turnedSequence
 sequence-steps [] x = refl
 sequence-steps (s ∷ cs) x = rw (turned-steps (widthIn s) (s .block) x, sequence-steps cs (drop (blockOctets s) x))
 
-all-steps : (cs : List Settings) (m : ℕ) (x : List ℕ) → steps (stepsIn first cs) (sequenceOctets cs) m x ≡ turnedAll cs m x
+all-steps : (cs : List Settings) (m : ℕ) (x : List ℕ) → steps (stepsIn turnedFirst cs) (sequenceOctets cs) m x ≡ turnedAll cs m x
 unfolding turnedAll
 all-steps cs zero x = refl
 all-steps cs (suc m) x = rw (sequence-steps cs x, all-steps cs m (drop (sequenceOctets cs) x))
 
 pub laid-turned : (cs : List Settings) (S : ℕ) (x : List ℕ) → laid (λ c n. reverse (sampleIn cs x c n)) cs S ≡ turnedAll cs S x
-laid-turned cs S x = laid-steps (λ c n. reverse (sampleIn cs x c n)) first cs S x (λ c n h. refl) ∙ all-steps cs S x
+laid-turned cs S x = laid-steps (λ c n. reverse (sampleIn cs x c n)) turnedFirst cs S x (λ c n h. refl) ∙ all-steps cs S x
 
 -- ---- where all widths are one number
-
-pub turned-add : (v a b : ℕ) (x : List ℕ) → turned v a x ++ turned v b (drop (a * v) x) ≡ turned v (a + b) x
-unfolding turned
-turned-add v zero b x = rw (zero-mul, zero-add)
-turned-add v (suc a) b x = rw (suc-mul, suc-add, add-comm (a * v) v, ← drop-drop (a * v) v x, append-assoc, turned-add v a b (drop v x))
 
 even-first : (v : ℕ) (s : Settings) (cs : List Settings) → Even v (s ∷ cs) → blockOctets s ≡ s .block * v
 unfolding blockOctets
@@ -65,7 +59,7 @@ sequence-even : (v : ℕ) (cs : List Settings) (x : List ℕ) → Even v cs → 
 unfolding turnedSequence sequenceSamples turned
 sequence-even v [] x e = refl
 sequence-even v (s ∷ cs) x e =
-    rw (even-first v s cs e, e 0 (omega arith), sequence-even v cs (drop (s .block * v) x) (even-rest v s cs e)) (turned-add v (s .block) (sequenceSamples cs) x)
+    rw (even-first v s cs e, e 0 (omega arith), sequence-even v cs (drop (s .block * v) x) (even-rest v s cs e)) (sym (turned-add v (s .block) (sequenceSamples cs) x))
 
 pub turned-even : (v : ℕ) (cs : List Settings) (S : ℕ) (x : List ℕ) → Even v cs → turnedAll cs S x ≡ turned v (S * sequenceSamples cs) x
 unfolding turnedAll turned
@@ -73,4 +67,4 @@ turned-even v cs zero x e = rw zero-mul
 turned-even v cs (suc m) x e =
     rw
     (suc-mul, add-comm (m * sequenceSamples cs) (sequenceSamples cs), sequence-even v cs x e, octets-even v cs e, turned-even v cs m (drop (sequenceSamples cs * v) x) e)
-    (turned-add v (sequenceSamples cs) (m * sequenceSamples cs) x)
+    (sym (turned-add v (sequenceSamples cs) (m * sequenceSamples cs) x))

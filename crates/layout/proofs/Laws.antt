@@ -6,8 +6,8 @@
 --     Summing        the same over the first records of a table
 --     summing-none, summing-more, summed-up    before the first one, one further, after the last one
 --     take-few       no more records are taken than there are
---     groups-few     groups take few octets
---     frame-few      and so does a frame
+--     null-le, channel-few, groups-few    a null, a channel number and groups take few octets
+--     sequences-item-few, head-few, frame-few    and so do 06, a frame's head, and a frame
 -- Assumes nothing.
 use mathlib.Core.Path.{_≡_, refl, sym, ap, _∙_}
 use mathlib.Core.List.{List, [], _∷_}
@@ -23,13 +23,26 @@ use lib.ListN.{length, getD, take, drop, drop-of-length-le}
 use lib.Seq.{drop-cons, take-nil, take-all, getD-take, length-take-le}
 use Rattle.octets.specs.Pick.{pick, both}
 use Rattle.octets.proofs.Pick.{pick-cases}
+use Rattle.stores.proofs.Length.{length-shortest}
 use Rattle.values.proofs.Laws.{width-le}
+use Rattle.values.specs.declared.Bits.{Bits}
 use Rattle.settings.specs.declared.Settings.{Settings}
-use Rattle.settings.specs.Settings.{zeroSettings}
+use Rattle.settings.specs.Settings.{channelLimit, zeroSettings}
 use Rattle.layout.specs.declared.Layout.{Layout}
-use Rattle.layout.specs.Frame.{blockOctets, sequenceOctets, octetsBelow, channelAgrees, allAgree}
-use Rattle.layout.specs.Size.{channelSize, nullSize, groupSize, groupsSize, lengthSize, sequencesSize, frameSize}
+use Rattle.layout.specs.Frame.{widthIn, blockOctets, sequenceOctets, octetsBelow, channelAgrees, allAgree}
+use Rattle.layout.specs.Size.{channelSize, nullSize, groupSize, groupsSize, sequencesSize, headSize, frameSize}
 use Rattle.layout.specs.Measure.{layoutOf, noLayout, moreOf, More}
+
+-- A null takes no more than a sample, and a group at most 64 octets.
+pub null-le : (width : ℕ) (null : Bits) → nullSize width null ≤ width
+null-le width null = pick-cases (λ (n : ℕ). n ≤ width) (eqb (null .width) 0) (λ _. omega arith) (λ _. omega arith)
+
+pub channel-few : (k : ℕ) → channelSize k ≤ 2
+channel-few k = pick-cases (λ (n : ℕ). n ≤ 2) (ltb k 128) (λ _. omega arith) (λ _. omega arith)
+
+group-few : (k : ℕ) (c : Settings) → groupSize k (widthIn c) (c .null) ≤ 64
+unfolding groupSize
+group-few k c = omega (arith, channel-few k, width-le (c .kind), null-le (widthIn c) (c .null))
 
 -- Some octets of the channels left: those below `channel`, where i channels are behind.
 abbrev leftBelow : ℕ → ℕ → List Settings → ℕ
@@ -82,25 +95,24 @@ summed i channel c l =
       agree = both (l .agree) (channelAgrees c);
       octets = l .octets + blockOctets c;
       below = pick (ltb i channel) (l .below + blockOctets c) (l .below);
-      groups = l .groups + groupSize i c;
+      groups = l .groups + groupSize i (widthIn c) (c .null);
     }
 
-small-sum : (i x b : ℕ) → i < 256 → x ≤ i * 2 ^ 36 → b < 2 ^ 36 → (x + b) % 2 ^ 64 ≡ x + b
+small-sum : (i x b : ℕ) → i < channelLimit → x ≤ i * 2 ^ 36 → b < 2 ^ 36 → (x + b) % 2 ^ 64 ≡ x + b
 small-sum i x b h l k = mod-eq-of-lt (omega arith)
 
-more-summed : (channel : ℕ) (cs : List Settings) (i : ℕ) (c : Settings) (l : Layout) → i < 256 → Passed channel cs i l → blockOctets c < 2 ^ 36 → groupSize i c < 2 ^ 36 → moreOf i channel c l ≡ summed i channel c l
-more-summed channel cs i c l h p bo gs =
+more-summed : (channel : ℕ) (cs : List Settings) (i : ℕ) (c : Settings) (l : Layout) → i < channelLimit → Passed channel cs i l → blockOctets c < 2 ^ 36 → moreOf i channel c l ≡ summed i channel c l
+more-summed channel cs i c l h p bo =
     let o = small-sum i (l .octets) (blockOctets c) h (p .octetsRoom) bo in
     let b = small-sum i (l .below) (blockOctets c) h (p .belowRoom) bo in
-    let g = small-sum i (l .groups) (groupSize i c) h (p .groupsRoom) gs in
+    let g = small-sum i (l .groups) (groupSize i (widthIn c) (c .null)) h (p .groupsRoom) (omega (arith, group-few i c)) in
     λ k. record { agree = both (l .agree) (channelAgrees c); octets = o k; below = pick (ltb i channel) (b k) (l .below); groups = g k }
 
-pub passed-more : (channel : ℕ) (cs : List Settings) (i : ℕ) (c : Settings) (l m : Layout) → i < 256 → i < length cs → c ≡ getD cs i zeroSettings → Passed channel cs i l → More i channel c l m → Passed channel cs (i + 1) m
+pub passed-more : (channel : ℕ) (cs : List Settings) (i : ℕ) (c : Settings) (l m : Layout) → i < channelLimit → i < length cs → c ≡ getD cs i zeroSettings → Passed channel cs i l → More i channel c l m → Passed channel cs (i + 1) m
 unfolding allAgree sequenceOctets groupsSize
 passed-more channel cs i c l m low h ec p g =
     let bo = g .octets in
-    let gs = g .groups in
-    let em : m ≡ summed i channel c l = g .value ∙ more-summed channel cs i c l low p bo gs in
+    let em : m ≡ summed i channel c l = g .value ∙ more-summed channel cs i c l low p bo in
     let d : drop i cs ≡ c ∷ drop (suc i) cs = drop-cons cs i zeroSettings h ∙ ap (λ (x : Settings). x ∷ drop (suc i) cs) (sym ec) in
     let n : i + 1 ≡ suc i = add-one i in
     rw em
@@ -108,11 +120,11 @@ passed-more channel cs i c l m low h ec p g =
       low = omega arith;
       octetsRoom = omega (arith, p .octetsRoom);
       belowRoom = below-room channel i (l .below) (blockOctets c) (2 ^ 36) (p .belowRoom) bo;
-      groupsRoom = omega (arith, p .groupsRoom);
+      groupsRoom = omega (arith, p .groupsRoom, group-few i c);
       agree = rw n (both-assoc (l .agree) (channelAgrees c) (allAgree (drop (suc i) cs)) ∙ rw d at (p .agree));
       octets = rw n (add-assoc (l .octets) (blockOctets c) (sequenceOctets (drop (suc i) cs)) ∙ rw d at (p .octets));
       below = rw n (below-more channel i (l .below) c (drop (suc i) cs) ∙ rw d at (p .below));
-      groups = rw n (add-assoc (l .groups) (groupSize i c) (groupsSize (suc i) (drop (suc i) cs)) ∙ rw d at (p .groups));
+      groups = rw n (add-assoc (l .groups) (groupSize i (widthIn c) (c .null)) (groupsSize (suc i) (drop (suc i) cs)) ∙ rw d at (p .groups));
     }
 
 both-true : (a : Bool) → both a true ≡ a
@@ -131,11 +143,11 @@ passed-all channel cs i l h p =
 
 -- The first n records of a table, i of them behind.
 pub record Summing (channel : ℕ) (table : List Settings) (n i : ℕ) (l : Layout) : Type 0 where
-  pub few : n ≤ 256
+  pub few : n ≤ channelLimit
   pub long : length (take n table) ≡ n
   pub passed : Passed channel (take n table) i l
 
-pub summing-none : {table : List Settings} (channel : ℕ) {n : ℕ} {l : Layout} → length table ≡ 256 → n ≤ 256 → l ≡ noLayout → Summing channel table n 0 l
+pub summing-none : {table : List Settings} (channel : ℕ) {n : ℕ} {l : Layout} → length table ≡ channelLimit → n ≤ channelLimit → l ≡ noLayout → Summing channel table n 0 l
 summing-none {table = table} channel {n = n} k h e =
     record { few = h; long = length-take-le n table (omega arith); passed = rw e (passed-none channel (take n table)) }
 
@@ -151,39 +163,27 @@ module _ {channel : ℕ} {table : List Settings} {n i : ℕ} {l : Layout} (p : S
   pub summed-up : (count : ℕ) → n ≡ count → n ≤ i → l ≡ layoutOf channel (take count table)
   summed-up count e h = passed-all channel (take n table) i l (omega (arith, p .long)) (p .passed) ∙ ap (λ (k : ℕ). layoutOf channel (take k table)) e
 
--- There are no more records than 256.
-pub take-few : (count : ℕ) (table : List Settings) → length table ≡ 256 → take (min count 256) table ≡ take count table
-take-few count table e = by (decLt count 256)
+-- There are no more records than a frame may have channels.
+pub take-few : (count : ℕ) (table : List Settings) → length table ≡ channelLimit → take (min count channelLimit) table ≡ take count table
+take-few count table e = by (decLt count channelLimit)
   where
-    by : Dec (count < 256) → take (min count 256) table ≡ take count table
-    by (yes h) = let m : min count 256 ≡ count = omega arith in rw m
-    by (no h) = let m : min count 256 ≡ 256 = omega arith in rw m (take-all 256 table (omega arith) ∙ sym (take-all count table (omega arith)))
-
--- A group takes at most 64 octets.
-group-few : (k : ℕ) (c : Settings) → groupSize k c ≤ 64
-unfolding groupSize
-group-few k c =
-    let w = width-le (c .kind) in
-    let n : nullSize c ≤ 8 = pick-cases (λ (m : ℕ). m ≤ 8) (eqb (c .null .width) 0) (λ _. omega arith) (λ _. w) in
-    let h : channelSize k ≤ 2 = pick-cases (λ (m : ℕ). m ≤ 2) (ltb k 128) (λ _. omega arith) (λ _. omega arith) in
-    omega arith
+    by : Dec (count < channelLimit) → take (min count channelLimit) table ≡ take count table
+    by (yes h) = let m : min count channelLimit ≡ count = omega arith in rw m
+    by (no h) = let m : min count channelLimit ≡ channelLimit = omega arith in rw m (take-all channelLimit table (omega arith) ∙ sym (take-all count table (omega arith)))
 
 pub groups-few : (k : ℕ) (cs : List Settings) → groupsSize k cs ≤ length cs * 64
 unfolding groupsSize
 groups-few k [] = omega arith
 groups-few k (c ∷ cs) = omega (arith, group-few k c, groups-few (suc k) cs)
 
--- A frame of few channels, in a file that has a limit, takes few octets.
-pub frame-few : (sequences groups waveform : ℕ) → groups ≤ 16384 → waveform < 2147483648 → frameSize sequences groups waveform < 4294967296
+-- 06 and a frame's head take few octets, and so does a frame of few channels in a file that has a limit.
+pub sequences-item-few : (sequences : ℕ) → sequencesSize sequences ≤ 6
+sequences-item-few sequences = pick-cases (λ (n : ℕ). n ≤ 6) (eqb sequences 0) (λ _. omega arith) (λ _. omega arith)
+
+pub head-few : (sequences : ℕ) → headSize sequences ≤ 18
+unfolding headSize
+head-few sequences = omega (arith, sequences-item-few sequences)
+
+pub frame-few : (sequences groups waveform : ℕ) → groups ≤ channelLimit * 64 → waveform < 2 ^ 31 → frameSize sequences groups waveform < 2 ^ 32
 unfolding frameSize
-frame-few sequences groups waveform h l =
-    let s : sequencesSize sequences ≤ 6 = pick-cases (λ (m : ℕ). m ≤ 6) (eqb sequences 0) (λ _. omega arith) (λ _. omega arith) in
-    let n : lengthSize waveform ≤ 5 = length-few (ltb waveform 128) (ltb waveform 256) (ltb waveform 65_536) (ltb waveform 16_777_216) in
-    omega arith
-  where
-    length-few : (a b c d : Bool) → pick a 1 (pick b 2 (pick c 3 (pick d 4 5))) ≤ 5
-    length-few true b c d = omega arith
-    length-few false true c d = omega arith
-    length-few false false true d = omega arith
-    length-few false false false true = omega arith
-    length-few false false false false = omega arith
+frame-few sequences groups waveform h l = omega (arith, head-few sequences, length-shortest waveform)

@@ -34,6 +34,14 @@ unfoldable pub sequenceOctets : List Settings → ℕ
 sequenceOctets [] = 0
 sequenceOctets (c ∷ cs) = blockOctets c + sequenceOctets cs
 
+-- The octets that the samples of a frame take: each of its sequences takes G.
+abbrev pub samplesOctets : List Settings → ℕ → ℕ
+samplesOctets cs sequences = sequences * sequenceOctets cs
+
+-- The same of a frame; the octets of its waveform that follow them are surplus.
+abbrev pub octetsSampled : Frame → ℕ
+octetsSampled f = samplesOctets (f .channels) (f .sequences)
+
 -- The block octets of all channels below one.
 unfoldable pub octetsBelow : ℕ → List Settings → ℕ
 octetsBelow channel cs = sequenceOctets (take channel cs)

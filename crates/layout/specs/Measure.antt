@@ -7,7 +7,7 @@ use lib.Dec.{ltb}
 use Rattle.octets.specs.Pick.{pick, both}
 use Rattle.settings.specs.declared.Settings.{Settings}
 use Rattle.layout.specs.declared.Layout.{Layout}
-use Rattle.layout.specs.Frame.{blockOctets, sequenceOctets, octetsBelow, channelAgrees, allAgree}
+use Rattle.layout.specs.Frame.{widthIn, blockOctets, sequenceOctets, octetsBelow, channelAgrees, allAgree}
 use Rattle.layout.specs.Size.{groupSize, groupsSize}
 
 -- Whether offsets and nulls agree with their widths, G, the octets below a channel, and the canonical groups' octets.
@@ -26,16 +26,10 @@ moreOf i channel c l =
       agree = both (l .agree) (channelAgrees c);
       octets = (l .octets + blockOctets c) % 2 ^ 64;
       below = pick (ltb i channel) ((l .below + blockOctets c) % 2 ^ 64) (l .below);
-      groups = (l .groups + groupSize i c) % 2 ^ 64;
+      groups = (l .groups + groupSize i (widthIn c) (c .null)) % 2 ^ 64;
     }
-
--- A number of octets of one channel: which it is, and that sums of 256 of them fit.
-pub record Small (n r : ℕ) : Type 0 where
-  pub value : r ≡ n
-  pub below : r < 2 ^ 36
 
 -- Channel i more, and that its own octets are few.
 pub record More (i channel : ℕ) (c : Settings) (l r : Layout) : Type 0 where
   pub value : r ≡ moreOf i channel c l
   pub octets : blockOctets c < 2 ^ 36
-  pub groups : groupSize i c < 2 ^ 36

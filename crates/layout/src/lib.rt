@@ -2,16 +2,17 @@
 //
 // Promises: `Layout::more`, called for one channel after the other, sums up whether offsets and nulls have their sample widths, the octets of
 // a sequence, those below a channel, and the octets that the channels' groups take in the canonical file; `layout_of` does so for a table.
-// `frame_size` answers how many octets a frame takes there, and `offset_bits` a channel's offset, one that is not defined too.
+// `frame_size` answers how many octets a frame takes there, `head_size` and `group_size` its head and a group, `content_size` and `null_size` a
+// group's items and a null's value, and `offset_bits` a channel's offset, one that is not defined too.
 // Read first: specs/Frame.antt (frames and the place of a sample), specs/Size.antt.
 ghost use mathlib.Core.Path.{_≡_};
-ghost use Prim.Native.Nat.{_+_, _%_, _^_, _≤_, _<_, min};
+ghost use Prim.Native.Nat.{_+_, _%_, _^_, _<_};
 ghost use lib.Dec.{ltb};
 ghost use lib.ListN.{take};
 ghost use Rattle.octets.specs.Pick.{pick, both};
-ghost use Rattle.layout.specs.Frame.{widthIn, blockOctets, offsetBits, widthAgrees, channelAgrees};
-ghost use Rattle.layout.specs.Size.{channelSize, nullSize, groupSize, lengthSize, sequencesSize, frameSize};
-ghost use Rattle.layout.specs.Measure.{noLayout, layoutOf, Small, More};
+ghost use Rattle.layout.specs.Frame.{offsetBits, widthAgrees};
+ghost use Rattle.layout.specs.Size.{channelSize, nullSize, contentSize, groupSize, sequencesSize, headSize, frameSize};
+ghost use Rattle.layout.specs.Measure.{noLayout, layoutOf, More};
 use settings::Settings;
 use values::Bits;
 
@@ -23,28 +24,17 @@ pub struct Layout {
     pub groups: u64,
 }
 
-// Block length times octets per sample, below 2^36. In what follows w is the octets per sample of channel c.
-fn block_octets(c: Settings, w: usize) -> u64
-    requires { ⌜ w ≡ widthIn c ⌝ }
-    ensures { λ r. ⌜ Small (blockOctets c) r ⌝ }
-{
-    c.block as u64 * w as u64
-}
-
 // Bits that are defined have the sample's width.
-fn width_agrees(w: usize, b: Bits) -> bool
+fn width_agrees(w: u8, b: Bits) -> bool
     ensures { λ r. ⌜ r ≡ widthAgrees w b ⌝ }
 {
-    b.width == 0 || b.width as usize == w
+    b.width == 0 || b.width == w
 }
 
 // A channel's offset and null have its sample width, where they are defined.
-fn channel_agrees(c: Settings, w: usize) -> bool
-    requires { ⌜ w ≡ widthIn c ⌝ }
-    ensures { λ r. ⌜ r ≡ channelAgrees c ⌝ }
+fn widths_agree(w: u8, offset: Bits, null: Bits) -> bool
+    ensures { λ r. ⌜ r ≡ both (widthAgrees w offset) (widthAgrees w null) ⌝ }
 {
-    let offset = c.offset;
-    let null = c.null;
     if width_agrees(w, offset) {
         return width_agrees(w, null);
     }
@@ -66,31 +56,31 @@ pub fn offset_bits(c: Settings) -> Bits
 }
 
 // A shortest channel number's octets.
-fn channel_size(k: usize) -> u64
+fn channel_size(k: usize) -> usize
     ensures { λ r. ⌜ r ≡ channelSize k ⌝ }
 {
     if k < 128 { 1 } else { 2 }
 }
 
-// The octets of a null's value.
-fn null_size(c: Settings, w: usize) -> u64
-    requires { ⌜ w ≡ widthIn c ⌝ }
-    ensures { λ r. ⌜ r ≡ nullSize c ⌝ }
+// The octets of a null's value, where samples have w octets.
+pub fn null_size(w: u8, null: Bits) -> usize
+    ensures { λ r. ⌜ r ≡ nullSize w null ⌝ }
 {
-    let null = c.null;
-    if null.width == 0 {
-        return 0;
-    }
-    w as u64
+    if null.width == 0 { 0 } else { w as usize }
 }
 
-// The octets of channel k's group in the canonical file.
-fn group_size(k: usize, c: Settings, w: usize) -> u64
-    requires { ⌜ w ≡ widthIn c ⌝ }
-    ensures { λ r. ⌜ Small (groupSize k c) r ⌝ }
+// The octets of the items of a channel's group.
+pub fn content_size(w: u8, null: Bits) -> usize
+    ensures { λ r. ⌜ r ≡ contentSize w null ⌝ }
 {
-    let null = null_size(c, w);
-    2 + channel_size(k) + (37 + w as u64 + null)
+    37 + w as usize + null_size(w, null)
+}
+
+// The octets of channel k's group.
+pub fn group_size(k: usize, w: u8, null: Bits) -> usize
+    ensures { λ r. ⌜ r ≡ groupSize k w null ⌝ }
+{
+    2 + channel_size(k) + content_size(w, null)
 }
 
 // Octets of a channel that lies below another one are added.
@@ -128,13 +118,15 @@ impl Layout {
     pub fn more(self, i: usize, channel: u32, c: Settings) -> Layout
         ensures { λ r. ⌜ More i channel c self r ⌝ }
     {
-        let w = values::width(c.kind);
-        let octets = block_octets(c, w);
+        let w = values::width(c.kind) as u8;
+        let offset = c.offset;
+        let null = c.null;
+        let octets = c.block as u64 * w as u64;
         Layout {
-            agree: agree_both(self.agree, channel_agrees(c, w)),
+            agree: agree_both(self.agree, widths_agree(w, offset, null)),
             octets: std::num::wrapping_add_u64(self.octets, octets),
             below: added_below(i, channel, self.below, octets),
-            groups: std::num::wrapping_add_u64(self.groups, group_size(i, c, w)),
+            groups: std::num::wrapping_add_u64(self.groups, group_size(i, w, null) as u64),
         }
     }
 }
@@ -153,35 +145,25 @@ pub fn layout_of(table: [Settings; Settings::CHANNELS], count: usize) -> Layout
     l
 }
 
-// The octets of a length in its shortest form.
-fn length_size(n: u32) -> u64
-    ensures { λ r. ⌜ (r ≡ lengthSize n) × (r ≤ 5) ⌝ }
-{
-    if n < 128 {
-        return 1;
-    }
-    if n < 256 {
-        return 2;
-    }
-    if n < 65_536 {
-        return 3;
-    }
-    if n < 16_777_216 {
-        return 4;
-    }
-    5
-}
-
 // The octets of 06.
-fn sequences_size(sequences: u32) -> u64
-    ensures { λ r. ⌜ (r ≡ sequencesSize sequences) × (r ≤ 6) ⌝ }
+fn sequences_size(sequences: u32) -> usize
+    ensures { λ r. ⌜ r ≡ sequencesSize sequences ⌝ }
 {
     if sequences == 0 { 2 } else { 6 }
 }
 
-// The octets of a frame in the canonical file, whose channels' groups and whose samples take so many.
+// The octets of 05, 06 and 07.
+pub fn head_size(sequences: u32) -> usize
+    ensures { λ r. ⌜ r ≡ headSize sequences ⌝ }
+{
+    12 + sequences_size(sequences)
+}
+
+// The octets of a frame, whose channels' groups and whose samples take so many.
 pub fn frame_size(sequences: u32, groups: u32, waveform: u32) -> u64
     ensures { λ r. ⌜ (r ≡ frameSize sequences groups waveform) × (r < 2 ^ 34) ⌝ }
 {
-    12 + sequences_size(sequences) + groups as u64 + (1 + length_size(waveform) + waveform as u64)
+    let head = head_size(sequences) as u64;
+    let length = stores::length_octets(waveform) as u64;
+    head + groups as u64 + (1 + length + waveform as u64)
 }

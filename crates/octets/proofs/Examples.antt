@@ -5,13 +5,13 @@ use mathlib.Core.Bool.{true, false}
 use lib.IntN.{pos, negsuc}
 use Rattle.octets.specs.Number.{bigFrom, littleOf, numberOf, twos, signedOf}
 
-pub big : numberOf false (1 ∷ 2 ∷ 3 ∷ []) ≡ 66051
+pub three-big : numberOf false (1 ∷ 2 ∷ 3 ∷ []) ≡ 66051
 unfolding numberOf bigFrom
-big = refl
+three-big = refl
 
-pub little : numberOf true (1 ∷ 2 ∷ 3 ∷ []) ≡ 197121
+pub three-little : numberOf true (1 ∷ 2 ∷ 3 ∷ []) ≡ 197121
 unfolding numberOf littleOf
-little = refl
+three-little = refl
 
 -- -2 in two octets, the sign carried up from the top octet of either byte order
 pub minus-two-big : signedOf false (255 ∷ 254 ∷ []) ≡ negsuc 1

@@ -1,10 +1,10 @@
 -- Laws of the numbers of octets, each stated once for any width.
 --     part-past, part-rest, part-whole, take-length-le, part-short    a part that runs past the end
 --     take-octets, drop-octets, read-all    a part of octets, and octets that are no more than eight
---     range-suc, range-bits, range-pos, push, push-back, cap, room    one octet more
+--     range-suc, range-bits, range-pos, push, push-back, cap, push-fits    one octet more
 --     big-turn, big-end, little-start, little-turn, little-end    a loop that reads octets from the front, and from the back
 --     big-below, little-below, number-below    a number is one of its width
---     number-none, number-one, signed-one    the number of no octet, and of one
+--     number-one    the number of one octet
 --     twos-low, twos-high    what the machine reads back from a signed local's bits is the two's complement number
 -- Assumes nothing.
 use mathlib.Core.Path.{_≡_, refl, sym, ap, _∙_}
@@ -23,7 +23,7 @@ use lib.Seq.{drop-cons, drop-length, getD-drop, take-all, take-nil}
 use mir.Syntax.{Width}
 use mir.Val.{bits, hbits, toZ}
 use mir.Facts.{toZ-pos, toZ-neg}
-use Rattle.octets.specs.Number.{range, bigFrom, littleOf, numberOf, twos, signedOf, Read}
+use Rattle.octets.specs.Number.{range, bigFrom, littleOf, numberOf, twos, Read}
 
 -- What lies past the end is not there, so a part is at most as long as asked for.
 module _ (s : List ℕ) (at n : ℕ) where
@@ -79,8 +79,8 @@ push i n b h k = rw range-suc (digits-lt h k)
 pub cap : (i j : ℕ) → i ≤ j → range i ≤ range j
 cap i j h = pow-le-pow-right (lit< tt) h
 
-pub room : (i n b : ℕ) → i < 8 → n < range i → b < 256 → n * 256 + b < 2 ^ 64
-room i n b h k l =
+pub push-fits : (i n b : ℕ) → i < 8 → n < range i → b < 256 → n * 256 + b < 2 ^ 64
+push-fits i n b h k l =
     let e : i + 1 ≤ 8 = omega arith in
     lt-of-lt-of-le (push i n b k l) (cap (i + 1) 8 e)
 
@@ -139,20 +139,11 @@ number-below false s h =
     let e : 0 + length s ≡ length s = omega arith in
     rw e at (big-below s 0 0 h (lit< tt))
 
--- The number of no octet, and of one, in either byte order.
-pub number-none : (little : Bool) → numberOf little [] ≡ 0
-unfolding numberOf bigFrom littleOf
-number-none true = refl
-number-none false = refl
-
+-- The number of one octet, in either byte order.
 pub number-one : (little : Bool) (b : ℕ) → numberOf little (b ∷ []) ≡ b
 unfolding numberOf bigFrom littleOf
 number-one true b = omega arith
 number-one false b = omega arith
-
-pub signed-one : (little : Bool) (b : ℕ) → signedOf little (b ∷ []) ≡ twos 1 b
-unfolding signedOf
-signed-one little b = rw (number-one little b)
 
 -- The bits of a signed local, read back at the machine's width W, are the two's complement number of w octets.
 pub twos-low : (W : Width) (w n : ℕ) → 2 * n < range w → n < 2 ^ hbits W → toZ W n ≡ twos w n

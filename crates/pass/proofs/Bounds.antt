@@ -5,7 +5,7 @@
 use mathlib.Core.Path.{_≡_, refl, _∙_}
 use mathlib.Core.List.{List, [], _∷_}
 use mathlib.Core.Bool.{Bool, true, false}
-use Prim.Native.Nat.{ℕ, zero, suc, _≤_, _<_}
+use Prim.Native.Nat.{ℕ, _≤_, _<_}
 use native.Mathlib.Nat.{mul-pos}
 use native.Mathlib.Omega.{arith}
 use borrow.Author.Tests.{leb-true, eqb-false}
@@ -14,6 +14,7 @@ use lib.ListN.{length, length-take, length-append, length-replicate, length-set,
 use Rattle.octets.specs.Pick.{both}
 use Rattle.octets.proofs.Pick.{pick-cases}
 use Rattle.values.specs.Sample.{widthOf}
+use Rattle.values.proofs.Laws.{width-cases}
 use Rattle.items.specs.declared.Item.{Item}
 use Rattle.items.specs.declared.Cursor.{Cursor}
 use Rattle.settings.specs.declared.Settings.{Settings}
@@ -38,17 +39,7 @@ both-split false b e = let z : _≡_ {A = ℕ} 0 1 = cc in let w : ⊥ = omega a
 
 -- A sample of a data type has octets.
 width-some : (k : ℕ) → k ≤ lastKind → 0 < widthOf k
-unfolding widthOf
-width-some zero h = lit< tt
-width-some (suc zero) h = lit< tt
-width-some (suc (suc zero)) h = lit< tt
-width-some (suc (suc (suc zero))) h = lit< tt
-width-some (suc (suc (suc (suc zero)))) h = lit< tt
-width-some (suc (suc (suc (suc (suc zero))))) h = lit< tt
-width-some (suc (suc (suc (suc (suc (suc zero)))))) h = lit< tt
-width-some (suc (suc (suc (suc (suc (suc (suc zero))))))) h = lit< tt
-width-some (suc (suc (suc (suc (suc (suc (suc (suc zero)))))))) h = lit< tt
-width-some (suc (suc (suc (suc (suc (suc (suc (suc (suc k))))))))) h = let z : ⊥ = omega arith in absurd z
+width-some = width-cases (λ (w : ℕ). 0 < w) (lit< tt) (lit< tt) (lit< tt) (lit< tt)
 
 -- Each value is in its range; this needs nothing of the octets.
 abbrev InRange : Change → Type 0

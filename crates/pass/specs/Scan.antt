@@ -9,7 +9,7 @@ use lib.ListN.{length, getD}
 use Rattle.octets.specs.Pick.{pick}
 use Rattle.heads.specs.declared.Refusal.{Refusal}
 use Rattle.settings.specs.Settings.{defaultSettings}
-use Rattle.layout.specs.Frame.{Frame, sequenceOctets, octetsBelow, channelIn}
+use Rattle.layout.specs.Frame.{Frame, sequenceOctets, octetsBelow, channelIn, octetsSampled}
 use Rattle.layout.specs.Size.{frameSize, groupsSize}
 use Rattle.pass.specs.declared.Asked.{Asked}
 use Rattle.pass.specs.declared.View.{View}
@@ -44,7 +44,7 @@ foundIn q fs = pick (ltb (q .frame) (length fs)) (Found.Frame (viewOf (q .channe
 
 -- How many octets a frame takes in the canonical file.
 unfoldable pub sizeOf : Frame → ℕ
-sizeOf f = frameSize (f .sequences) (groupsSize 0 (f .channels)) (f .sequences * sequenceOctets (f .channels))
+sizeOf f = frameSize (f .sequences) (groupsSize 0 (f .channels)) (octetsSampled f)
 
 -- How many octets frames take there, without the file's first three.
 unfoldable pub sizes : List Frame → ℕ

@@ -7,7 +7,7 @@
 use mathlib.Core.Path.{_≡_, refl, _∙_, subst}
 use mathlib.Core.List.{List, [], _∷_, _++_}
 use mathlib.Core.Bool.{true}
-use Prim.Native.Nat.{ℕ, _+_, _*_, _≤_, _<_}
+use Prim.Native.Nat.{ℕ, _+_, _≤_, _<_}
 use native.Mathlib.Decide.{decLt}
 use native.Mathlib.Omega.{arith}
 use lib.ListN.{length, getD, take, drop, length-take, length-drop, length-append, List·getD-append}
@@ -17,7 +17,7 @@ use Rattle.items.specs.declared.Cursor.{Cursor}
 use Rattle.items.proofs.Walks.{FoundAt, ItemLies, next-found}
 use Rattle.settings.specs.declared.Settings.{Settings}
 use Rattle.settings.specs.Settings.{channelLimit}
-use Rattle.layout.specs.Frame.{Frame, sequenceOctets, allAgree}
+use Rattle.layout.specs.Frame.{Frame, sequenceOctets, allAgree, octetsSampled}
 use Rattle.standing.specs.declared.Standing.{Standing}
 use Rattle.effects.specs.Effects.{valueAt}
 use Rattle.standing.specs.Standing.{octetsLimit, framesLimit}
@@ -31,7 +31,7 @@ use Rattle.pass.proofs.Bounds.{Bounded, bounded-first, bounded-step, frame-chan
 
 -- A frame whose waveform lies in the file and holds its sequences, with 1 to 256 channels.
 pub record Lies (s : List ℕ) (f : Frame) : Type 0 where
-  pub fits : f .sequences * sequenceOctets (f .channels) ≤ length (f .waveform)
+  pub fits : octetsSampled f ≤ length (f .waveform)
   pub inside : f .place + length (f .waveform) ≤ length s
   pub octets : f .waveform ≡ take (length (f .waveform)) (drop (f .place) s)
   pub some : 0 < length (f .channels)

@@ -4,5 +4,5 @@ use Prim.Native.Nat.{ℕ}
 use Rattle.runs.specs.declared.Eight.{Eight}
 
 -- The eight octets as a list.
-abbrev pub octetsOf : Eight → List ℕ
-octetsOf x = x .a ∷ x .b ∷ x .c ∷ x .d ∷ x .e ∷ x .f ∷ x .g ∷ x .h ∷ []
+abbrev pub eightOctets : Eight → List ℕ
+eightOctets x = x .a ∷ x .b ∷ x .c ∷ x .d ∷ x .e ∷ x .f ∷ x .g ∷ x .h ∷ []

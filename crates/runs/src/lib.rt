@@ -11,7 +11,7 @@ ghost use lib.ListN.{length, take, drop};
 ghost use lib.Seq.{sets};
 ghost use Rattle.stores.specs.Storing.{Putting};
 ghost use Rattle.runs.specs.Turned.{turned, turnedRun};
-ghost use Rattle.runs.specs.Eight.{octetsOf};
+ghost use Rattle.runs.specs.Eight.{eightOctets};
 
 // How many of the n octets from `from` on stand within `size`.
 fn within(size: usize, from: usize, n: usize) -> usize
@@ -89,7 +89,7 @@ struct Eight {
 // Reads eight octets.
 fn read8(src: &[u8], q: usize) -> Eight
     requires { ⌜ q + 8 ≤ length (now src) ⌝ }
-    ensures { λ r. ⌜ octetsOf r ≡ take 8 (drop q (now (src .entry))) ⌝ }
+    ensures { λ r. ⌜ eightOctets r ≡ take 8 (drop q (now (src .entry))) ⌝ }
 {
     Eight {
         a: src[q],
@@ -106,7 +106,7 @@ fn read8(src: &[u8], q: usize) -> Eight
 // The samples of w octets in them, each turned round.
 fn turn8(x: Eight, w: usize) -> Eight
     requires { ⌜ (w ≡ 2) ⊎ ((w ≡ 4) ⊎ (w ≡ 8)) ⌝ }
-    ensures { λ r. ⌜ octetsOf r ≡ turned w (8 / w) (octetsOf x) ⌝ }
+    ensures { λ r. ⌜ eightOctets r ≡ turned w (8 / w) (eightOctets x) ⌝ }
 {
     if w == 2 {
         return Eight {
@@ -157,7 +157,7 @@ fn store4(dst: &mut [u8], p: usize, a: u8, b: u8, c: u8, d: u8)
 
 fn store8(dst: &mut [u8], p: usize, x: Eight)
     requires { ⌜ p + 8 ≤ length (now dst) ⌝ }
-    ensures { λ _. ⌜ now (dst .exit) ≡ sets (now (dst .entry)) p (octetsOf x) ⌝ }
+    ensures { λ _. ⌜ now (dst .exit) ≡ sets (now (dst .entry)) p (eightOctets x) ⌝ }
 {
     store4(dst, p, x.a, x.b, x.c, x.d);
     store4(dst, p + 4, x.e, x.f, x.g, x.h);

@@ -5,7 +5,7 @@ use mathlib.Core.Path.{_≡_}
 use Prim.Native.Nat.{ℕ, _<_}
 use lib.ListN.{getD, getD-replicate}
 use Rattle.settings.specs.declared.Settings.{Settings}
-use Rattle.settings.specs.Settings.{defaultSettings, defaultTable}
+use Rattle.settings.specs.Settings.{channelLimit, defaultSettings, defaultTable}
 
-pub default-at : (i : ℕ) (d : Settings) → i < 256 → getD defaultTable i d ≡ defaultSettings
-default-at i d h = getD-replicate 256 i defaultSettings d h
+pub default-at : (i : ℕ) (d : Settings) → i < channelLimit → getD defaultTable i d ≡ defaultSettings
+default-at i d h = getD-replicate channelLimit i defaultSettings d h

@@ -6,23 +6,18 @@ use native.Mathlib.Omega.{arith}
 use lib.Dec.{ltb}
 use lib.ListN.{length}
 use borrow.Author.Tests.{ltb-true, ltb-false}
-use Rattle.octets.specs.Pick.{pick}
+use Rattle.octets.proofs.Pick.{pick-cases}
 use Rattle.stores.specs.Length.{holding, holding-one, holding-two, holding-three, holding-four}
 use Rattle.stores.specs.Length.{shortest, length-shortest-short, length-shortest-long}
-
--- What holds of both values holds of the one that is picked.
-either : (P : ℕ → Type 0) (t : Bool) {x y : ℕ} → P x → P y → P (pick t x y)
-either P true p q = p
-either P false p q = q
 
 -- A length takes 1 to 4 octets.
 pub holding-between : (n : ℕ) → (1 ≤ holding n) × (holding n ≤ 4)
 unfolding holding
 holding-between n =
     let P : ℕ → Type 0 = λ k. (1 ≤ k) × (k ≤ 4) in
-    either P (ltb n 256) (omega arith, omega arith)
-    (either P (ltb n 65536) (omega arith, omega arith)
-    (either P (ltb n 16777216) (omega arith, omega arith) (omega arith, omega arith)))
+    pick-cases P (ltb n 256) (λ _. (omega arith, omega arith))
+    (λ _. pick-cases P (ltb n 65536) (λ _. (omega arith, omega arith))
+    (λ _. pick-cases P (ltb n 16777216) (λ _. (omega arith, omega arith)) (λ _. (omega arith, omega arith))))
 
 -- The shortest form has 1 to 5 octets.
 pub length-shortest : (n : ℕ) → (1 ≤ length (shortest n)) × (length (shortest n) ≤ 5)
@@ -36,7 +31,7 @@ length-shortest n = by-size (ltb n 128) refl
         (omega arith, omega arith)
 
 -- They hold the length.
-pub holding-holds : (n : ℕ) → n < 4294967296 → n < 256 ^ holding n
+pub holding-holds : (n : ℕ) → n < 2 ^ 32 → n < 256 ^ holding n
 holding-holds n top = one (ltb n 256) refl
   where
     three : (t : Bool) → 65536 ≤ n → ltb n 16777216 ≡ t → n < 256 ^ holding n

@@ -1,12 +1,13 @@
 -- Laws of numbers as octets: writing a number and reading it back, and reading octets and writing them again.
 use mathlib.Core.Path.{_≡_, refl, sym, ap, _∙_}
 use mathlib.Core.List.{List, [], _∷_, _++_, append-nil, append-assoc}
+use mathlib.Core.Bool.{false}
 use Prim.Native.Nat.{ℕ, zero, suc, _+_, _*_, _/_, _%_, _^_, _<_}
 use native.Mathlib.Nat.{div-add-mod', div-lt-iff-lt-mul, pow-suc, add-zero, zero-add, add-suc, suc-add}
 use native.Mathlib.Omega.{arith}
-use lib.ListN.{length}
-use Rattle.octets.specs.Number.{bigFrom}
-use Rattle.stores.specs.Number.{be, big, Octets}
+use lib.ListN.{length, getD}
+use Rattle.octets.specs.Number.{bigFrom, numberOf}
+use Rattle.stores.specs.Number.{be}
 
 big-append : (acc : ℕ) (u v : List ℕ) → bigFrom acc (u ++ v) ≡ bigFrom (bigFrom acc u) v
 unfolding bigFrom
@@ -14,13 +15,17 @@ big-append acc [] v = refl
 big-append acc (b ∷ u) v = big-append (acc * 256 + b) u v
 
 -- The w octets of a number that they hold give it back.
-pub big-be : (w n : ℕ) → n < 256 ^ w → big (be w n) ≡ n
-unfolding be bigFrom
-big-be zero n h = omega arith
-big-be (suc w) n h =
+pub number-back : (w n : ℕ) → n < 256 ^ w → numberOf false (be w n) ≡ n
+unfolding be bigFrom numberOf
+number-back zero n h = omega arith
+number-back (suc w) n h =
     let k : n < 256 ^ w * 256 = rw pow-suc at h in
     let l : n / 256 < 256 ^ w = div-lt-iff-lt-mul {k = 256} {x = n} {y = 256 ^ w} (omega arith) .1 k in
-    rw (big-append, big-be w (n / 256) l) (div-add-mod' n 256)
+    rw (big-append, number-back w (n / 256) l) (div-add-mod' n 256)
+
+-- Each number of the list is an octet.
+abbrev pub Octets : List ℕ → Type 0
+Octets v = (i : ℕ) → i < length v → getD v i 0 < 256
 
 be-from : (k a : ℕ) (v : List ℕ) → Octets v → be (k + length v) (bigFrom a v) ≡ be k a ++ v
 unfolding be bigFrom
@@ -34,21 +39,6 @@ be-from k a (b ∷ v) o =
     ∙ rw (e, f, append-assoc)
 
 -- Octets give the number whose octets they are.
-pub be-big : (v : List ℕ) → Octets v → be (length v) (big v) ≡ v
-unfolding be
-be-big v o = rw zero-add at (be-from 0 0 v o)
-
-octets-append : (u v : List ℕ) → Octets u → Octets v → Octets (u ++ v)
-octets-append [] v a b i l = b i l
-octets-append (x ∷ u) v a b zero l = a 0 (omega arith)
-octets-append (x ∷ u) v a b (suc i) l = octets-append u v (λ j k. a (suc j) (omega arith)) b i (omega arith)
-
--- A number is written as octets.
-pub be-octets : (w n : ℕ) → Octets (be w n)
-unfolding be
-be-octets zero n i l = let z : ⊥ = omega arith in absurd z
-be-octets (suc w) n i l = octets-append (be w (n / 256)) (n % 256 ∷ []) (be-octets w (n / 256)) one i l
-  where
-    one : Octets (n % 256 ∷ [])
-    one zero k = omega arith
-    one (suc j) k = let z : ⊥ = omega arith in absurd z
+pub octets-back : (v : List ℕ) → Octets v → be (length v) (numberOf false v) ≡ v
+unfolding be numberOf
+octets-back v o = rw zero-add at (be-from 0 0 v o)

@@ -2,7 +2,8 @@
 //
 // Every public function is total. It stores one list of octets from the place `at` on and returns the place after it;
 // where the list does not fit it stores nothing and returns `at`. `Putting` of specs/Storing.antt says this once. Read it
-// first, and then the definition that each contract names. `overruns` alone stores nothing: it says what does not fit.
+// first, and then the definition that each contract names. Two store nothing: `overruns` says what does not fit, and `length_octets`
+// how many octets a length takes.
 
 ghost use mathlib.Core.Path.{_≡_};
 ghost use mathlib.Core.List.{_∷_, []};
@@ -64,7 +65,7 @@ pub fn put_two(buf: &mut [u8], at: usize, a: u8, b: u8) -> usize
 }
 
 // How many octets the shortest form of the length n has.
-fn length_octets(n: u32) -> usize
+pub fn length_octets(n: u32) -> usize
     ensures { λ r. ⌜ r ≡ length (shortest n) ⌝ }
 {
     if n < 128 {

@@ -5,7 +5,7 @@
 --     samples-apart    two samples with different names share no octet
 --     octet-owned      each octet of a waveform is one sample's, or surplus, and never both
 -- Assumes nothing.
-use Prim.Native.Nat.{ℕ, zero, suc, _+_, _*_, _≤_, _<_}
+use Prim.Native.Nat.{ℕ, zero, suc, _+_, _≤_, _<_}
 use mathlib.Core.Path.{_≡_, refl, sym, ap, _∙_}
 use mathlib.Core.Logic.{_⊎_, inl, inr}
 use mathlib.Core.List.{List, [], _∷_}
@@ -16,7 +16,7 @@ use lib.Seq.{take-take, drop-drop}
 use Rattle.values.specs.declared.Value.{Value}
 use Rattle.values.specs.Sample.{valueOf}
 use Rattle.settings.specs.declared.Settings.{Settings}
-use Rattle.layout.specs.Frame.{Frame, widthIn, sequenceOctets, channelIn, samplesOf, offsetOf, placeOf}
+use Rattle.layout.specs.Frame.{Frame, widthIn, octetsSampled, channelIn, samplesOf, offsetOf, placeOf}
 use Rattle.laid.specs.Laid.{Named, Covered, sampleIn}
 use Rattle.laid.proofs.Places.{offset-inside, offset-apart, offset-covers}
 use Rattle.heads.specs.Answer.{answered}
@@ -84,8 +84,8 @@ pub record OneSample (s : List ℕ) (fs : List Frame) (p : ℕ) : Type 0 where
 -- Octet o of a frame's waveform is before the surplus and one sample's, or in the surplus and no sample's.
 abbrev pub Owned : List ℕ → List Frame → Frame → ℕ → Type 0
 Owned s fs f o =
-    ((o < f .sequences * sequenceOctets (f .channels)) × OneSample s fs (f .place + o))
-    ⊎ ((f .sequences * sequenceOctets (f .channels) ≤ o) × ((b : NamedSample s) → Belongs s fs b (f .place + o) → ⊥))
+    ((o < octetsSampled f) × OneSample s fs (f .place + o))
+    ⊎ ((octetsSampled f ≤ o) × ((b : NamedSample s) → Belongs s fs b (f .place + o) → ⊥))
 
 -- ---- names and parts
 
@@ -189,13 +189,13 @@ module _ (s : List ℕ) (fs : List Frame) (e : verdict s ≡ accepted fs) where
       (b .0, record { index = c .i; inside = rw (b .1) (c .inside); place = omega (arith, placed, c .place) })
 
   -- A sample's octets are ahead of the surplus of its frame.
-  before-surplus : (a : NamedSample s) (p : ℕ) → Belongs s fs a p → p < namedFrame fs (a .name) .place + namedFrame fs (a .name) .sequences * sequenceOctets (namedFrame fs (a .name) .channels)
+  before-surplus : (a : NamedSample s) (p : ℕ) → Belongs s fs a p → p < namedFrame fs (a .name) .place + octetsSampled (namedFrame fs (a .name))
   unfolding placeOf
   before-surplus a p b = let k = sample-inside a in omega (arith, offset-inside (k .exists .sample))
 
   module _ (i o : ℕ) (h : i < length fs) (l : o < length (frameNumber fs i .waveform)) where
     -- The sample of an octet of the sequences, and no other.
-    one-sample : o < frameNumber fs i .sequences * sequenceOctets (frameNumber fs i .channels) → OneSample s fs (frameNumber fs i .place + o)
+    one-sample : o < octetsSampled (frameNumber fs i) → OneSample s fs (frameNumber fs i .place + o)
     one-sample k =
         let c = covered i o h (offset-covers (frameNumber fs i .channels) (frameNumber fs i .sequences) o k) in
         record { sample = c .0; belongs = c .1; only = λ b m. by b m (c .0) (c .1) (name-decided (b .name) (c .0 .name)) }
@@ -205,14 +205,14 @@ module _ (s : List ℕ) (fs : List Frame) (e : verdict s ≡ accepted fs) where
         by b m a n (no q) = absurd (samples-apart b a q (frameNumber fs i .place + o) m n)
 
     -- No sample has an octet of the surplus.
-    no-sample : frameNumber fs i .sequences * sequenceOctets (frameNumber fs i .channels) ≤ o → (b : NamedSample s) → Belongs s fs b (frameNumber fs i .place + o) → ⊥
+    no-sample : octetsSampled (frameNumber fs i) ≤ o → (b : NamedSample s) → Belongs s fs b (frameNumber fs i .place + o) → ⊥
     no-sample k b m =
         let f = frame-same b i (frameNumber fs i .place + o) h m (omega arith) (omega arith) in
         omega (arith, rw f at (before-surplus b (frameNumber fs i .place + o) m))
 
     pub octet-owned : Owned s fs (frameNumber fs i) o
-    octet-owned = by (decLt o (frameNumber fs i .sequences * sequenceOctets (frameNumber fs i .channels)))
+    octet-owned = by (decLt o (octetsSampled (frameNumber fs i)))
       where
-        by : Dec (o < frameNumber fs i .sequences * sequenceOctets (frameNumber fs i .channels)) → Owned s fs (frameNumber fs i) o
+        by : Dec (o < octetsSampled (frameNumber fs i)) → Owned s fs (frameNumber fs i) o
         by (yes k) = inl (k, one-sample k)
         by (no k) = inr (omega arith, no-sample (omega arith))

@@ -3,7 +3,7 @@
 use mathlib.Core.Path.{_≡_, refl, sym, ap, subst, _∙_}
 use mathlib.Core.Bool.{Bool, true, false, not}
 use mathlib.Core.List.{List}
-use Prim.Native.Nat.{ℕ, zero, suc, _*_, _<_}
+use Prim.Native.Nat.{ℕ, _*_, _<_}
 use native.Mathlib.Nat.{lt-of-lt-of-le}
 use native.Mathlib.Omega.{arith}
 use lib.Dec.{T, lit<}
@@ -16,6 +16,7 @@ use Rattle.octets.proofs.Laws.{cap, number-below, take-length-le, take-octets}
 use Rattle.values.specs.declared.Bits.{Bits}
 use Rattle.values.specs.declared.Value.{Value}
 use Rattle.values.specs.declared.Value.the-variants.{Whole, Status, Single, Double, NotNumber, Null}
+use Rattle.values.proofs.Laws.{kind-cases, plain-other}
 use Rattle.values.specs.Sample.{widthOf, kindOf, singleOf, doubleOf, plainOf, isNull, sampleBits, valueOf}
 
 -- A float that is a number has exactly the bits that it was made of.
@@ -54,18 +55,13 @@ unfolding doubleOf
 double-has n h = pick-cases (HasBits n) (nanBits binary64 n) (λ e. refl) (λ e. bits-kept binary64 n h e)
 
 -- By data type: a sample that is not null has its bits.
-plain-has : (k : ℕ) (little : Bool) (x : List ℕ) → numberOf little x < range (widthOf k) → HasBits (numberOf little x) (plainOf k little x)
+plain-has : (little : Bool) (x : List ℕ) (k : ℕ) → numberOf little x < range (widthOf k) → HasBits (numberOf little x) (plainOf k little x)
 unfolding plainOf widthOf
-plain-has zero little x h = tt
-plain-has (suc zero) little x h = tt
-plain-has (suc (suc zero)) little x h = tt
-plain-has (suc (suc (suc zero))) little x h = tt
-plain-has (suc (suc (suc (suc zero)))) little x h = refl
-plain-has (suc (suc (suc (suc (suc zero))))) little x h = tt
-plain-has (suc (suc (suc (suc (suc (suc zero)))))) little x h = tt
-plain-has (suc (suc (suc (suc (suc (suc (suc zero))))))) little x h = single-has (numberOf little x) h
-plain-has (suc (suc (suc (suc (suc (suc (suc (suc zero)))))))) little x h = double-has (numberOf little x) h
-plain-has (suc (suc (suc (suc (suc (suc (suc (suc (suc k))))))))) little x h = tt
+plain-has little x =
+    let n = numberOf little x in
+    kind-cases (λ (k : ℕ). n < range (widthOf k) → HasBits n (plainOf k little x))
+    (λ _. tt) (λ _. tt) (λ _. tt) (λ _. tt) (λ _. refl) (λ _. tt) (λ _. tt) (single-has n) (double-has n)
+    (λ k h _. subst (HasBits n) (plain-other k little x h) tt)
 
 -- Null is answered where the sample's bits are null's.
 pub null-first : (kind : ℕ) (null : Bits) (little : Bool) (v : List ℕ) → isNull null (sampleBits kind little v) ≡ true → valueOf kind null little v ≡ Null
@@ -76,7 +72,7 @@ module _ (kind : ℕ) (null : Bits) (little : Bool) (v : List ℕ) (octets : (i 
   -- Else the value has the bits.
   other-has : HasBits (sampleBits kind little v) (plainOf kind little (take (widthOf kind) v))
   other-has =
-      plain-has kind little (take (widthOf kind) v)
+      plain-has little (take (widthOf kind) v) kind
       (lt-of-lt-of-le (number-below little (take (widthOf kind) v) (take-octets (widthOf kind) v octets))
       (cap _ _ (take-length-le (widthOf kind) v)))
 

@@ -1,5 +1,6 @@
 -- Laws of a sample's value.
 --     nan-yes, nan-no    the test that tells a float that is no number, for any format
+--     kind-cases, width-cases    what holds of each data type, and of the widths that they have
 --     three, width-le, plain-signed, plain-unsigned    the tables by data type
 --     width-other, plain-other, past    and at a number that is no type
 --     null-yes, null-no    null comes first
@@ -9,6 +10,7 @@ use mathlib.Core.Logic.{_⊎_, inl, inr, ⊎-elim}
 use mathlib.Core.Bool.{Bool, true, false}
 use mathlib.Core.List.{List}
 use Prim.Native.Nat.{ℕ, zero, suc, _*_, _%_, _<_, _≤_}
+use native.Mathlib.Decide.{decLt}
 use native.Mathlib.Omega.{arith}
 use borrow.Author.Tests.{lt-ltb, le-ltb, eq-eqb, ne-eqb}
 use lib.Dec.{lit≤}
@@ -34,19 +36,43 @@ module _ (f : Format) (n : ℕ) where
 pub three : (P : ℕ → Type 0) {a b c k : ℕ} → P a → P b → P c → (k ≡ a) ⊎ ((k ≡ b) ⊎ (k ≡ c)) → P k
 three P p q r h = ⊎-elim (λ e. rw e p) (⊎-elim (λ e. rw e q) (λ e. rw e r)) h
 
+-- What holds of each data type, and of a number that is none, holds of every number.
+pub kind-cases : (P : ℕ → Type 0) → P 0 → P 1 → P 2 → P 3 → P 4 → P 5 → P 6 → P 7 → P 8 → ((k : ℕ) → 9 ≤ k → P k) → (k : ℕ) → P k
+kind-cases P p0 p1 p2 p3 p4 p5 p6 p7 p8 other zero = p0
+kind-cases P p0 p1 p2 p3 p4 p5 p6 p7 p8 other (suc zero) = p1
+kind-cases P p0 p1 p2 p3 p4 p5 p6 p7 p8 other (suc (suc zero)) = p2
+kind-cases P p0 p1 p2 p3 p4 p5 p6 p7 p8 other (suc (suc (suc zero))) = p3
+kind-cases P p0 p1 p2 p3 p4 p5 p6 p7 p8 other (suc (suc (suc (suc zero)))) = p4
+kind-cases P p0 p1 p2 p3 p4 p5 p6 p7 p8 other (suc (suc (suc (suc (suc zero))))) = p5
+kind-cases P p0 p1 p2 p3 p4 p5 p6 p7 p8 other (suc (suc (suc (suc (suc (suc zero)))))) = p6
+kind-cases P p0 p1 p2 p3 p4 p5 p6 p7 p8 other (suc (suc (suc (suc (suc (suc (suc zero))))))) = p7
+kind-cases P p0 p1 p2 p3 p4 p5 p6 p7 p8 other (suc (suc (suc (suc (suc (suc (suc (suc zero)))))))) = p8
+kind-cases P p0 p1 p2 p3 p4 p5 p6 p7 p8 other (suc (suc (suc (suc (suc (suc (suc (suc (suc k))))))))) = other _ (omega arith)
+
+-- At a number that is no data type.
+pub width-other : (k : ℕ) → 9 ≤ k → 0 ≡ widthOf k
+unfolding widthOf
+width-other k h = rw List·getD-eq-default
+
+pub plain-other : (k : ℕ) (little : Bool) (x : List ℕ) → 9 ≤ k → Whole (pos 0) ≡ plainOf k little x
+unfolding plainOf
+plain-other k little x h = rw List·getD-eq-default
+
+-- What holds of the widths 1, 2, 4 and 8 holds of the width of each data type.
+pub width-cases : (P : ℕ → Type 0) → P 1 → P 2 → P 4 → P 8 → (k : ℕ) → k ≤ 8 → P (widthOf k)
+unfolding widthOf
+width-cases P one two four eight =
+    kind-cases (λ (k : ℕ). k ≤ 8 → P (widthOf k))
+    (λ _. two) (λ _. two) (λ _. four) (λ _. one) (λ _. two) (λ _. one) (λ _. four) (λ _. four) (λ _. eight)
+    (λ k h l. let z : ⊥ = omega arith in absurd z)
+
 -- No sample is wider than eight octets.
 pub width-le : (k : ℕ) → widthOf k ≤ 8
-unfolding widthOf
-width-le zero = lit≤ tt
-width-le (suc zero) = lit≤ tt
-width-le (suc (suc zero)) = lit≤ tt
-width-le (suc (suc (suc zero))) = lit≤ tt
-width-le (suc (suc (suc (suc zero)))) = lit≤ tt
-width-le (suc (suc (suc (suc (suc zero))))) = lit≤ tt
-width-le (suc (suc (suc (suc (suc (suc zero)))))) = lit≤ tt
-width-le (suc (suc (suc (suc (suc (suc (suc zero))))))) = lit≤ tt
-width-le (suc (suc (suc (suc (suc (suc (suc (suc zero)))))))) = lit≤ tt
-width-le (suc (suc (suc (suc (suc (suc (suc (suc (suc k))))))))) = lit≤ tt
+width-le k = by (decLt 8 k)
+  where
+    by : Dec (8 < k) → widthOf k ≤ 8
+    by (yes h) = omega (arith, width-other k h)
+    by (no h) = width-cases (λ (w : ℕ). w ≤ 8) (lit≤ tt) (lit≤ tt) (lit≤ tt) (lit≤ tt) k (omega arith)
 
 -- The signed data types, and the unsigned ones.
 module _ (k : ℕ) (little : Bool) (x : List ℕ) where
@@ -57,15 +83,6 @@ module _ (k : ℕ) (little : Bool) (x : List ℕ) where
   pub plain-unsigned : (k ≡ 1) ⊎ ((k ≡ 3) ⊎ (k ≡ 6)) → Whole (pos (numberOf little x)) ≡ plainOf k little x
   unfolding plainOf
   plain-unsigned h = three (λ (j : ℕ). Whole (pos (numberOf little x)) ≡ plainOf j little x) refl refl refl h
-
--- At a number that is no data type.
-pub width-other : (k : ℕ) → 9 ≤ k → 0 ≡ widthOf k
-unfolding widthOf
-width-other k h = rw List·getD-eq-default
-
-pub plain-other : (k : ℕ) (little : Bool) (x : List ℕ) → 9 ≤ k → Whole (pos 0) ≡ plainOf k little x
-unfolding plainOf
-plain-other k little x h = rw List·getD-eq-default
 
 -- A number that is at least j, and not j, is above it.
 pub past : {k j : ℕ} → j ≤ k → (k ≡ j → ⊥) → suc j ≤ k

@@ -1,4 +1,5 @@
--- Every channel passed has the first one's width.
+-- One width so far, and after the last channel of all.
+use Rattle.settings.specs.Settings.{channelLimit, zeroSettings}
 use Prim.Native.Nat.{ℕ, _-_, _≤_, _<_}
 use mathlib.Core.Path.{_≡_, ap, sym, _∙_}
 use mathlib.Core.List.{List}
@@ -6,16 +7,15 @@ use native.Mathlib.Omega.{arith}
 use borrow.Author.Needs.{needs}
 use lib.ListN.{length, take, getD}
 use Rattle.settings.specs.declared.Settings.{Settings}
-use Rattle.settings.specs.Settings.{zeroSettings}
 use Rattle.values.specs.Sample.{widthOf}
 use Rattle.laid.specs.Turned.{Even}
 use borrow.Author.Count.{below-none, below-more}
-use Rattle.frames.proofs.Coming.{taken-at, taken-long}
+use Rattle.frames.proofs.Coming.{nth, taken-long}
 use Rattle.frames.proofs.even_width.Statement.{statement}
 use Rattle.frames.proofs.even_width.Tie as tie
 
 abbrev Inv-loop : tie.InvT-loop
-Inv-loop count table v i₀ i = (i ≤ count) × (count ≤ 256) × (length table ≡ 256) × ((k : ℕ) → k < i → widthOf (getD table k zeroSettings .kind) ≡ v)
+Inv-loop count table v i₀ i = (i ≤ count) × (count ≤ channelLimit) × (length table ≡ channelLimit) × ((k : ℕ) → k < i → widthOf (getD table k zeroSettings .kind) ≡ v)
 
 abbrev μ-loop : tie.MeasureT-loop
 μ-loop count table v i₀ i = count - i
@@ -48,15 +48,24 @@ loop-less : tie.Need-loop-less Inv-loop μ-loop
 loop-less c = omega arith
 
 loop-again : tie.Need-loop-again Inv-loop μ-loop
-loop-again c = (omega arith, c .before .before .before .before .loop .inv .1, c .before .before .before .before .loop .inv .2, below-more _ _ (c .before .before .before .before .loop .inv .3) (sym (c .before .width2 .ensures) ∙ c .if1 .left))
+loop-again c =
+    let at-width2 = c .before in
+    let at-loop = at-width2 .before .before .before in
+    let inv = at-loop .loop .inv in
+    (omega arith, inv .1, inv .2, below-more _ _ (inv .3) (sym (at-width2 .width2 .ensures) ∙ c .if1 .left))
 
-even-taken : (t : List Settings) (n i v : ℕ) → length t ≡ 256 → n ≤ 256 → n ≤ i → ((k : ℕ) → k < i → widthOf (getD t k zeroSettings .kind) ≡ v) → Even v (take n t)
+even-taken : (t : List Settings) (n i v : ℕ) → length t ≡ channelLimit → n ≤ channelLimit → n ≤ i → ((k : ℕ) → k < i → widthOf (getD t k zeroSettings .kind) ≡ v) → Even v (take n t)
 even-taken t n i v e h l f j m =
     let k : j < n = omega (arith, taken-long t n e h) in
-    ap (λ (c : Settings). widthOf (c .kind)) (sym (taken-at t n j k)) ∙ f j (omega arith)
+    ap (λ (c : Settings). widthOf (c .kind)) (sym (nth t n j (taken-long t n e h) k .is)) ∙ f j (omega arith)
 
 returns-2 : tie.Need-returns-2 Inv-loop μ-loop
-returns-2 c = λ h. even-taken (c .before .before .before .before .args .t1) (c .before .before .before .before .args .count) (c .before .loop .i) _ (c .before .loop .inv .2) (c .before .loop .inv .1) (c .loop-test .left) (c .before .loop .inv .3)
+returns-2 c =
+    let at-loop = c .before in
+    let at-start = at-loop .before .before .before in
+    let a = at-start .args in
+    let inv = at-loop .loop .inv in
+    λ h. even-taken (a .t1) (a .count) (at-loop .loop .i) _ (inv .2) (inv .1) (c .loop-test .left) (inv .3)
 
 pub even-width-spec : {M : Type 1} → statement M
 even-width-spec =

@@ -1,14 +1,29 @@
 -- Where the waveform holds the sequences and the frame fits it is stored, and else nothing is.
+use Rattle.frames.proofs.Given.{Told, Held, told-groups, not-held, held-few, parts-given, given-long, frame-asked}
+use mathlib.Core.Bool.{true}
 use mathlib.Core.Path.{sym, _∙_}
 use native.Mathlib.Omega.{arith}
 use mir.Facts.{toZ-ofZ}
 use borrow.Author.Tests.{ltb-true, ltb-false, not-true, not-false}
 use Rattle.stores.proofs.Stores.{putting, putting-kept}
 use Rattle.groups.proofs.Puts.{put-as}
-use Rattle.frames.proofs.Given.{groups-small, not-held, held-few, parts-given, given-long, frame-asked}
 use borrow.Author.Needs.{needs}
 use Rattle.frames.proofs.put_frame.Statement.{statement}
 use Rattle.frames.proofs.put_frame.Tie as tie
+
+-- The first records of the table, and their layout.
+told :
+    (c : tie.After-layout-of) →
+    let a = c .before .before .before .before .args in
+    Told (a .table) (a .count) (c .before .at-most .result) (c .layout-of .result)
+told c = record { full = search needs; few = c .before .at-most .ensures; layout = c .layout-of .ensures }
+
+-- The waveform holds the sequences.
+held :
+    (c : tie.Else1) →
+    let a = c .before .before .before .before .before .before .args in
+    Held (a .sequences) (c .before .before .layout-of .result) (a .w .now) true
+held c = sym (c .before .holds .ensures) ∙ not-false _ (c .if1 .left)
 
 at-most-requires : tie.Need-at-most-requires
 at-most-requires c κs = search needs
@@ -20,16 +35,33 @@ holds-requires : tie.Need-holds-requires
 holds-requires c κs = search needs
 
 returns : tie.Need-returns
-returns c = not-held (c .before .before .before .before .before .before .args .table) (c .before .before .before .before .before .before .args .count) _ (search needs) (c .before .before .before .at-most .ensures) _ (c .before .before .layout-of .ensures) (c .before .before .before .before .before .before .args .sequences) (c .before .before .before .before .before .before .args .w .now) (c .before .before .before .before .before .before .args .start) (c .before .before .before .before .before .before .args .little) _ _ (sym (c .before .holds .ensures) ∙ not-true _ (c .if1 .taken))
+returns c =
+    let at-holds = c .before in
+    let at-layout-of = at-holds .before in
+    let at-start = at-layout-of .before .before .before .before in
+    let a = at-start .args in
+    not-held (told at-layout-of) (a .sequences) (a .w .now) (a .start) (a .little) _ _ (sym (at-holds .holds .ensures) ∙ not-true _ (c .if1 .taken))
 
 mul-octets : tie.Need-mul-octets
-mul-octets c = omega (arith, held-few (c .before .before .before .before .before .before .before .args .table) (c .before .before .before .before .before .before .before .args .count) _ (search needs) (c .before .before .before .before .at-most .ensures) _ (c .before .before .before .layout-of .ensures) (c .before .before .before .before .before .before .before .args .sequences) (c .before .before .before .before .before .before .before .args .w .now) (sym (c .before .before .holds .ensures) ∙ not-false _ (c .before .if1 .left)) .1)
+mul-octets c =
+    let at-if1 = c .before in
+    let at-layout-of = at-if1 .before .before in
+    let at-start = at-layout-of .before .before .before .before in
+    let a = at-start .args in
+    omega (arith, held-few (told at-layout-of) (a .sequences) (a .w .now) (held at-if1) .1)
 
 cast-frame-size : tie.Need-cast-frame-size
-cast-frame-size c = omega (arith, groups-small (c .before .before .before .before .before .before .before .before .args .table) (c .before .before .before .before .before .before .before .before .args .count) _ (search needs) (c .before .before .before .before .before .at-most .ensures) _ (c .before .before .before .before .layout-of .ensures))
+cast-frame-size c =
+    let at-layout-of = c .before .before .before .before in
+    omega (arith, told-groups (told at-layout-of))
 
 cast-frame-size-2 : tie.Need-cast-frame-size-2
-cast-frame-size-2 c = omega (arith, held-few (c .before .before .before .before .before .before .before .before .args .table) (c .before .before .before .before .before .before .before .before .args .count) _ (search needs) (c .before .before .before .before .before .at-most .ensures) _ (c .before .before .before .before .layout-of .ensures) (c .before .before .before .before .before .before .before .before .args .sequences) (c .before .before .before .before .before .before .before .before .args .w .now) (sym (c .before .before .before .holds .ensures) ∙ not-false _ (c .before .before .if1 .left)) .1)
+cast-frame-size-2 c =
+    let at-if1 = c .before .before in
+    let at-layout-of = at-if1 .before .before in
+    let at-start = at-layout-of .before .before .before .before in
+    let a = at-start .args in
+    omega (arith, held-few (told at-layout-of) (a .sequences) (a .w .now) (held at-if1) .1)
 
 frame-size-requires : tie.Need-frame-size-requires
 frame-size-requires c κs = search needs
@@ -38,16 +70,46 @@ overruns-requires : tie.Need-overruns-requires
 overruns-requires c κs = search needs
 
 returns-2 : tie.Need-returns-2
-returns-2 c = let h = sym (c .before .overruns .ensures) ∙ c .if2 .taken in putting-kept (omega (arith, ltb-true, c .before .before .frame-size .ensures .0, given-long (c .before .before .before .before .before .before .before .before .before .before .before .args .table) (c .before .before .before .before .before .before .before .before .before .before .before .args .count) _ (search needs) (c .before .before .before .before .before .before .before .before .at-most .ensures) _ (c .before .before .before .before .before .before .before .layout-of .ensures) (c .before .before .before .before .before .before .before .before .before .before .before .args .sequences) (c .before .before .before .before .before .before .before .before .before .before .before .args .w .now) (sym (c .before .before .before .before .before .before .holds .ensures) ∙ not-false _ (c .before .before .before .before .before .if1 .left)) (c .before .before .before .before .before .before .before .before .before .before .before .args .start) (c .before .before .before .before .before .before .before .before .before .before .before .args .little)))
+returns-2 c =
+    let at-overruns = c .before in
+    let at-frame-size = at-overruns .before in
+    let at-if1 = at-frame-size .before .before .before in
+    let at-layout-of = at-if1 .before .before in
+    let at-start = at-layout-of .before .before .before .before in
+    let a = at-start .args in
+    let h = sym (at-overruns .overruns .ensures) ∙ c .if2 .taken in
+    let long = given-long (told at-layout-of) (a .sequences) (a .w .now) (held at-if1) (a .start) (a .little) in
+    putting-kept (omega (arith, ltb-true, at-frame-size .frame-size .ensures .0))
 
 store-frame-requires : tie.Need-store-frame-requires
-store-frame-requires c κs = let h = sym (c .before .before .overruns .ensures) ∙ c .before .if2 .left in frame-asked (c .before .before .before .before .before .before .before .before .before .before .before .before .args .table) (c .before .before .before .before .before .before .before .before .before .before .before .before .args .count) _ (search needs) (c .before .before .before .before .before .before .before .before .before .at-most .ensures) _ (c .before .before .before .before .before .before .before .before .layout-of .ensures) (c .before .before .before .before .before .before .before .before .before .before .before .before .args .sequences) (c .before .before .before .before .before .before .before .before .before .before .before .before .args .w .now) (sym (c .before .before .before .before .before .before .before .holds .ensures) ∙ not-false _ (c .before .before .before .before .before .before .if1 .left)) _ _ (omega (arith, ltb-false, c .before .before .before .frame-size .ensures .0))
+store-frame-requires c κs =
+    let at-if2 = c .before in
+    let at-overruns = at-if2 .before in
+    let at-frame-size = at-overruns .before in
+    let at-if1 = at-frame-size .before .before .before in
+    let at-layout-of = at-if1 .before .before in
+    let at-start = at-layout-of .before .before .before .before in
+    let a = at-start .args in
+    let h = sym (at-overruns .overruns .ensures) ∙ at-if2 .if2 .left in
+    frame-asked (told at-layout-of) (a .sequences) (a .w .now) (held at-if1) _ _ (omega (arith, ltb-false, at-frame-size .frame-size .ensures .0))
 
 same-length : tie.Need-same-length
 same-length c = search needs
 
 returns-3 : tie.Need-returns-3
-returns-3 c = let h = sym (c .before .before .before .before .before .overruns .ensures) ∙ c .before .before .before .before .if2 .left in putting (omega (arith, ltb-false, c .before .before .before .before .before .before .frame-size .ensures .0, given-long (c .before .before .before .before .before .before .before .before .before .before .before .before .before .before .before .args .table) (c .before .before .before .before .before .before .before .before .before .before .before .before .before .before .before .args .count) _ (search (needs, c .before .before .before .before .before .before .before .before .before .before .before .before .before .before .before .good)) (c .before .before .before .before .before .before .before .before .before .before .before .before .at-most .ensures) _ (c .before .before .before .before .before .before .before .before .before .before .before .layout-of .ensures) (c .before .before .before .before .before .before .before .before .before .before .before .before .before .before .before .args .sequences) (c .before .before .before .before .before .before .before .before .before .before .before .before .before .before .before .args .w .now) (sym (c .before .before .before .before .before .before .before .before .before .before .holds .ensures) ∙ not-false _ (c .before .before .before .before .before .before .before .before .before .if1 .left)) (c .before .before .before .before .before .before .before .before .before .before .before .before .before .before .before .args .start) (c .before .before .before .before .before .before .before .before .before .before .before .before .before .before .before .args .little))) (put-as (parts-given (c .before .before .before .before .before .before .before .before .before .before .before .before .before .before .before .args .table) (c .before .before .before .before .before .before .before .before .before .before .before .before .before .before .before .args .count) _ (search (needs, c .before .before .before .before .before .before .before .before .before .before .before .before .before .before .before .good)) (c .before .before .before .before .before .before .before .before .before .before .before .before .at-most .ensures) _ (c .before .before .before .before .before .before .before .before .before .before .before .layout-of .ensures) (c .before .before .before .before .before .before .before .before .before .before .before .before .before .before .before .args .sequences) (c .before .before .before .before .before .before .before .before .before .before .before .before .before .before .before .args .w .now) (sym (c .before .before .before .before .before .before .before .before .before .before .holds .ensures) ∙ not-false _ (c .before .before .before .before .before .before .before .before .before .if1 .left)) (c .before .before .before .before .before .before .before .before .before .before .before .before .before .before .before .args .little) (toZ-ofZ (c .before .before .before .before .before .before .before .before .before .before .before .before .before .before .before .fits .start))) (c .before .before .store-frame .ensures))
+returns-3 c =
+    let at-store-frame = c .before .before in
+    let at-if2 = at-store-frame .before .before in
+    let at-overruns = at-if2 .before in
+    let at-frame-size = at-overruns .before in
+    let at-if1 = at-frame-size .before .before .before in
+    let at-layout-of = at-if1 .before .before in
+    let at-start = at-layout-of .before .before .before .before in
+    let a = at-start .args in
+    let h = sym (at-overruns .overruns .ensures) ∙ at-if2 .if2 .left in
+    let long = given-long (told at-layout-of) (a .sequences) (a .w .now) (held at-if1) (a .start) (a .little) in
+    let parts = parts-given (told at-layout-of) (a .sequences) (a .w .now) (held at-if1) (a .little) (toZ-ofZ (at-start .fits .start)) in
+    putting (omega (arith, ltb-false, at-frame-size .frame-size .ensures .0)) (put-as parts (at-store-frame .store-frame .ensures))
 
 pub put-frame-spec : {M : Type 1} → statement M
 put-frame-spec =

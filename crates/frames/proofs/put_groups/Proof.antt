@@ -1,29 +1,30 @@
 -- The groups still to come, stored from here on, give the wanted buffer.
-use Prim.Native.Nat.{_+_, _-_, _≤_}
+use Rattle.settings.specs.Settings.{channelLimit}
+use Rattle.frames.proofs.Coming.{Grouped, grouped-first, grouped-next, grouped-done, nth, taken-long}
+use Prim.Native.Nat.{_-_, _≤_}
 use mathlib.Core.Path.{_≡_}
-use mathlib.Core.List.{map}
 use native.Mathlib.Omega.{arith}
 use borrow.Author.Needs.{needs}
-use lib.ListN.{length, take, drop, getD}
-use Rattle.settings.specs.Settings.{zeroSettings}
-use Rattle.layout.specs.Frame.{reported}
-use Rattle.groups.specs.Group.{groupsOctets}
-use Rattle.groups.proofs.Sizes.{groups-long}
-use Rattle.frames.proofs.Coming.{Coming, coming-first, coming-step, coming-done, groups-next, groups-done, taken-at, taken-long}
+use lib.ListN.{length, take}
 use Rattle.frames.proofs.put_groups.Statement.{statement}
 use Rattle.frames.proofs.put_groups.Tie as tie
 
 abbrev Inv-loop : tie.InvT-loop
-Inv-loop out₀ at count table i₀ next₀ out i next = (i ≤ count) × (length (take count table) ≡ count) × (count ≤ 256) × (at + length (groupsOctets 0 (map reported (take count table))) ≤ length out₀) × Coming out₀ at (groupsOctets 0 (map reported (take count table))) next (groupsOctets i (map reported (drop i (take count table)))) out
+Inv-loop out₀ at count table i₀ next₀ out i next = (count ≤ channelLimit) × (length (take count table) ≡ count) × Grouped (take count table) out₀ at i next out
 
 abbrev μ-loop : tie.MeasureT-loop
 μ-loop out₀ at count table i₀ next₀ out i next = count - i
 
 loop-holds : tie.Need-loop-holds Inv-loop μ-loop
-loop-holds c = (omega arith, taken-long _ _ (search needs) (c .before .pre .0), c .before .pre .0, omega (arith, groups-long 0 (take (c .before .args .count) (c .before .args .t3)), c .before .pre .1), coming-first _ _ _)
+loop-holds c =
+    let at-start = c .before in
+    let pre = at-start .pre in
+    (pre .0, taken-long _ _ (search needs) (pre .0), grouped-first _ _ _ (pre .1))
 
 mul-c : tie.Need-mul-c Inv-loop μ-loop
-mul-c c = omega arith
+mul-c c =
+    let at-loop = c .before in
+    omega (arith, at-loop .loop .inv .0)
 
 array-copy-out-c : tie.Need-array-copy-out-c Inv-loop μ-loop
 array-copy-out-c c = omega arith
@@ -42,16 +43,23 @@ loop-less c = omega arith
 
 loop-again : tie.Need-loop-again Inv-loop μ-loop
 loop-again c =
-    let i = c .before .before .before .before .before .before .loop .i in
-    let count = c .before .before .before .before .before .before .before .before .args .count in
-    let table = c .before .before .before .before .before .before .before .before .args .t3 in
-    (omega arith, c .before .before .before .before .before .before .loop .inv .1, c .before .before .before .before .before .before .loop .inv .2, c .before .before .before .before .before .before .loop .inv .3, coming-step (c .before .before .before .before .before .before .loop .inv .4) (groups-next (take count table) i (getD table i zeroSettings) (omega (arith, c .before .before .before .before .before .before .loop .inv .1)) (taken-at table count i (c .before .before .before .before .before .loop-test .taken))) (c .before .before .before .before .before .before .loop .inv .3) (c .before .before .put-group .ensures))
+    let at-put-group = c .before .before in
+    let at-loop-test = at-put-group .before .before .before in
+    let at-loop = at-loop-test .before in
+    let at-start = at-loop .before .before in
+    let a = at-start .args in
+    let l = at-loop .loop in
+    let n = nth (a .t3) (a .count) (l .i) (l .inv .1) (at-loop-test .loop-test .taken) in
+    (l .inv .0, l .inv .1, grouped-next (l .inv .2) n (at-put-group .put-group .ensures))
 
 same-length : tie.Need-same-length Inv-loop μ-loop
-same-length c = c .before .loop .inv .4 .long
+same-length c = c .before .loop .inv .2 .coming .long
 
 returns : tie.Need-returns Inv-loop μ-loop
-returns c = coming-done (groups-done (take (c .before .before .before .args .count) (c .before .before .before .args .t3)) (c .before .loop .i) (omega (arith, c .before .loop .inv .1, c .loop-test .left))) (c .before .loop .inv .4)
+returns c =
+    let at-loop = c .before in
+    let inv = at-loop .loop .inv in
+    grouped-done (inv .2) (omega (arith, inv .1, c .loop-test .left))
 
 pub put-groups-spec : {M : Type 1} → statement M
 put-groups-spec =

@@ -27,7 +27,14 @@ one-wide : (cs : List Settings) (v : ℕ) → (0 < v → Even v cs) → v ≡ 1 
 one-wide cs v f e = subst (λ (w : ℕ). Even w cs) e (f (omega arith))
 
 returns : tie.Need-returns
-returns c = put-as (samples-big {little = c .before .before .before .before .before .before .before .before .args .little} (take (c .before .before .before .before .before .before .before .before .args .count) (c .before .before .before .before .before .before .before .before .args .table)) _ _ _ (not-true _ (c .before .before .before .before .if1 .taken)) (c .before .before .before .before .before .before .before .before .pre .0 .1)) (put-fits (taken-room (c .before .before .before .before .before .before .before .before .args .octets) (c .before .before .before .before .before .before .before .before .args .at) (c .before .before .before .before .before .before .before .before .args .w .now) (c .before .before .before .before .before .before .before .before .args .out .now) (c .before .before .before .before .before .before .before .before .pre .1 .1)) (c .before .before .copy .ensures))
+returns c =
+    let at-copy = c .before .before in
+    let at-if1 = at-copy .before .before in
+    let at-start = at-if1 .before .before .before .before in
+    let a = at-start .args in
+    let cs = take (a .count) (a .table) in
+    put-as (samples-big {little = a .little} cs _ _ _ (not-true _ (at-if1 .if1 .taken)) (at-start .pre .0 .1))
+    (put-fits (taken-room (a .octets) (a .at) (a .w .now) (a .out .now) (at-start .pre .1 .1)) (at-copy .copy .ensures))
 
 copy-requires-2 : tie.Need-copy-requires-2
 copy-requires-2 c κs = search needs
@@ -36,7 +43,18 @@ same-length-2 : tie.Need-same-length-2
 same-length-2 c = search needs
 
 returns-2 : tie.Need-returns-2
-returns-2 c = put-as (samples-narrow (take (c .before .before .before .before .before .before .before .before .before .args .count) (c .before .before .before .before .before .before .before .before .before .args .table)) _ _ _ (c .before .before .before .before .before .before .before .before .before .pre .0 .1) (one-wide (take (c .before .before .before .before .before .before .before .before .before .args .count) (c .before .before .before .before .before .before .before .before .before .args .table)) _ (c .before .before .before .before .before .before .even-width .ensures) (c .before .before .before .before .if2 .taken)) ∙ samples-little {little = c .before .before .before .before .before .before .before .before .before .args .little} (take (c .before .before .before .before .before .before .before .before .before .args .count) (c .before .before .before .before .before .before .before .before .before .args .table)) _ _ (not-false _ (c .before .before .before .before .before .if1 .left))) (put-fits (taken-room (c .before .before .before .before .before .before .before .before .before .args .octets) (c .before .before .before .before .before .before .before .before .before .args .at) (c .before .before .before .before .before .before .before .before .before .args .w .now) (c .before .before .before .before .before .before .before .before .before .args .out .now) (c .before .before .before .before .before .before .before .before .before .pre .1 .1)) (c .before .before .copy2 .ensures))
+returns-2 c =
+    let at-copy2 = c .before .before in
+    let at-if2 = at-copy2 .before .before in
+    let at-if1 = at-if2 .before in
+    let at-even-width = at-if1 .before in
+    let at-start = at-even-width .before .before .before in
+    let a = at-start .args in
+    let cs = take (a .count) (a .table) in
+    let one = one-wide cs _ (at-even-width .even-width .ensures) (at-if2 .if2 .taken) in
+    let little = not-false _ (at-if1 .if1 .left) in
+    put-as (samples-narrow cs _ _ _ (at-start .pre .0 .1) one ∙ samples-little {little = a .little} cs _ _ little)
+    (put-fits (taken-room (a .octets) (a .at) (a .w .now) (a .out .now) (at-start .pre .1 .1)) (at-copy2 .copy2 .ensures))
 
 put-blocks-requires : tie.Need-put-blocks-requires
 put-blocks-requires c κs = search needs
@@ -45,7 +63,12 @@ same-length-3 : tie.Need-same-length-3
 same-length-3 c = search needs
 
 returns-3 : tie.Need-returns-3
-returns-3 c = put-as (samples-little {little = c .before .before .before .before .before .before .before .before .before .before .args .little} (take (c .before .before .before .before .before .before .before .before .before .before .args .count) (c .before .before .before .before .before .before .before .before .before .before .args .table)) _ _ (not-false _ (c .before .before .before .before .before .before .if1 .left))) (c .before .before .put-blocks .ensures)
+returns-3 c =
+    let at-put-blocks = c .before .before in
+    let at-if1 = at-put-blocks .before .before .before .before in
+    let at-start = at-if1 .before .before .before .before in
+    let a = at-start .args in
+    put-as (samples-little {little = a .little} (take (a .count) (a .table)) _ _ (not-false _ (at-if1 .if1 .left))) (at-put-blocks .put-blocks .ensures)
 
 div-turn : tie.Need-div-turn
 div-turn c = search needs
@@ -58,8 +81,19 @@ same-length-4 c = search needs
 
 returns-4 : tie.Need-returns-4
 returns-4 c =
-    let p : 0 < c .before .before .before .before .before .before .before .even-width .result = omega arith in
-    put-as (samples-even (take (c .before .before .before .before .before .before .before .before .before .before .args .count) (c .before .before .before .before .before .before .before .before .before .before .args .table)) _ _ _ (c .before .before .before .before .before .before .before .before .before .before .pre .0 .1) _ p (c .before .before .before .before .before .before .before .even-width .ensures p) (c .before .before .before .before .before .before .before .before .before .before .pre .1 .0) ∙ samples-little {little = c .before .before .before .before .before .before .before .before .before .before .args .little} (take (c .before .before .before .before .before .before .before .before .before .before .args .count) (c .before .before .before .before .before .before .before .before .before .before .args .table)) _ _ (not-false _ (c .before .before .before .before .before .before .if1 .left))) (put-fits (omega (arith, even-room (take (c .before .before .before .before .before .before .before .before .before .before .args .count) (c .before .before .before .before .before .before .before .before .before .before .args .table)) (c .before .before .before .before .before .before .before .before .before .before .args .sequences) (c .before .before .before .before .before .before .before .before .before .before .args .w .now) (c .before .before .before .before .before .before .before .before .before .before .args .octets) (c .before .before .before .before .before .before .before .before .before .before .pre .0 .1) (c .before .before .before .before .before .before .before .even-width .result) p (c .before .before .before .before .before .before .before .even-width .ensures p) (c .before .before .before .before .before .before .before .before .before .before .pre .1 .0), c .before .before .before .before .before .before .before .before .before .before .pre .1 .1)) (c .before .before .turn .ensures))
+    let at-turn = c .before .before in
+    let at-if1 = at-turn .before .before .before .before in
+    let at-even-width = at-if1 .before in
+    let at-start = at-even-width .before .before .before in
+    let a = at-start .args in
+    let cs = take (a .count) (a .table) in
+    let v = at-even-width .even-width in
+    let p : 0 < v .result = omega arith in
+    let pre = at-start .pre in
+    let long = even-room cs (a .sequences) (a .w .now) (a .octets) (pre .0 .1) (v .result) p (v .ensures p) (pre .1 .0) in
+    let little = not-false _ (at-if1 .if1 .left) in
+    put-as (samples-even cs _ _ _ (pre .0 .1) _ p (v .ensures p) (pre .1 .0) ∙ samples-little {little = a .little} cs _ _ little)
+    (put-fits (omega (arith, pre .1 .1)) (at-turn .turn .ensures))
 
 pub put-samples-spec : {M : Type 1} → statement M
 put-samples-spec =

@@ -1,11 +1,15 @@
 -- Head, groups, tag, length and samples, one after the other.
-use lib.ListN.{take}
+use mathlib.Core.Path.{_≡_}
+use lib.ListN.{length, take}
 use mir.Facts.{toZ-ofZ}
 use Rattle.frames.proofs.Coming.{taken-long}
 use Rattle.frames.proofs.Stored.{groups-room, samples-room, frame-stored}
 use borrow.Author.Needs.{needs}
 use Rattle.frames.proofs.store_frame.Statement.{statement}
 use Rattle.frames.proofs.store_frame.Tie as tie
+
+tabled : (c : tie.Start) → length (take (c .args .count) (c .args .table)) ≡ c .args .count
+tabled c = taken-long (c .args .table) (c .args .count) (search needs) (c .pre .0 .0)
 
 cast-put-head : tie.Need-cast-put-head
 cast-put-head c = search needs
@@ -14,7 +18,13 @@ put-head-requires : tie.Need-put-head-requires
 put-head-requires c κs = search needs
 
 put-groups-requires : tie.Need-put-groups-requires
-put-groups-requires c κs = (c .before .before .before .before .before .before .before .pre .0 .0, groups-room (take (c .before .before .before .before .before .before .before .args .count) (c .before .before .before .before .before .before .before .args .table)) (c .before .before .before .before .before .before .before .args .sequences) (taken-long (c .before .before .before .before .before .before .before .args .table) (c .before .before .before .before .before .before .before .args .count) (search needs) (c .before .before .before .before .before .before .before .pre .0 .0)) (c .before .before .before .before .before .before .before .pre .0 .1) (toZ-ofZ (c .before .before .before .before .before .before .before .fits .start)) (c .before .before .before .before .before .before .before .pre .1 .2) (c .before .before .before .put-head .ensures))
+put-groups-requires c κs =
+    let at-put-head = c .before .before .before in
+    let at-start = at-put-head .before .before .before .before in
+    let a = at-start .args in
+    let pre = at-start .pre in
+    let start = toZ-ofZ (at-start .fits .start) in
+    (pre .0 .0, groups-room (take (a .count) (a .table)) (a .sequences) (tabled at-start) (pre .0 .1) start (pre .1 .2) (at-put-head .put-head .ensures))
 
 put-octet-requires : tie.Need-put-octet-requires
 put-octet-requires c κs = search needs
@@ -26,13 +36,36 @@ put-length-requires : tie.Need-put-length-requires
 put-length-requires c κs = search needs
 
 put-samples-requires : tie.Need-put-samples-requires
-put-samples-requires c κs = (c .before .before .before .before .before .before .before .before .before .before .before .before .before .before .before .before .before .before .before .pre .0, (c .before .before .before .before .before .before .before .before .before .before .before .before .before .before .before .before .before .before .before .pre .1 .0, samples-room (take (c .before .before .before .before .before .before .before .before .before .before .before .before .before .before .before .before .before .before .before .args .count) (c .before .before .before .before .before .before .before .before .before .before .before .before .before .before .before .before .before .before .before .args .table)) (c .before .before .before .before .before .before .before .before .before .before .before .before .before .before .before .before .before .before .before .args .sequences) (taken-long (c .before .before .before .before .before .before .before .before .before .before .before .before .before .before .before .before .before .before .before .args .table) (c .before .before .before .before .before .before .before .before .before .before .before .before .before .before .before .before .before .before .before .args .count) (search needs) (c .before .before .before .before .before .before .before .before .before .before .before .before .before .before .before .before .before .before .before .pre .0 .0)) (c .before .before .before .before .before .before .before .before .before .before .before .before .before .before .before .before .before .before .before .pre .0 .1) (toZ-ofZ (c .before .before .before .before .before .before .before .before .before .before .before .before .before .before .before .before .before .before .before .fits .start)) (c .before .before .before .before .before .before .before .before .before .before .before .before .before .before .before .before .before .before .before .pre .1 .2) (c .before .before .before .before .before .before .before .before .before .before .before .before .before .before .before .put-head .ensures) (c .before .before .before .before .before .before .before .before .before .before .before .put-groups .ensures) (c .before .before .before .before .before .before .before .put-octet .ensures) (c .before .before .before .put-length .ensures)))
+put-samples-requires c κs =
+    let at-put-length = c .before .before .before in
+    let at-put-octet = at-put-length .before .before .before .before in
+    let at-put-groups = at-put-octet .before .before .before .before in
+    let at-put-head = at-put-groups .before .before .before .before in
+    let at-start = at-put-head .before .before .before .before in
+    let a = at-start .args in
+    let pre = at-start .pre in
+    let start = toZ-ofZ (at-start .fits .start) in
+    let room =
+    samples-room (take (a .count) (a .table)) (a .sequences) (tabled at-start) (pre .0 .1) start (pre .1 .2) (at-put-head .put-head .ensures)
+    (at-put-groups .put-groups .ensures) (at-put-octet .put-octet .ensures) (at-put-length .put-length .ensures) in
+    (pre .0, (pre .1 .0, room))
 
 same-length : tie.Need-same-length
 same-length c = search needs
 
 returns : tie.Need-returns
-returns c = frame-stored (take (c .before .before .before .before .before .before .before .before .before .before .before .before .before .before .before .before .before .before .before .before .before .before .args .count) (c .before .before .before .before .before .before .before .before .before .before .before .before .before .before .before .before .before .before .before .before .before .before .args .table)) (c .before .before .before .before .before .before .before .before .before .before .before .before .before .before .before .before .before .before .before .before .before .before .args .sequences) (taken-long (c .before .before .before .before .before .before .before .before .before .before .before .before .before .before .before .before .before .before .before .before .before .before .args .table) (c .before .before .before .before .before .before .before .before .before .before .before .before .before .before .before .before .before .before .before .before .before .before .args .count) (search (needs, c .before .before .before .before .before .before .before .before .before .before .before .before .before .before .before .before .before .before .before .before .before .before .good)) (c .before .before .before .before .before .before .before .before .before .before .before .before .before .before .before .before .before .before .before .before .before .before .pre .0 .0)) (c .before .before .before .before .before .before .before .before .before .before .before .before .before .before .before .before .before .before .before .before .before .before .pre .0 .1) (toZ-ofZ (c .before .before .before .before .before .before .before .before .before .before .before .before .before .before .before .before .before .before .before .before .before .before .fits .start)) (c .before .before .before .before .before .before .before .before .before .before .before .before .before .before .before .before .before .before .before .before .before .before .pre .1 .2) (c .before .before .before .before .before .before .before .before .before .before .before .before .before .before .before .before .before .before .put-head .ensures) (c .before .before .before .before .before .before .before .before .before .before .before .before .before .before .put-groups .ensures) (c .before .before .before .before .before .before .before .before .before .before .put-octet .ensures) (c .before .before .before .before .before .before .put-length .ensures) (c .before .before .put-samples .ensures)
+returns c =
+    let at-put-samples = c .before .before in
+    let at-put-length = at-put-samples .before .before .before .before in
+    let at-put-octet = at-put-length .before .before .before .before in
+    let at-put-groups = at-put-octet .before .before .before .before in
+    let at-put-head = at-put-groups .before .before .before .before in
+    let at-start = at-put-head .before .before .before .before in
+    let a = at-start .args in
+    let pre = at-start .pre in
+    let start = toZ-ofZ (at-start .fits .start) in
+    frame-stored (take (a .count) (a .table)) (a .sequences) (tabled at-start) (pre .0 .1) start (pre .1 .2) (at-put-head .put-head .ensures)
+    (at-put-groups .put-groups .ensures) (at-put-octet .put-octet .ensures) (at-put-length .put-length .ensures) (at-put-samples .put-samples .ensures)
 
 pub store-frame-spec : {M : Type 1} → statement M
 store-frame-spec =

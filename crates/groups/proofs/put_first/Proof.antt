@@ -1,7 +1,6 @@
 -- Four numbers' items, one after the other.
 use native.Mathlib.Omega.{arith}
 use lib.ListN.{length-append}
-use Rattle.stores.specs.Number.{length-field}
 use Rattle.groups.proofs.Puts.{put-two, put-more}
 use borrow.Author.Needs.{needs}
 use Rattle.groups.proofs.put_first.Statement.{statement}
@@ -35,7 +34,18 @@ same-length : tie.Need-same-length
 same-length c = search needs
 
 returns : tie.Need-returns
-returns c = put-more (simp (length-append, length-field) (omega (arith, c .before .before .before .before .before .before .before .before .before .before .before .before .before .before .before .before .before .before .before .before .before .pre))) (put-more (simp (length-append, length-field) (omega (arith, c .before .before .before .before .before .before .before .before .before .before .before .before .before .before .before .before .before .before .before .before .before .pre))) (put-two (simp (length-append, length-field) (omega (arith, c .before .before .before .before .before .before .before .before .before .before .before .before .before .before .before .before .before .before .before .before .before .pre))) (c .before .before .before .before .before .before .before .before .before .before .before .before .before .before .before .before .before .put-field .ensures) (c .before .before .before .before .before .before .before .before .before .before .before .before .put-field2 .ensures)) (c .before .before .before .before .before .before .before .put-field3 .ensures)) (c .before .before .put-field4 .ensures)
+returns c =
+    let at-put-field4 = c .before .before in
+    let at-put-field3 = at-put-field4 .before .before .before .before .before in
+    let at-put-field2 = at-put-field3 .before .before .before .before .before in
+    let at-put-field = at-put-field2 .before .before .before .before .before in
+    let at-start = at-put-field .before .before .before .before in
+    let room = simp length-append at (at-start .pre) in
+    put-more (simp length-append (omega arith))
+    (put-more (simp length-append (omega arith))
+    (put-two (omega arith) (at-put-field .put-field .ensures) (at-put-field2 .put-field2 .ensures))
+    (at-put-field3 .put-field3 .ensures))
+    (at-put-field4 .put-field4 .ensures)
 
 pub put-first-spec : {M : Type 1} → statement M
 put-first-spec =

@@ -11,41 +11,52 @@ use borrow.Author.Needs.{needs}
 use Rattle.groups.proofs.put_head.Statement.{statement}
 use Rattle.groups.proofs.put_head.Tie as tie
 
-sequences-octets-requires : tie.Need-sequences-octets-requires
-sequences-octets-requires c κs = search needs
-
-add-overruns : tie.Need-add-overruns
-add-overruns c = search needs
+head-size-requires : tie.Need-head-size-requires
+head-size-requires c κs = search needs
 
 overruns-requires : tie.Need-overruns-requires
 overruns-requires c κs = search needs
 
 returns : tie.Need-returns
 returns c =
-    let a = c .before .before .before .before .args in
-    let h = sym (c .before .overruns .ensures) ∙ c .if1 .taken in
-    putting-kept (omega (arith, ltb-true, c .before .before .sequences-octets .ensures .0, head-long (a .count) (a .sequences) (a .start)))
+    let at-overruns = c .before in
+    let at-head-size = at-overruns .before in
+    let at-start = at-head-size .before .before in
+    let a = at-start .args in
+    let h = sym (at-overruns .overruns .ensures) ∙ c .if1 .taken in
+    putting-kept (omega (arith, ltb-true, at-head-size .head-size .ensures, head-long (a .count) (a .sequences) (a .start)))
 
 store-head-requires : tie.Need-store-head-requires
 store-head-requires c κs =
-    let h = sym (c .before .before .overruns .ensures) ∙ c .before .if1 .left in
-    omega (arith, ltb-false, c .before .before .before .sequences-octets .ensures .0)
+    let at-if1 = c .before in
+    let at-overruns = at-if1 .before in
+    let at-head-size = at-overruns .before in
+    let at-start = at-head-size .before .before in
+    let a = at-start .args in
+    let h = sym (at-overruns .overruns .ensures) ∙ at-if1 .if1 .left in
+    rw (toZ-ofZ (at-start .fits .start)) (omega (arith, ltb-false, at-head-size .head-size .ensures, head-long (a .count) (a .sequences) (a .start)))
 
 same-length : tie.Need-same-length
 same-length c = search needs
 
 returns-2 : tie.Need-returns-2
 returns-2 c =
-    let a = c .before .before .before .before .before .before .before .before .args in
-    let h = sym (c .before .before .before .before .before .overruns .ensures) ∙ c .before .before .before .before .if1 .left in
-    putting (omega (arith, ltb-false, c .before .before .before .before .before .before .sequences-octets .ensures .0, head-long (a .count) (a .sequences) (a .start))) (put-as (ap (headItems (a .count) (a .sequences)) (toZ-ofZ (c .before .before .before .before .before .before .before .before .fits .start))) (c .before .before .store-head .ensures))
+    let at-store-head = c .before .before in
+    let at-if1 = at-store-head .before .before in
+    let at-overruns = at-if1 .before in
+    let at-head-size = at-overruns .before in
+    let at-start = at-head-size .before .before in
+    let a = at-start .args in
+    let h = sym (at-overruns .overruns .ensures) ∙ at-if1 .if1 .left in
+    let long = head-long (a .count) (a .sequences) (a .start) in
+    let start = toZ-ofZ (at-start .fits .start) in
+    putting (omega (arith, ltb-false, at-head-size .head-size .ensures)) (put-as (ap (headItems (a .count) (a .sequences)) start) (at-store-head .store-head .ensures))
 
 pub put-head-spec : {M : Type 1} → statement M
 put-head-spec =
     tie.close
     (tie.spec
-    sequences-octets-requires
-    add-overruns
+    head-size-requires
     overruns-requires
     returns
     store-head-requires

@@ -1,15 +1,24 @@
 -- The offset with its width, and the null.
-use mathlib.Core.Path.{_≡_}
-use native.Mathlib.Omega.{arith}
-use borrow.Author.Needs.{needs}
+use mathlib.Core.Path.{_≡_, ap, _∙_}
 use mathlib.Core.List.{_++_}
-use Prim.Native.Nat.{ℕ, _≤_}
+use Prim.Native.Nat.{ℕ}
+use native.Mathlib.Omega.{arith}
+use lib.ListN.{length-append}
+use Rattle.stores.specs.Number.{field}
+use Rattle.values.specs.declared.Bits.{Bits}
 use Rattle.values.proofs.Laws.{width-le}
-use Rattle.values.specs.Sample.{widthOf}
-use Rattle.stores.specs.Number.{field, length-field}
+use Rattle.settings.specs.declared.Settings.{Settings}
+use Rattle.layout.specs.Frame.{widthIn, offsetBits}
+use Rattle.layout.specs.Size.{nullSize}
+use Rattle.layout.proofs.Laws.{null-le}
+use Rattle.groups.specs.Parts.{lastItems}
 use Rattle.groups.proofs.Puts.{put-two, put-as}
+use borrow.Author.Needs.{needs}
 use Rattle.groups.proofs.put_last.Statement.{statement}
 use Rattle.groups.proofs.put_last.Tie as tie
+
+last-is : (c : Settings) {w n : ℕ} {offset : Bits} → w ≡ widthIn c → n ≡ nullSize w (c .null) → offset ≡ offsetBits c → field 0x0D w (offset .bits) ++ field 0x12 n (c .null .bits) ≡ lastItems c
+last-is c w n offset = λ k. field 0x0D (w k) (offset k .bits) ++ field 0x12 ((n ∙ ap (λ (m : ℕ). nullSize m (c .null)) w) k) (c .null .bits)
 
 offset-bits-requires : tie.Need-offset-bits-requires
 offset-bits-requires c κs = search needs
@@ -17,14 +26,20 @@ offset-bits-requires c κs = search needs
 width-requires : tie.Need-width-requires
 width-requires c κs = search needs
 
-narrow : (k w : ℕ) → w ≡ widthOf k → w ≤ 8
-narrow k w e = rw e (width-le k)
-
 cast-w : tie.Need-cast-w
-cast-w c = omega (arith, narrow (c .before .before .before .before .args .c .kind) _ (c .width .ensures))
+cast-w c =
+    let at-start = c .before .before .before .before in
+    omega (arith, c .width .ensures, width-le (at-start .args .c .kind))
 
-null-octets-requires : tie.Need-null-octets-requires
-null-octets-requires c κs = search needs
+null-size-requires : tie.Need-null-size-requires
+null-size-requires c κs = search needs
+
+cast-n : tie.Need-cast-n
+cast-n c =
+    let at-width = c .before in
+    let at-start = at-width .before .before .before .before in
+    let w = at-width .width in
+    omega (arith, c .null-size .ensures, null-le (w .result) (at-start .args .c .null), w .ensures, width-le (at-start .args .c .kind))
 
 put-field-requires : tie.Need-put-field-requires
 put-field-requires c κs = search needs
@@ -36,7 +51,16 @@ same-length : tie.Need-same-length
 same-length c = search needs
 
 returns : tie.Need-returns
-returns c = put-as (λ k. field 13 (c .before .before .before .before .before .before .before .before .before .width .ensures k) (c .before .before .before .before .before .before .before .before .before .before .before .offset-bits .ensures k .bits) ++ field 18 (c .before .before .before .before .before .before .before .before .null-octets .ensures .0 k) (c .before .before .before .before .before .before .before .before .before .before .before .before .before .args .c .null .bits)) (put-two (simp (length-field) (omega (arith, c .before .before .before .before .before .before .before .before .before .before .before .before .before .pre, c .before .before .before .before .before .before .before .before .before .width .ensures, c .before .before .before .before .before .before .before .before .null-octets .ensures .0))) (c .before .before .before .before .before .before .put-field .ensures) (c .before .before .put-field2 .ensures))
+returns c =
+    let at-put-field2 = c .before .before in
+    let at-put-field = at-put-field2 .before .before .before .before in
+    let at-null-size = at-put-field .before .before in
+    let at-width = at-null-size .before in
+    let at-offset-bits = at-width .before .before in
+    let at-start = at-offset-bits .before .before in
+    let is = last-is (at-start .args .c) (at-width .width .ensures) (at-null-size .null-size .ensures) (at-offset-bits .offset-bits .ensures) in
+    let room = simp length-append at (rw (← is) at (at-start .pre)) in
+    put-as is (put-two (omega arith) (at-put-field .put-field .ensures) (at-put-field2 .put-field2 .ensures))
 
 pub put-last-spec : {M : Type 1} → statement M
 put-last-spec =
@@ -45,7 +69,8 @@ put-last-spec =
     offset-bits-requires
     width-requires
     cast-w
-    null-octets-requires
+    null-size-requires
+    cast-n
     put-field-requires
     put-field-requires-2
     same-length

@@ -1,8 +1,10 @@
 -- Tag, length, unit, exponent and mantissa, one after the other.
+use Rattle.groups.proofs.Sizes.{scale-long}
 use Rattle.groups.proofs.Puts.{put-as, put-two, put-more, scale-is}
 use Rattle.groups.proofs.Signed.{widened, unsigned-is}
 use Rattle.groups.specs.Parts.{unsignedBy}
 use mathlib.Core.List.{[], _∷_, _++_}
+use Prim.Native.Nat.{_^_}
 use mathlib.Core.Path.{ap, sym, _∙_}
 use native.Mathlib.Omega.{arith}
 use borrow.Author.Needs.{needs}
@@ -48,7 +50,27 @@ same-length : tie.Need-same-length
 same-length c = search needs
 
 returns : tie.Need-returns
-returns c = put-as ((λ k. (((c .before .before .before .before .before .before .before .before .before .before .before .before .before .before .before .before .before .before .before .before .before .before .before .args .tag ∷ 6 ∷ []) ++ (c .before .before .before .before .before .before .before .before .before .before .before .before .before .before .before .before .before .before .before .before .before .before .before .args .x .unit ∷ [])) ++ be 1 ((c .before .before .before .before .before .before .before .before .before .before .before .before .before .before .before .before .before .before .before .unsigned .ensures ∙ ap (unsignedBy 256) (widened tt (in8 (c .before .before .before .before .before .before .before .before .before .before .before .before .before .before .before .before .before .before .before .before))) ∙ unsigned-is 1 _) k)) ++ be 4 ((c .before .before .before .before .before .before .before .before .before .before .before .before .before .before .before .before .unsigned2 .ensures ∙ ap (unsignedBy 4294967296) (widened tt (in32 (c .before .before .before .before .before .before .before .before .before .before .before .before .before .before .before .before .before))) ∙ unsigned-is 4 _) k)) ∙ sym (scale-is _ _)) (put-more (simp (length-append, length-be) (omega (arith, c .before .before .before .before .before .before .before .before .before .before .before .before .before .before .before .before .before .before .before .before .before .before .before .pre))) (put-more (simp (length-append, length-be) (omega (arith, c .before .before .before .before .before .before .before .before .before .before .before .before .before .before .before .before .before .before .before .before .before .before .before .pre))) (put-two (omega (arith, c .before .before .before .before .before .before .before .before .before .before .before .before .before .before .before .before .before .before .before .before .before .before .before .pre)) (c .before .before .before .before .before .before .before .before .before .before .before .before .before .before .put-two .ensures) (c .before .before .before .before .before .before .before .before .before .before .put-octet .ensures)) (c .before .before .before .before .before .before .put-number .ensures)) (c .before .before .put-number2 .ensures))
+returns c =
+    let at-put-number2 = c .before .before in
+    let at-put-number = at-put-number2 .before .before .before .before in
+    let at-put-octet = at-put-number .before .before .before .before in
+    let at-put-two = at-put-octet .before .before .before .before in
+    let at-unsigned2 = at-put-two .before .before in
+    let at-struct-told2 = at-unsigned2 .before in
+    let at-unsigned = at-struct-told2 .before .before in
+    let at-struct-told = at-unsigned .before in
+    let at-start = at-struct-told .before .before .before in
+    let tag = at-start .args .tag in
+    let x = at-start .args .x in
+    let long = scale-long tag x in
+    let exponent = at-unsigned .unsigned .ensures ∙ ap (unsignedBy (256 ^ 1)) (widened tt (in8 at-struct-told)) ∙ unsigned-is 1 _ in
+    let mantissa = at-unsigned2 .unsigned2 .ensures ∙ ap (unsignedBy (256 ^ 4)) (widened tt (in32 at-struct-told2)) ∙ unsigned-is 4 _ in
+    put-as ((λ k. (((tag ∷ 6 ∷ []) ++ (x .unit ∷ [])) ++ be 1 (exponent k)) ++ be 4 (mantissa k)) ∙ sym (scale-is tag x))
+    (put-more (simp (length-append, length-be) (omega (arith, at-start .pre)))
+    (put-more (simp (length-append, length-be) (omega (arith, at-start .pre)))
+    (put-two (omega (arith, at-start .pre)) (at-put-two .put-two .ensures) (at-put-octet .put-octet .ensures))
+    (at-put-number .put-number .ensures))
+    (at-put-number2 .put-number2 .ensures))
 
 pub put-scale-spec : {M : Type 1} → statement M
 put-scale-spec =

@@ -1,4 +1,5 @@
 -- Three items, one after the other.
+use Prim.Native.Nat.{_^_}
 use mathlib.Core.Path.{ap, _∙_}
 use native.Mathlib.Omega.{arith}
 use mir.Facts.{toZ-ofZ, sfits-widen}
@@ -29,10 +30,15 @@ same-length c = search needs
 
 returns : tie.Need-returns
 returns c =
-    head-stored (c .before .before .before .before .before .before .before .before .before .before .before .before .before .before .args .count) (c .before .before .before .before .before .before .before .before .before .before .before .before .before .before .args .sequences) _ (c .before .before .before .before .before .before .before .before .before .before .before .before .before .before .args .start)
-    (c .before .before .before .before .before .before .before .before .before .before .before .before .unsigned .ensures ∙ ap (unsignedBy 4294967296) (widened tt (c .before .before .before .before .before .before .before .before .before .before .before .before .before .before .fits .start)) ∙ unsigned-is 4 (c .before .before .before .before .before .before .before .before .before .before .before .before .before .before .args .start))
-    (c .before .before .before .before .before .before .before .before .before .before .before .before .before .before .pre)
-    (c .before .before .before .before .before .before .before .before .before .before .put-field .ensures) (c .before .before .before .before .before .before .put-sequences .ensures) (c .before .before .put-field2 .ensures)
+    let at-put-field2 = c .before .before in
+    let at-put-sequences = at-put-field2 .before .before .before .before in
+    let at-put-field = at-put-sequences .before .before .before .before in
+    let at-unsigned = at-put-field .before .before in
+    let at-start = at-unsigned .before .before in
+    let a = at-start .args in
+    let start = at-unsigned .unsigned .ensures ∙ ap (unsignedBy (256 ^ 4)) (widened tt (at-start .fits .start)) ∙ unsigned-is 4 (a .start) in
+    head-stored (a .count) (a .sequences) _ (a .start) start (at-start .pre)
+    (at-put-field .put-field .ensures) (at-put-sequences .put-sequences .ensures) (at-put-field2 .put-field2 .ensures)
 
 pub store-head-spec : {M : Type 1} → statement M
 store-head-spec =

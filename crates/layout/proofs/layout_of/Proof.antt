@@ -4,13 +4,14 @@ use native.Mathlib.Omega.{arith}
 use borrow.Author.Needs.{needs}
 use Prim.Native.Nat.{_-_}
 use lib.ListN.{length}
+use Rattle.settings.specs.Settings.{channelLimit}
 use Rattle.layout.specs.Measure.{layoutOf}
 use Rattle.layout.proofs.Laws.{Summing, summing-none, summing-more, summed-up, take-few}
 use Rattle.layout.proofs.layout_of.Statement.{statement}
 use Rattle.layout.proofs.layout_of.Tie as tie
 
 abbrev Inv-loop : tie.InvT-loop
-Inv-loop count table n l₀ i₀ l i = (length table ≡ 256) × Summing 0 table n i l
+Inv-loop count table n l₀ i₀ l i = (length table ≡ channelLimit) × Summing 0 table n i l
 
 abbrev μ-loop : tie.MeasureT-loop
 μ-loop count table n l₀ i₀ l i = n - i

@@ -1,10 +1,8 @@
 -- Each way out is what its test says; a width is at most 8.
-use mathlib.Core.Path.{_≡_, _∙_}
+use mathlib.Core.Path.{_∙_}
 use native.Mathlib.Omega.{arith}
 use borrow.Author.Tests.{eq-eqb, ne-eqb}
-use Prim.Native.Nat.{ℕ, _≤_}
 use Rattle.values.proofs.Laws.{width-le}
-use Rattle.values.specs.Sample.{widthOf}
 use Rattle.layout.specs.Frame.{offsetBits}
 use borrow.Author.Needs.{needs}
 use Rattle.layout.proofs.offset_bits.Statement.{statement}
@@ -13,11 +11,10 @@ use Rattle.layout.proofs.offset_bits.Tie as tie
 width-requires : tie.Need-width-requires
 width-requires c κs = search needs
 
-narrow : (k w : ℕ) → w ≡ widthOf k → w ≤ 8
-narrow k w e = rw e (width-le k)
-
 cast-t5 : tie.Need-cast-t5
-cast-t5 c = omega (arith, narrow (c .before .before .before .before .args .c .kind) _ (c .width .ensures))
+cast-t5 c =
+    let at-start = c .before .before .before .before in
+    omega (arith, c .width .ensures, width-le (at-start .args .c .kind))
 
 returns : tie.Need-returns
 unfolding offsetBits

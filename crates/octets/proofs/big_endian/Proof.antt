@@ -7,7 +7,7 @@ use native.Mathlib.Omega.{arith}
 use lib.Dec.{lit<}
 use lib.ListN.{length, drop}
 use Rattle.octets.specs.Number.{range, bigFrom, numberOf}
-use Rattle.octets.proofs.Laws.{push, cap, room, big-turn, big-end}
+use Rattle.octets.proofs.Laws.{push, cap, push-fits, big-turn, big-end}
 use borrow.Author.Needs.{needs}
 use Rattle.octets.proofs.big_endian.Statement.{statement}
 use Rattle.octets.proofs.big_endian.Tie as tie
@@ -22,7 +22,7 @@ loop-holds : tie.Need-loop-holds Inv-loop μ-loop
 loop-holds c = (search needs, lit< tt, refl)
 
 mul-n : tie.Need-mul-n Inv-loop μ-loop
-mul-n c = omega (arith, room (c .before .loop .i) (c .before .loop .n) 0 (search needs) (c .before .loop .inv .1) (lit< tt))
+mul-n c = omega (arith, push-fits (c .before .loop .i) (c .before .loop .n) 0 (search needs) (c .before .loop .inv .1) (lit< tt))
 
 shared-slice-read-wide : tie.Need-shared-slice-read-wide Inv-loop μ-loop
 shared-slice-read-wide c = search needs
@@ -31,7 +31,7 @@ wide-requires : tie.Need-wide-requires Inv-loop μ-loop
 wide-requires c κs = search needs
 
 add-n : tie.Need-add-n Inv-loop μ-loop
-add-n c = record { fits = room _ _ _ (search needs) (c .before .before .before .loop .inv .1) (c .wide .ensures .1) }
+add-n c = record { fits = push-fits _ _ _ (search needs) (c .before .before .before .loop .inv .1) (c .wide .ensures .1) }
 
 add-i : tie.Need-add-i Inv-loop μ-loop
 add-i c = search needs

@@ -7,7 +7,7 @@ use native.Mathlib.Omega.{arith}
 use lib.Dec.{lit<}
 use lib.ListN.{length, drop}
 use Rattle.octets.specs.Number.{range, littleOf, numberOf}
-use Rattle.octets.proofs.Laws.{push-back, range-pos, cap, room, little-start, little-turn, little-end}
+use Rattle.octets.proofs.Laws.{push-back, range-pos, cap, push-fits, little-start, little-turn, little-end}
 use borrow.Author.Needs.{needs}
 use Rattle.octets.proofs.little_endian.Statement.{statement}
 use Rattle.octets.proofs.little_endian.Tie as tie
@@ -28,7 +28,7 @@ mul-n : tie.Need-mul-n Inv-loop μ-loop
 mul-n c =
     let l = c .before .loop in
     let read = length (c .before .before .before .args .s .now) - l .i in
-    omega (arith, room read (l .n) 0 (omega arith) (l .inv .1) (lit< tt))
+    omega (arith, push-fits read (l .n) 0 (omega arith) (l .inv .1) (lit< tt))
 
 shared-slice-read-wide : tie.Need-shared-slice-read-wide Inv-loop μ-loop
 shared-slice-read-wide c = search needs
@@ -40,7 +40,7 @@ add-n : tie.Need-add-n Inv-loop μ-loop
 add-n c =
     let l = c .before .before .before .loop in
     let read = length (c .before .before .before .before .before .args .s .now) - l .i in
-    record { fits = room read _ _ (omega arith) (l .inv .1) (c .wide .ensures .1) }
+    record { fits = push-fits read _ _ (omega arith) (l .inv .1) (c .wide .ensures .1) }
 
 loop-less : tie.Need-loop-less Inv-loop μ-loop
 loop-less c = search needs

@@ -20,9 +20,13 @@ same-length c = search needs
 
 returns : tie.Need-returns
 returns c =
-    let x = c .before .before .before .before .before .before .before .before .before .args .x in
-    c .before .before .store42 .ensures
-    ∙ rw (c .before .before .before .before .before .before .store4 .ensures) (sets-append (x .a ∷ x .b ∷ x .c ∷ x .d ∷ []) (x .e ∷ x .f ∷ x .g ∷ x .h ∷ []) (c .before .before .before .before .before .before .before .before .before .args .dst .now) (c .before .before .before .before .before .before .before .before .before .args .p))
+    let at-store42 = c .before .before in
+    let at-store4 = at-store42 .before .before .before .before in
+    let at-start = at-store4 .before .before .before in
+    let a = at-start .args in
+    let x = a .x in
+    let halves = sets-append (x .a ∷ x .b ∷ x .c ∷ x .d ∷ []) (x .e ∷ x .f ∷ x .g ∷ x .h ∷ []) (a .dst .now) (a .p) in
+    at-store42 .store42 .ensures ∙ rw (at-store4 .store4 .ensures) halves
 
 pub store8-spec : {M : Type 1} → statement M
 store8-spec = tie.close (tie.spec store4-requires add-store4 store4-requires-2 same-length returns)

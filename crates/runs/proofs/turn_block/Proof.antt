@@ -32,7 +32,19 @@ same-length : tie.Need-same-length
 same-length c = search needs
 
 returns : tie.Need-returns
-returns c = two-eights (c .before .before .before .before .before .before .before .before .before .before .before .before .before .before .args .src .now) (c .before .before .before .before .before .before .before .before .before .before .before .before .before .before .args .dst .now) (c .before .before .before .before .before .before .before .before .before .before .before .before .before .before .args .q) (c .before .before .before .before .before .before .before .before .before .before .before .before .before .before .args .p) (whole (c .before .before .before .before .before .before .before .before .before .before .before .before .before .before .pre .0)) (c .before .before .before .before .before .before .before .before .before .before .before .before .before .before .pre .1 .0) (c .before .before .before .before .before .before .before .before .before .before .before .read8 .ensures) (c .before .before .before .before .before .before .before .before .before .before .read82 .ensures) (c .before .before .before .before .before .before .before .before .turn8 .ensures) (c .before .before .before .turn82 .ensures) (c .before .before .before .before .before .before .before .store8 .ensures) (c .before .before .store82 .ensures)
+returns c =
+    let at-store82 = c .before .before in
+    let at-turn82 = at-store82 .before in
+    let at-store8 = at-turn82 .before .before .before .before in
+    let at-turn8 = at-store8 .before in
+    let at-read82 = at-turn8 .before .before in
+    let at-read8 = at-read82 .before in
+    let at-start = at-read8 .before .before .before in
+    let a = at-start .args in
+    let pre = at-start .pre in
+    two-eights (a .src .now) (a .dst .now) (a .q) (a .p) (whole (pre .0)) (pre .1 .0)
+    (at-read8 .read8 .ensures) (at-read82 .read82 .ensures) (at-turn8 .turn8 .ensures) (at-turn82 .turn82 .ensures)
+    (at-store8 .store8 .ensures) (at-store82 .store82 .ensures)
 
 pub turn-block-spec : {M : Type 1} → statement M
 turn-block-spec =

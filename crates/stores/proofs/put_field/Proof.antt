@@ -16,8 +16,10 @@ overruns-requires c κs = search needs
 
 returns : tie.Need-returns
 returns c =
-    let a = c .before .before .before .args in
-    let h = sym (c .before .overruns .ensures) ∙ c .if1 .taken in
+    let at-overruns = c .before in
+    let at-start = at-overruns .before .before in
+    let a = at-start .args in
+    let h = sym (at-overruns .overruns .ensures) ∙ c .if1 .taken in
     putting-kept (omega (arith, ltb-true, length-field (a .tag) (a .w) (a .x)))
 
 put-two-requires : tie.Need-put-two-requires
@@ -32,11 +34,14 @@ same-length c = search needs
 returns-2 : tie.Need-returns-2
 unfolding field
 returns-2 c =
-    let a = c .before .before .before .before .before .before .before .before .before .before .before .args in
-    let h = sym (c .before .before .before .before .before .before .before .before .before .overruns .ensures) ∙ c .before .before .before .before .before .before .before .before .if1 .left in
-    putting-then (omega (arith, ltb-false, length-be (a .w) (a .x)))
-    (c .before .before .before .before .before .before .put-two .ensures)
-    (c .before .before .put-number .ensures)
+    let at-put-number = c .before .before in
+    let at-put-two = at-put-number .before .before .before .before in
+    let at-if1 = at-put-two .before .before in
+    let at-overruns = at-if1 .before in
+    let at-start = at-overruns .before .before in
+    let a = at-start .args in
+    let h = sym (at-overruns .overruns .ensures) ∙ at-if1 .if1 .left in
+    putting-then (omega (arith, ltb-false, length-be (a .w) (a .x))) (at-put-two .put-two .ensures) (at-put-number .put-number .ensures)
 
 pub put-field-spec : {M : Type 1} → statement M
 put-field-spec =

@@ -1,4 +1,5 @@
 -- `stores::put_length` meets its contract: where the form fits it is one octet, or an octet and then the length's own.
+-- A long length, whose form has k octets.
 use borrow.Author.Needs.{needs}
 use mathlib.Core.Path.{_≡_, sym, _∙_}
 use mathlib.Core.List.{List, [], _∷_}
@@ -14,7 +15,6 @@ use Rattle.stores.proofs.Stores.{putting-kept, putting-then}
 use Rattle.stores.proofs.put_length.Statement.{statement}
 use Rattle.stores.proofs.put_length.Tie as tie
 
--- A long length, whose form has k octets.
 long : {d e f : List ℕ} {at r t : ℕ} (n k : ℕ) → 128 ≤ n → k ≡ length (shortest n) → at + k ≤ length d
     → Putting d at ((127 + k) ∷ []) r e → Putting e r (be (k - 1) n) t f → Putting d at (shortest n) t f
 long n k h l room p q =
@@ -45,21 +45,28 @@ same-length c = search needs
 
 returns-2 : tie.Need-returns-2
 returns-2 c =
-    let h = c .before .before .before .before .if2 .taken in
-    rw (shortest-short (c .before .before .before .before .before .before .before .before .before .args .n) h) (c .before .before .put-octet .ensures)
+    let at-put-octet = c .before .before in
+    let at-if2 = at-put-octet .before .before in
+    let at-start = at-if2 .before .before .before .before .before in
+    rw (shortest-short (at-start .args .n) (at-if2 .if2 .taken)) (at-put-octet .put-octet .ensures)
 
 add-put-octet : tie.Need-add-put-octet
-add-put-octet c = omega (arith, length-shortest (c .before .before .before .before .before .before .args .n))
+add-put-octet c =
+    let at-start = c .before .before .before .before .before .before in
+    omega (arith, length-shortest (at-start .args .n))
 
 cast-put-octet-2 : tie.Need-cast-put-octet-2
-cast-put-octet-2 c = omega (arith, length-shortest (c .before .before .before .before .before .before .args .n))
+cast-put-octet-2 c =
+    let at-start = c .before .before .before .before .before .before in
+    omega (arith, length-shortest (at-start .args .n))
 
 put-octet-requires-2 : tie.Need-put-octet-requires-2
 put-octet-requires-2 c κs = search needs
 
 sub-put-number : tie.Need-sub-put-number
 sub-put-number c =
-    omega (arith, length-shortest (c .before .before .before .before .before .before .before .before .before .before .args .n))
+    let at-start = c .before .before .before .before .before .before .before .before .before .before in
+    omega (arith, length-shortest (at-start .args .n))
 
 put-number-requires : tie.Need-put-number-requires
 put-number-requires c κs = search needs
@@ -69,12 +76,17 @@ same-length-2 c = search needs
 
 returns-3 : tie.Need-returns-3
 returns-3 c =
-    let s = c .before .before .before .before .before .before .before .before .before .before .before .before .before in
-    let k = c .before .before .before .before .before .before .before .before .before .before .before .length-octets in
-    let h = sym (c .before .before .before .before .before .before .before .before .before .before .overruns .ensures) ∙ c .before .before .before .before .before .before .before .before .before .if1 .left in
-    long (s .args .n) (k .result) (c .before .before .before .before .before .before .before .before .if2 .left) (k .ensures) (omega (arith, ltb-false))
-    (c .before .before .before .before .before .before .put-octet2 .ensures)
-    (c .before .before .put-number .ensures)
+    let at-put-number = c .before .before in
+    let at-put-octet2 = at-put-number .before .before .before .before in
+    let at-if2 = at-put-octet2 .before .before in
+    let at-if1 = at-if2 .before in
+    let at-overruns = at-if1 .before in
+    let at-length-octets = at-overruns .before in
+    let at-start = at-length-octets .before .before in
+    let size = at-length-octets .length-octets in
+    let h = sym (at-overruns .overruns .ensures) ∙ at-if1 .if1 .left in
+    long (at-start .args .n) (size .result) (at-if2 .if2 .left) (size .ensures) (omega (arith, ltb-false))
+    (at-put-octet2 .put-octet2 .ensures) (at-put-number .put-number .ensures)
 
 pub put-length-spec : {M : Type 1} → statement M
 put-length-spec =

@@ -1,21 +1,43 @@
--- Each sum is one channel's octets more.
-use mathlib.Core.Path.{ap, _∙_}
-use Prim.Native.Nat.{ℕ, _+_, _<_, _%_, _^_}
-use Rattle.octets.specs.Pick.{pick, both}
+-- Each sum is one channel's octets more: a block length is below 2 ^ 32 and a width at most 8.
+use mathlib.Core.Path.{_≡_, refl, ap, _∙_}
+use Prim.Native.Nat.{ℕ, _+_, _*_, _≤_, _<_, _%_, _^_}
+use native.Mathlib.Omega.{arith}
+use native.Mathlib.Nat.{mul-le-mul-left}
 use lib.Dec.{ltb}
-use Rattle.layout.specs.Measure.{Small}
+use Rattle.octets.specs.Pick.{pick, both}
+use Rattle.values.proofs.Laws.{width-le}
+use Rattle.settings.specs.declared.Settings.{Settings}
+use Rattle.layout.specs.Frame.{widthIn, blockOctets, channelAgrees, widthAgrees}
+use Rattle.layout.specs.Size.{groupSize}
 use borrow.Author.Needs.{needs}
 use Rattle.layout.proofs.Layout.more.Statement.{statement}
 use Rattle.layout.proofs.Layout.more.Tie as tie
 
+narrow : (c : Settings) (w : ℕ) → w ≡ widthIn c → c .block * w ≤ c .block * 8
+narrow c w e = mul-le-mul-left (c .block) (rw e (width-le (c .kind)))
+
 width-requires : tie.Need-width-requires
 width-requires c κs = search needs
 
-block-octets-requires : tie.Need-block-octets-requires
-block-octets-requires c κs = search needs
+cast-w : tie.Need-cast-w
+cast-w c =
+    let at-start = c .before in
+    omega (arith, c .width .ensures, width-le (at-start .args .c .kind))
 
-channel-agrees-requires : tie.Need-channel-agrees-requires
-channel-agrees-requires c κs = search needs
+cast-octets : tie.Need-cast-octets
+cast-octets c = search needs
+
+cast-octets-2 : tie.Need-cast-octets-2
+cast-octets-2 c = search needs
+
+mul-octets : tie.Need-mul-octets
+mul-octets c =
+    let at-width = c .before .before .before in
+    let at-start = at-width .before in
+    omega (arith, narrow (at-start .args .c) _ (at-width .width .ensures))
+
+widths-agree-requires : tie.Need-widths-agree-requires
+widths-agree-requires c κs = search needs
 
 agree-both-requires : tie.Need-agree-both-requires
 agree-both-requires c κs = search needs
@@ -32,21 +54,32 @@ group-size-requires c κs = search needs
 wrapping-add-u64-requires-2 : tie.Need-wrapping-add-u64-requires-2
 wrapping-add-u64-requires-2 c κs = search needs
 
-small : {n r : ℕ} → Small n r → n < 2 ^ 36
-small s = rw (s .value) at (s .below)
+few : (c : tie.After-struct-known) → blockOctets (c .before .before .before .before .args .c) < 2 ^ 36
+unfolding blockOctets
+few c = let x = c .before .before .before .before .args .c in omega (arith, narrow x (widthIn x) refl)
 
 returns : tie.Need-returns
+unfolding blockOctets channelAgrees
 returns c =
-    let l = c .before .before .before .before .before .before .before .before .args .self in
+    let at-group-size = c .before in
+    let at-added-below = at-group-size .before in
+    let at-wrapping-add-u64 = at-added-below .before in
+    let at-agree-both = at-wrapping-add-u64 .before in
+    let at-widths-agree = at-agree-both .before in
+    let at-struct-known = at-widths-agree .before in
+    let at-width = at-struct-known .before .before .before in
+    let at-start = at-width .before in
+    let x = at-start .args .c in
+    let l = at-start .args .self in
+    let w = at-width .width .ensures in
     record {
       value = λ k. record {
-        agree = (c .before .before .before .before .agree-both .ensures ∙ ap (both (l .agree)) (c .before .before .before .before .before .channel-agrees .ensures)) k;
-        octets = (c .before .before .before .wrapping-add-u64 .ensures ∙ ap (λ (n : ℕ). (l .octets + n) % 2 ^ 64) (c .before .before .before .before .before .before .block-octets .ensures .value)) k;
-        below = (c .before .before .added-below .ensures ∙ ap (λ (n : ℕ). pick (ltb (c .before .before .before .before .before .before .before .before .args .i) (c .before .before .before .before .before .before .before .before .args .channel)) ((l .below + n) % 2 ^ 64) (l .below)) (c .before .before .before .before .before .before .block-octets .ensures .value)) k;
-        groups = (c .wrapping-add-u642 .ensures ∙ ap (λ (n : ℕ). (l .groups + n) % 2 ^ 64) (c .before .group-size .ensures .value)) k;
+        agree = (at-agree-both .agree-both .ensures ∙ ap (both (l .agree)) (at-widths-agree .widths-agree .ensures ∙ ap (λ (n : ℕ). both (widthAgrees n (x .offset)) (widthAgrees n (x .null))) w)) k;
+        octets = (at-wrapping-add-u64 .wrapping-add-u64 .ensures ∙ ap (λ (n : ℕ). (l .octets + x .block * n) % 2 ^ 64) w) k;
+        below = (at-added-below .added-below .ensures ∙ ap (λ (n : ℕ). pick (ltb (at-start .args .i) (at-start .args .channel)) ((l .below + x .block * n) % 2 ^ 64) (l .below)) w) k;
+        groups = (c .wrapping-add-u642 .ensures ∙ ap (λ (n : ℕ). (l .groups + n) % 2 ^ 64) (at-group-size .group-size .ensures ∙ ap (λ (n : ℕ). groupSize (at-start .args .i) n (x .null)) w)) k;
       };
-      octets = small (c .before .before .before .before .before .before .block-octets .ensures);
-      groups = small (c .before .group-size .ensures);
+      octets = few at-struct-known;
     }
 
 pub more-spec : {M : Type 1} → statement M
@@ -54,8 +87,11 @@ more-spec =
     tie.close
     (tie.spec
     width-requires
-    block-octets-requires
-    channel-agrees-requires
+    cast-w
+    cast-octets
+    cast-octets-2
+    mul-octets
+    widths-agree-requires
     agree-both-requires
     wrapping-add-u64-requires
     added-below-requires
