@@ -1,6 +1,9 @@
 -- Laws of the one pass over a file.
 --     scanning-first, -on, -frame    before the first item, behind items that give no frame, behind a frame
 --     scanned-end, -refuses, -fault    the three ways out
+--     frame-carried, taken-..    a frame where the file's items lead: what the code computes of it is document 01's rule
+--     Records, Filling    the records that are laid down
+--     does-..    what an effect does to them and to what stands
 -- Assumes nothing.
 use mathlib.Core.Path.{_≡_, refl, sym, ap, _∙_}
 use mathlib.Core.Logic.{_⊎_, ⊎-elim}
