@@ -56,7 +56,7 @@ use Rattle.pass.specs.Scan.{zeroFrame, sizeOf, sizes, scannedIn, scanOf}
 use Rattle.pass.specs.declared.Asked.{Asked}
 use Rattle.pass.specs.declared.Checked.{Checked}
 use Rattle.pass.specs.declared.Scan.{Scan}
-use Rattle.pass.specs.Passing.{Reached, first, behind}
+use Rattle.pass.specs.Reached.{Reached, begin, behind}
 use Rattle.pass.proofs.Keeps.{Keeps, frames-kept, interpret-refuses, interpret-finished, interpret-fault, reached-verdict}
 use Rattle.pass.proofs.Steps.{meaning-steps, step-grown}
 use Rattle.pass.proofs.Bounds.{reached-bounded}
@@ -187,7 +187,7 @@ writing-first table c st r et ec es p =
       some = r .some;
       room = omega (arith, r .room, put-long p);
       met = [];
-      reached = first;
+      reached = begin;
       count = refl;
       put = record { next = p .next; stored = refl };
     }

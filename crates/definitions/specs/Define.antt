@@ -1,6 +1,6 @@
 -- A definition of an attribute (document 01, the table of "Attributes"): its lengths, its value, and what it asks for.
 use mathlib.Core.List.{List}
-use mathlib.Core.Bool.{Bool, true, false, not}
+use mathlib.Core.Bool.{Bool, true, not}
 use Prim.Native.Nat.{ℕ}
 use lib.Dec.{eqb, leb}
 use lib.IntN.{pos}

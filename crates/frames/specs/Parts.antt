@@ -1,7 +1,7 @@
 -- A frame of the canonical file (document 01, "The canonical file"), in the parts in which it is written.
 use mathlib.Core.List.{List, [], _∷_, _++_, map}
 use mathlib.Core.Bool.{Bool, true, false}
-use Prim.Native.Nat.{ℕ, _*_, min}
+use Prim.Native.Nat.{ℕ, min}
 use lib.Dec.{leb}
 use lib.ListN.{length, take}
 use lib.IntN.{ℤ}

@@ -6,7 +6,7 @@
 use mathlib.Core.Path.{_≡_, sym, ap, subst, _∙_}
 use mathlib.Core.List.{List, append-nil}
 use mathlib.Core.Bool.{false}
-use Prim.Native.Nat.{ℕ, _+_, _-_, _*_, _≤_, _<_, min}
+use Prim.Native.Nat.{ℕ, _+_, _-_, _*_, _≤_, _<_, min, _^_}
 use native.Mathlib.Omega.{arith}
 use lib.Dec.{eqb}
 use lib.ListN.{length, getD, take, set, replicate, length-set, length-replicate, getD-replicate}
@@ -33,7 +33,8 @@ use Rattle.stretch.specs.Stretch.{stretchOf}
 use Rattle.pass.specs.declared.Asked.{Asked}
 use Rattle.pass.specs.Verdict.{state}
 use Rattle.pass.specs.declared.Met.{Met}
-use Rattle.pass.specs.Passing.{Reached, Scanning, metWith}
+use Rattle.pass.specs.Reached.{Reached}
+use Rattle.pass.specs.Passing.{Scanning, metWith}
 use Rattle.layout.proofs.Laws.{Summing, summing-more}
 use Rattle.pass.proofs.Bounds.{channels-between}
 use Rattle.pass.proofs.Scans.{Records, Filling, shownBy, shown-full, scanning-on}

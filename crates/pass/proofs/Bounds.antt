@@ -25,7 +25,7 @@ use Rattle.layout.specs.Frame.{blockOctets, sequenceOctets}
 use Rattle.standing.specs.Standing.{framesLimit}
 use Rattle.framing.specs.Framing.{channelsOf}
 use Rattle.pass.specs.Verdict.{State, firstState, oneChanged, frameChannels}
-use Rattle.pass.specs.Passing.{Reached}
+use Rattle.pass.specs.Reached.{Reached}
 use Rattle.pass.proofs.Keeps.{reached-keeps}
 use Rattle.pass.proofs.Steps.{Step, passes, stands, resets, changes, sets, frames, meaning-steps}
 use Rattle.pass.proofs.Every.{Every, every-take}

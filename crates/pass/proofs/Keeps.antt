@@ -27,7 +27,7 @@ use Rattle.layout.specs.Frame.{Frame}
 use Rattle.effects.specs.Effects.{effectOf}
 use Rattle.standing.specs.Standing.{octetsLimit}
 use Rattle.pass.specs.Verdict.{State, firstState, Outcome, goes, refuses, carried, placeAt, Verdict, accepted, refused, afterItem, interpret, verdict}
-use Rattle.pass.specs.Passing.{Reached, first, behind}
+use Rattle.pass.specs.Reached.{Reached, begin, behind}
 
 -- What an item does.
 abbrev pub meaning : List ℕ → State → Item → Outcome
@@ -125,11 +125,11 @@ accepted-kept s I keeps p fs e = frames-kept s I keeps firstState firstCursor fs
 
 module _ (s : List ℕ) where
   pub reached-keeps : (I : State → Cursor → Type 0) → Keeps s I → I firstState firstCursor → {x : State} {c : Cursor} → Reached s x c → I x c
-  reached-keeps I keeps h first = h
+  reached-keeps I keeps h begin = h
   reached-keeps I keeps h (behind {x} {c} {i} {d} {y} r e g) = keeps x c i d y (reached-keeps I keeps h r) e g
 
-  reached-same : {x : State} {c : Cursor} → Reached s x c → interpret s x (itemsFrom s c) ≡ interpret s firstState (itemsFrom s firstCursor)
-  reached-same first = refl
+  pub reached-same : {x : State} {c : Cursor} → Reached s x c → interpret s x (itemsFrom s c) ≡ interpret s firstState (itemsFrom s firstCursor)
+  reached-same begin = refl
   reached-same (behind {x} {c} {i} {d} {y} r e g) =
       sym (interpret-goes s x i (itemsFrom s d) y g) ∙ ap (interpret s x) (sym (items-found s c i d e)) ∙ reached-same r
 

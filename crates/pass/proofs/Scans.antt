@@ -9,7 +9,7 @@ use mathlib.Core.Path.{_≡_, refl, sym, ap, _∙_}
 use mathlib.Core.Logic.{_⊎_, ⊎-elim}
 use mathlib.Core.List.{List, [], _∷_, _++_}
 use mathlib.Core.Bool.{Bool, not}
-use Prim.Native.Nat.{ℕ, _+_, _-_, _*_, _≤_, _<_, min}
+use Prim.Native.Nat.{ℕ, _+_, _-_, _*_, _≤_, _<_, min, _^_}
 use native.Mathlib.Nat.{add-zero, add-assoc, zero-add}
 use native.Mathlib.Omega.{arith}
 use native.Mathlib.Decide.{decLt}
@@ -57,7 +57,8 @@ use Rattle.framing.specs.AnyNumbers.{framedBy}
 use Rattle.framing.proofs.Framings.{framed-same}
 use Rattle.pass.specs.Verdict.{State, state, goes, refuses, oneChanged, frameAt, withFrame, carried, placeAt, accepted, refused, interpret, verdict}
 use Rattle.pass.specs.declared.Met.{Met}
-use Rattle.pass.specs.Passing.{Reached, first, behind, Scanning, noneMet, metScan, viewMet, metWith}
+use Rattle.pass.specs.Reached.{Reached, begin, behind}
+use Rattle.pass.specs.Passing.{Scanning, noneMet, metScan, viewMet, metWith}
 use Rattle.pass.proofs.Keeps.{interpret-refuses, reached-verdict}
 use Rattle.pass.proofs.Steps.{TakenBy, taken-found, waveform-found, waveform-short}
 use Rattle.pass.proofs.Bounds.{Bounded, reached-bounded, channels-between, octets-some}
@@ -73,7 +74,7 @@ scanning-first s q table c st h et ec es =
     record {
       long = h;
       met = [];
-      reached = first;
+      reached = begin;
       count = refl;
       kept = simp (le-ltb (q .frame) 0 (omega arith));
       sized = refl;

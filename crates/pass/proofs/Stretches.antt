@@ -43,7 +43,8 @@ use Rattle.stretch.specs.declared.Stretch.{Stretch}
 use Rattle.stretch.specs.Stretch.{Step, leaves, ends, steppedOver, stepOf, stretch, onward, runFrom, runOf, stretchOf}
 use Rattle.stretch.proofs.Leads.{Led, itemIn, step-led, next-short, value-ahead, extent-later}
 use Rattle.pass.specs.Verdict.{State, state, goes, oneChanged, carried}
-use Rattle.pass.specs.Passing.{Reached, behind, openedBy, beginsAt}
+use Rattle.pass.specs.Reached.{Reached, behind}
+use Rattle.pass.specs.Passing.{openedBy, beginsAt}
 use Rattle.pass.proofs.Keeps.{meaning}
 
 module _ (s : List ℕ) (w : Within) (little : Bool) (base : Settings) (X : Settings → State)

@@ -42,7 +42,8 @@ use Rattle.framing.specs.Framing.{channelsOf}
 use Rattle.framing.specs.AnyNumbers.{framedBy}
 use Rattle.pass.specs.Verdict.{state, goes, withFrame, carried, placeAt}
 use Rattle.pass.specs.declared.Met.{Met}
-use Rattle.pass.specs.Passing.{behind, Scanning, noneMet, metWith, Room}
+use Rattle.pass.specs.Reached.{behind}
+use Rattle.pass.specs.Passing.{Scanning, noneMet, metWith, Room}
 use Rattle.pass.specs.Scan.{refusedScan, scanOf}
 use Rattle.items.proofs.Walks.{next-later}
 use Rattle.layout.proofs.Laws.{Summing, summed-up}

@@ -1,3 +1,4 @@
 pub mod Verdict
 pub mod Scan
+pub mod Reached
 pub mod Passing

@@ -8,9 +8,7 @@ use lib.ListN.{length, getD}
 use Rattle.octets.specs.Pick.{pick}
 use Rattle.items.specs.declared.Item.{Item}
 use Rattle.items.specs.declared.Cursor.{Cursor}
-use Rattle.items.specs.declared.Next.{Next}
-use Rattle.items.specs.declared.Within.the-variants.{Root}
-use Rattle.items.specs.Walk.{nextOf, cursor, isInside}
+use Rattle.items.specs.Walk.{isInside}
 use Rattle.settings.specs.declared.Settings.{Settings}
 use Rattle.settings.specs.Settings.{channelLimit, defaultSettings}
 use Rattle.layout.specs.declared.Layout.{Layout}
@@ -18,7 +16,6 @@ use Rattle.layout.specs.Frame.{Frame}
 use Rattle.layout.specs.Size.{frameSize}
 use Rattle.standing.specs.declared.Standing.{Standing}
 use Rattle.standing.specs.Standing.{octetsLimit, framesLimit}
-use Rattle.effects.specs.Effects.{effectOf}
 use Rattle.framing.specs.Framing.{channelsOf}
 use Rattle.stretch.specs.Stretch.{steppedOver}
 use Rattle.pass.specs.declared.Asked.{Asked}
@@ -27,14 +24,9 @@ use Rattle.pass.specs.declared.Found.{Found}
 use Rattle.pass.specs.declared.Checked.{Checked}
 use Rattle.pass.specs.declared.Scan.{Scan}
 use Rattle.pass.specs.declared.Met.{Met}
-use Rattle.pass.specs.Verdict.{State, state, firstState, goes, carried}
+use Rattle.pass.specs.Verdict.{state}
 use Rattle.pass.specs.Scan.{foundIn, sizes}
-
--- A state and a cursor that the file's items lead to, from the first one on.
-pub data Reached (s : List ℕ) : State → Cursor → Type 0 where
-  first : Reached s firstState (cursor 0 Root)
-  behind : {x : State} {c : Cursor} {i : Item} {d : Cursor} {y : State}
-      → Reached s x c → nextOf s c ≡ Next.Found i d → carried s x (effectOf s (x .standing) i) ≡ goes y → Reached s y d
+use Rattle.pass.specs.Reached.{Reached}
 
 -- What is known where a pass stands before the item at a cursor: the items before it lead there, with the frames met.
 pub record Scanning (s : List ℕ) (q : Asked) (table : List Settings) (c : Cursor) (st : Standing) (m : Met) : Type 0 where

@@ -31,10 +31,11 @@ use Rattle.items.proofs.Walks.{items-found, items-refused}
 use Rattle.standing.specs.Standing.{octetsLimit}
 use Rattle.effects.specs.Effects.{valueAt, effectOf}
 use Rattle.pass.specs.Verdict.{State, Outcome, goes, refuses, firstState, carried, placeAt, refused, interpret, verdict}
-use Rattle.pass.proofs.Keeps.{meaning, firstCursor, items-first, interpret-goes, interpret-refuses, interpret-fault, verdict-law}
+use Rattle.pass.proofs.Keeps.{reached-same, meaning, firstCursor, items-first, interpret-goes, interpret-refuses, interpret-fault, verdict-law}
 use Rattle.pass.proofs.Bounds.{both-split}
 use Rattle.theorems.specs.Rows.{lengthOctets, lengthIn, valueIn, itemRows, endRows, rowsAt}
-use Rattle.theorems.specs.Refusing.{Reached, begin, taken, around, ahead, DueAt, Refusing, overLimit, stops}
+use Rattle.theorems.specs.Refusing.{around, ahead, DueAt, Refusing, overLimit, stops}
+use Rattle.pass.specs.Reached.{Reached, begin, behind}
 use Rattle.theorems.proofs.Due.{first, due-exactly, otherwise, first-append, due-numbered}
 use Rattle.theorems.proofs.HeadRows.{ReadPrimitive, ReadGroup, Reads, headRows, head-reads}
 use Rattle.theorems.proofs.FrameRows.{stopped}
@@ -134,10 +135,6 @@ module _ (s : List ℕ) where
     reached : Reached s state cursor
     given : answer s state (nextOf s cursor) ≡ some r
 
-  from-first : (x : State) (c : Cursor) → Reached s x c → interpret s firstState (itemsFrom s firstCursor) ≡ interpret s x (itemsFrom s c)
-  from-first _ _ begin = refl
-  from-first _ _ (taken x c i d y r e m) = from-first x c r ∙ ap (interpret s x) (items-found s c i d e) ∙ interpret-goes s x i (itemsFrom s d) y m
-
   stop-refused : (x : State) (c : Cursor) (r : Refusal) (n : Next) → nextOf s c ≡ n → answer s x n ≡ some r → interpret s x (itemsFrom s c) ≡ refused r
   stop-refused x c r (Next.Found i d) e a = ap (interpret s x) (items-found s c i d e) ∙ by (meaning s x i) refl a
     where
@@ -149,7 +146,7 @@ module _ (s : List ℕ) where
 
   refused-stops : (r : Refusal) → interpret s firstState (itemsFrom s firstCursor) ≡ refused r → Stopped r
   refused-stops r e =
-      verdict-law s (Reached s) (λ x c i d y p q m. taken x c i d y p q m)
+      verdict-law s (Reached s) (λ x c i d y p q m. behind p q m)
       (λ v. (q : Refusal) → v ≡ refused q → Stopped q)
       (λ x c p q f. let z : _≡_ {A = ℕ} 0 1 = cc in let w : ⊥ = omega arith in absurd w)
       (λ x c t p f q g. let h : t ≡ q = cc in record { state = x; cursor = c; reached = p; given = rw f (ap some h) })
@@ -180,7 +177,7 @@ module _ (s : List ℕ) where
   refusing-refused : (r : Refusal) → Refusing s r → verdict s ≡ refused r
   refusing-refused _ (overLimit h) = by-limit true (lt-ltb octetsLimit (length s) h)
   refusing-refused _ (stops x c r h p d) =
-      by-limit false (le-ltb octetsLimit (length s) h) ∙ from-first x c p ∙ stop-refused x c r (nextOf s c) refl (due-stops x c r .0 d)
+      by-limit false (le-ltb octetsLimit (length s) h) ∙ sym (reached-same s p) ∙ stop-refused x c r (nextOf s c) refl (due-stops x c r .0 d)
 
   -- A file is refused with a number at a place exactly when the tables of document 01 say so.
   pub refused-exactly : (r : Refusal) → (verdict s ≡ refused r) ↔ Refusing s r

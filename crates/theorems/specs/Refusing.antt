@@ -1,26 +1,16 @@
 -- When a file is refused, and with what (document 01, "What comes back when it is no").
-use mathlib.Core.Path.{_≡_}
 use mathlib.Core.List.{List}
 use Prim.Native.Nat.{ℕ, _≤_, _<_}
 use lib.ListN.{length}
 use Rattle.heads.specs.declared.Refusal.{Refusal}
 use Rattle.heads.specs.Refusals.{longFile}
-use Rattle.items.specs.declared.Item.{Item}
 use Rattle.items.specs.declared.Cursor.{Cursor}
-use Rattle.items.specs.declared.Next.the-variants.{Found}
 use Rattle.items.specs.declared.Within.{Within}
-use Rattle.items.specs.declared.Within.the-variants.{Root}
-use Rattle.items.specs.Walk.{refusal, cursor, standsIn, extent, nextOf}
+use Rattle.items.specs.Walk.{refusal, standsIn, extent}
 use Rattle.standing.specs.Standing.{octetsLimit}
-use Rattle.effects.specs.Effects.{effectOf}
-use Rattle.pass.specs.Verdict.{State, firstState, goes, carried}
+use Rattle.pass.specs.Verdict.{State}
+use Rattle.pass.specs.Reached.{Reached}
 use Rattle.theorems.specs.Rows.{Due, rowsAt}
-
--- Every item ahead of the cursor was taken, and together they lead to this state.
-pub data Reached (s : List ℕ) : State → Cursor → Type 0 where
-  begin : Reached s firstState (cursor 0 Root)
-  taken : (x : State) (c : Cursor) (i : Item) (d : Cursor) (y : State) →
-      Reached s x c → nextOf s c ≡ Found i d → carried s x (effectOf s (x .standing) i) ≡ goes y → Reached s y d
 
 -- What is around a cursor, and the octets ahead of it, up to the end of the file or of the definite group around it.
 abbrev pub around : Cursor → Within
