@@ -20,11 +20,12 @@ use Rattle.values.specs.declared.Bits.{Bits}
 use Rattle.settings.specs.declared.Settings.{Settings}
 use Rattle.settings.specs.Settings.{zeroSettings}
 use Rattle.layout.specs.Frame.{offsetBits, Frame, widthIn, channelIn, samplesOf, widthAgrees, channelAgrees, offsetOf, reported}
+use Rattle.laid.specs.Laid.{sampleBits}
 use Rattle.pass.specs.Verdict.{accepted, verdict}
 use Rattle.reader.proofs.Every.{Every}
 use Rattle.reader.proofs.Ordered.{Lies, every-lies}
 use Rattle.reader.proofs.Good.{GoodSettings, GoodFrame, both-split, number-first, agree-every, every-good}
-use Rattle.canonical.specs.Recording.{sampleBits, tabulate, recordedFrame, recording}
+use Rattle.canonical.specs.Recording.{tabulate, recordedFrame, recording}
 use Rattle.canonical.proofs.Good.{GoodReported, AllReported, GoodRecorded, AllRecorded}
 
 -- ---- lists by number

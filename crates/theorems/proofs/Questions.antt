@@ -181,7 +181,7 @@ pub record SampleAnswered (s : List ℕ) (fs : List Frame) (i c n : ℕ) : Type 
   pub frame : (sampleOf s i c n ≡ refusedAs noFrame 0) ↔ (length fs ≤ i)
   pub channel : (sampleOf s i c n ≡ refusedAs noChannel 0) ↔ ((i < length fs) × (length (frameAt fs i .channels) ≤ c))
   pub sample : (sampleOf s i c n ≡ refusedAs noSample 0) ↔ ((i < length fs) × (c < length (frameAt fs i .channels)) × (samplesOf c (frameAt fs i) ≤ n))
-  pub there : (x : FoundSample) → (sampleOf s i c n ≡ answered x) ↔ ((i < length fs) × (c < length (frameAt fs i .channels)) × (n < samplesOf c (frameAt fs i)) × (sampleIn s c n (frameAt fs i) ≡ x))
+  pub there : (x : FoundSample) → (sampleOf s i c n ≡ answered x) ↔ ((i < length fs) × (c < length (frameAt fs i .channels)) × (n < samplesOf c (frameAt fs i)) × (sampleIn c n (frameAt fs i) ≡ x))
   pub late : (number place : ℕ) → sampleOf s i c n ≡ refusedAs number place → (place ≡ 0) × ((number ≡ noFrame) ⊎ ((number ≡ noChannel) ⊎ (number ≡ noSample)))
 
 module _ (s : List ℕ) (fs : List Frame) (e : verdict s ≡ accepted fs) (i c : ℕ) where
@@ -210,15 +210,15 @@ module _ (s : List ℕ) (fs : List Frame) (e : verdict s ≡ accepted fs) (i c :
       }
 
   module _ (n : ℕ) where
-    sample-tested : Tested numberIn (sampleOf s i c n) (answered (sampleIn s c n (frameAt fs i))) (refusedAs noFrame 0) (refusedAs noChannel 0) (refusedAs noSample 0) i (length fs) c (length (frameAt fs i .channels)) n (samplesOf c (frameAt fs i))
+    sample-tested : Tested numberIn (sampleOf s i c n) (answered (sampleIn c n (frameAt fs i))) (refusedAs noFrame 0) (refusedAs noChannel 0) (refusedAs noSample 0) i (length fs) c (length (frameAt fs i .channels)) n (samplesOf c (frameAt fs i))
     unfolding sampleOf
     sample-tested =
-        rw (ap (askedSample (sampleIn s c n) i c n) e) (tested numberIn _ _ _ _ (omega arith) i (length fs) c (length (frameAt fs i .channels)) n (samplesOf c (frameAt fs i)))
+        rw (ap (askedSample (sampleIn c n) i c n) e) (tested numberIn _ _ _ _ (omega arith) i (length fs) c (length (frameAt fs i .channels)) n (samplesOf c (frameAt fs i)))
 
     sample-late : (number place : ℕ) → sampleOf s i c n ≡ refusedAs number place → (place ≡ 0) × ((number ≡ noFrame) ⊎ ((number ≡ noChannel) ⊎ (number ≡ noSample)))
     sample-late number place q = by-which (sample-tested .one)
       where
-        by-which : (sampleOf s i c n ≡ answered (sampleIn s c n (frameAt fs i))) ⊎ ((sampleOf s i c n ≡ refusedAs noFrame 0) ⊎ ((sampleOf s i c n ≡ refusedAs noChannel 0) ⊎ (sampleOf s i c n ≡ refusedAs noSample 0))) → (place ≡ 0) × ((number ≡ noFrame) ⊎ ((number ≡ noChannel) ⊎ (number ≡ noSample)))
+        by-which : (sampleOf s i c n ≡ answered (sampleIn c n (frameAt fs i))) ⊎ ((sampleOf s i c n ≡ refusedAs noFrame 0) ⊎ ((sampleOf s i c n ≡ refusedAs noChannel 0) ⊎ (sampleOf s i c n ≡ refusedAs noSample 0))) → (place ≡ 0) × ((number ≡ noFrame) ⊎ ((number ≡ noChannel) ⊎ (number ≡ noSample)))
         by-which (inl h) = let z : _≡_ {A = ℕ} 0 1 = cc in let w : ⊥ = omega arith in absurd w
         by-which (inr (inl h)) = (cc, inl cc)
         by-which (inr (inr (inl h))) = (cc, inr (inl cc))
