@@ -2,16 +2,18 @@
 //
 // Promises: `Layout::more`, called for one channel after the other, sums up whether offsets and nulls have their sample widths, the octets of
 // a sequence, those below a channel, and the octets that the channels' groups take in the canonical file; `layout_of` does so for a table.
-// `frame_size` answers how many octets a frame takes there, and `offset_bits` a channel's offset, one that is not defined too.
+// `frame_size` answers how many octets a frame takes there, `offset_bits` a channel's offset, one that is not defined too, and `reported` its
+// attributes with that offset.
 // Read first: specs/Frame.antt (frames and the place of a sample), specs/Size.antt.
 ghost use mathlib.Core.Path.{_≡_};
 ghost use Prim.Native.Nat.{_+_, _%_, _^_, _≤_, _<_, min};
 ghost use lib.Dec.{ltb};
 ghost use lib.ListN.{take};
 ghost use Rattle.octets.specs.Pick.{pick, both};
-ghost use Rattle.layout.specs.Frame.{widthIn, blockOctets, offsetBits, widthAgrees, channelAgrees};
+ghost use Rattle.layout.specs.Frame.{widthIn, blockOctets, offsetBits, reported, widthAgrees, channelAgrees};
 ghost use Rattle.layout.specs.Size.{channelSize, nullSize, groupSize, lengthSize, sequencesSize, frameSize};
 ghost use Rattle.layout.specs.Measure.{noLayout, layoutOf, Small, More};
+use settings::Change;
 use settings::Settings;
 use values::Bits;
 
@@ -63,6 +65,13 @@ pub fn offset_bits(c: Settings) -> Bits
         };
     }
     offset
+}
+
+// The attributes of a channel as they are reported and recorded.
+pub fn reported(c: Settings) -> Settings
+    ensures { λ r. ⌜ r ≡ reported c ⌝ }
+{
+    settings::apply(c, Change::Offset(offset_bits(c)))
 }
 
 // A shortest channel number's octets.

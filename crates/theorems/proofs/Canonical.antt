@@ -1,5 +1,5 @@
 -- The canonical files of recordings.
---     recordingOf, recording-is    the recording that a file holds
+--     recording-is       the recording that a file holds
 --     canonical-read     the canonical file of an accepted file is accepted, and holds the same recording
 --     writes             the writer answers 23 exactly when the canonical file does not fit, and else its length
 --     wrote-out          what mfer_canonical does, write_canonical does
@@ -10,7 +10,7 @@
 use Prim.Native.Nat.{ℕ, _≤_, _<_}
 use mathlib.Core.Path.{_≡_, refl, sym, ap, _∙_}
 use mathlib.Core.Logic.{_↔_, _⊎_, inl, inr}
-use mathlib.Core.List.{List, [], _++_}
+use mathlib.Core.List.{List, _++_}
 use mathlib.Core.Bool.{true, false}
 use native.Mathlib.Omega.{arith}
 use native.Mathlib.Decide.{decLe, decLt}
@@ -27,7 +27,7 @@ use Rattle.pass.specs.Verdict.{Verdict, accepted, refused, verdict, checkOf}
 use Rattle.reader.proofs.Ordered.{accepted-few}
 use Rattle.canonical.specs.Recording.{Recorded, recordedFrame, recording}
 use Rattle.canonical.specs.Canonical.{canonical}
-use Rattle.canonical.specs.Write.{fits, outputIn, writtenOf, leftOf, Wrote}
+use Rattle.canonical.specs.Write.{framesIn, recordingOf, fits, outputIn, writtenOf, leftOf, Wrote}
 use Rattle.canonical.proofs.ReadBack.{Reads, read-back}
 use Rattle.canonical.proofs.Accepted.{accepted-recorded}
 use Rattle.stores.specs.Number.{Octets}
@@ -36,18 +36,10 @@ use Rattle.theorems.proofs.Questions.{check-accepted}
 use Rattle.theorems.proofs.EntryPoints.{refused-answers}
 use Rattle.theorems.proofs.Exactly.{refused-numbered}
 
--- The recording that a verdict gives; a refused file has none.
-unfoldable pub recordingIn : Verdict → List Recorded
-recordingIn (accepted fs) = recording fs
-recordingIn (refused r) = []
-
--- The recording that a file holds.
-unfoldable pub recordingOf : List ℕ → List Recorded
-recordingOf s = recordingIn (verdict s)
-
+-- The recording that an accepted file holds.
 pub recording-is : (s : List ℕ) (fs : List Frame) → verdict s ≡ accepted fs → recordingOf s ≡ recording fs
-unfolding recordingOf recordingIn
-recording-is s fs e = ap recordingIn e
+unfolding framesIn
+recording-is s fs e = ap (λ (v : Verdict). recording (framesIn v)) e
 
 -- ---- reading
 
