@@ -1,5 +1,5 @@
 -- The canonical files of recordings.
---     recording-is       the recording that a file holds
+--     recording-is, recording-long    the recording that a file holds
 --     canonical-read     the canonical file of an accepted file is accepted, and holds the same recording
 --     writes             the writer answers 23 exactly when the canonical file does not fit, and else its length
 --     wrote-out          what mfer_canonical does, write_canonical does
@@ -41,6 +41,11 @@ pub recording-is : (s : List ℕ) (fs : List Frame) → verdict s ≡ accepted f
 unfolding framesIn
 recording-is s fs e = ap (λ (v : Verdict). recording (framesIn v)) e
 
+-- It has as many frames.
+pub recording-long : (fs : List Frame) → length (recording fs) ≡ length fs
+unfolding recording
+recording-long fs = length-map fs recordedFrame
+
 -- ---- reading
 
 -- A file holds one recording.
@@ -48,10 +53,6 @@ reads-one : (s : List ℕ) (x y : List Recorded) → Reads s x → Reads s y →
 reads-one s x y a b =
     let f : a .frames ≡ b .frames = cc (a .is, b .is) in
     sym (a .recorded) ∙ ap recording f ∙ b .recorded
-
-recording-long : (fs : List Frame) → length (recording fs) ≡ length fs
-unfolding recording
-recording-long fs = length-map fs recordedFrame
 
 -- Past its end a list of octets is read as 0.
 octets-all : (s : List ℕ) → Octets s → (i : ℕ) → getD s i 0 < 256

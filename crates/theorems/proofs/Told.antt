@@ -28,7 +28,7 @@ use Rattle.canonical.specs.Write.{recordingOf}
 use Rattle.canonical.proofs.Accepted.{tabulate-length, tabulate-at, map-at}
 use Rattle.theorems.specs.Told.{zeroRecorded, frameRecorded, attributesRecorded, samplesRecorded, said, channelSaid, channelTold, attributesTold, bitsTold}
 use Rattle.theorems.proofs.Questions.{frameNumber}
-use Rattle.theorems.proofs.Canonical.{recording-is}
+use Rattle.theorems.proofs.Canonical.{recording-is, recording-long}
 
 -- The check and the questions answer what the recording of the file says, refusals too.
 pub record RecordingTold (s : List ℕ) : Type 0 where
@@ -43,6 +43,7 @@ under : {A : Type 0} (b : Bool) (x y z : A) → (b ≡ true → x ≡ y) → pic
 under true x y z h = h refl
 under false x y z h = refl
 
+-- The same answer, taken on under a test.
 map-pick : {A B : Type 0} (g : A → B) (b : Bool) (x y : Answer A) → mapAnswer g (pick b x y) ≡ pick b (mapAnswer g x) (mapAnswer g y)
 map-pick g true x y = refl
 map-pick g false x y = refl
@@ -60,6 +61,7 @@ module _ (f : Frame) where
       ∙ ap (λ (k : ℕ). pick (ltb c k) (g (recordedFrame f)) (refusedAs noChannel 0)) (sym channels-recorded)
 
   module _ (c : ℕ) (h : c < length (f .channels)) where
+    -- The attributes and the samples of a channel.
     attributes-recorded : attributesIn c f ≡ attributesRecorded c (recordedFrame f)
     unfolding attributesIn recordedFrame
     attributes-recorded = rw (length-map, map-at reported (f .channels) c zeroSettings zeroSettings h)
@@ -82,19 +84,20 @@ frame-shaped f h =
 -- ---- an accepted file
 
 module _ (s : List ℕ) (fs : List Frame) (e : verdict s ≡ accepted fs) where
-  recording-long : length (recordingOf s) ≡ length fs
-  unfolding recording
-  recording-long = ap length (recording-is s fs e) ∙ length-map fs recordedFrame
+  as-long : length (recordingOf s) ≡ length fs
+  as-long = ap length (recording-is s fs e) ∙ recording-long fs
 
+  -- The entry of a frame.
   entry-is : (i : ℕ) → i < length fs → frameRecorded (recordingOf s) i ≡ recordedFrame (frameNumber fs i)
   unfolding recording
   entry-is i h = ap (λ (rs : List Recorded). frameRecorded rs i) (recording-is s fs e) ∙ map-at recordedFrame fs i _ _ h
 
-  -- The same for a frame that the question names.
-  frame-told : {A : Type 0} (i c : ℕ) (x : Answer A) (g : Recorded → Answer A) → (c < length (frameNumber fs i .channels) → x ≡ g (recordedFrame (frameNumber fs i)))
+  -- What is asked of a channel of the file and of its recording, where the answers agree.
+  frame-told : {A : Type 0} (i c : ℕ) (x : Answer A) (g : Recorded → Answer A)
+      → (c < length (frameNumber fs i .channels) → x ≡ g (recordedFrame (frameNumber fs i)))
       → pick (ltb i (length fs)) (pick (ltb c (length (frameNumber fs i .channels))) x (refusedAs noChannel 0)) (refusedAs noFrame 0) ≡ channelTold g (recordingOf s) i c
   frame-told i c x g h =
-      rw recording-long (under (ltb i (length fs)) _ _ _ (λ t. rw (entry-is i (ltb-true i (length fs) t)) (channel-recorded (frameNumber fs i) c x g h)))
+      rw as-long (under (ltb i (length fs)) _ _ _ (λ t. rw (entry-is i (ltb-true i (length fs) t)) (channel-recorded (frameNumber fs i) c x g h)))
 
   attributes-told : (i c : ℕ) → attributesOf s i c ≡ attributesTold (recordingOf s) i c
   unfolding attributesOf attributesTold
@@ -114,18 +117,20 @@ module _ (s : List ℕ) (fs : List Frame) (e : verdict s ≡ accepted fs) where
 
   count-told : checkOf s ≡ answered (length (recordingOf s))
   unfolding checkOf checkedAs
-  count-told = ap checkedAs e ∙ ap answered (sym recording-long)
+  count-told = ap checkedAs e ∙ ap answered (sym as-long)
 
   pub recording-told : RecordingTold s
   recording-told = record { count = count-told; attributes = attributes-told; bits = bits-told }
 
+  -- Each entry has a channel, and samples for each channel.
   shaped : (i : ℕ) → i < length (recordingOf s) → Shaped (frameRecorded (recordingOf s) i)
   shaped i h =
-      let k : i < length fs = omega (arith, recording-long) in
+      let k : i < length fs = omega (arith, as-long) in
       rw (entry-is i k) (frame-shaped (frameNumber fs i) (accepted-lies s fs e i k .some))
 
 -- ---- equal recordings
 
+-- What a list says inside it, and past its end.
 said-there : (a : List ℕ) (n : ℕ) → n < length a → said a n ≡ answered (getD a n 0)
 said-there a n h = rw (lt-ltb n (length a) h)
 
