@@ -1,6 +1,6 @@
 -- What reading many samples answers, over the place of the first.
 --     Room, seen-blocks, block-some, seen-inside    the channel's samples lie in the file, in blocks
---     bits-seen, seen-bits            the bits at a place that was found; the samples of the blocks are those of the channel
+--     seen-bits       the samples of the blocks are those of the channel
 --     read-samples, read-refused, kept, filled    the answer and the buffer
 -- Assumes nothing.
 use mathlib.Core.Path.{_≡_, refl, sym, ap, _∙_}
@@ -9,28 +9,29 @@ use mathlib.Core.List.{List}
 use Prim.Native.Nat.{ℕ, zero, suc, _+_, _-_, _*_, _/_, _%_, _≤_, _<_, min}
 use native.Mathlib.Nat.{zero-mul, zero-add, add-mul, mod-lt, div-add-mod', mul-add-div-right, mul-add-mod-self-right}
 use native.Mathlib.Omega.{arith}
-use borrow.Author.Tests.{lt-ltb}
-use lib.ListN.{length, getD, take, drop}
+use lib.ListN.{length, getD}
 use lib.Seq.{sets}
-use Rattle.octets.specs.Number.{numberOf}
 use Rattle.stores.proofs.Stores.{sets-front}
-use Rattle.heads.specs.Answer.{Answer, answered, refusedAs, leftBy}
+use Rattle.heads.specs.declared.Refusal.{Refusal}
+use Rattle.heads.specs.Answer.{Answer, answered, refusedAs, refusedBy, leftBy}
 use Rattle.values.specs.Sample.{widthOf}
 use Rattle.values.proofs.Laws.{width-cases}
-use Rattle.layout.specs.Frame.{Frame, widthIn, blockOctets, sequenceOctets, channelIn, samplesOf, offsetOf, placeOf}
+use Rattle.layout.specs.Frame.{widthIn, blockOctets, sequenceOctets, channelIn, samplesOf, placeOf}
+use Rattle.laid.specs.Laid.{sampleBits}
 use Rattle.laid.proofs.Places.{row-fits, below-fits, offset-inside}
 use Rattle.pass.specs.declared.View.{View}
 use Rattle.pass.specs.Verdict.{verdict}
 use Rattle.pass.specs.Scan.{viewOf}
-use Rattle.reader.specs.Answer.{placeSeen, placedOf}
-use Rattle.reader.proofs.Answers.{Located, PlacedAt, countSeen, frameIn, settings-seen, count-seen, place-is}
+use Rattle.reader.specs.declared.Placed.{Placed}
+use Rattle.reader.specs.Answer.{placedSays, placeSeen, placedOf}
+use Rattle.reader.proofs.Answers.{Located, PlacedAt, countSeen, frameIn, settings-seen, count-seen, place-is, bits-seen}
 use Rattle.reader.proofs.Answers as answers
 use Rattle.reader.proofs.Order.{sample-found, sample-refused}
 use Rattle.pass.proofs.Every.{every-at}
 use Rattle.reader.proofs.Good.{GoodSettings, accepted-good}
 use Rattle.reader.proofs.Ordered.{accepted-lies, accepted-small}
 use Rattle.settings.specs.Settings.{zeroSettings}
-use Rattle.bulk.specs.Samples.{bitsAt, bitsFrom, readOf}
+use Rattle.bulk.specs.Samples.{bitsFrom, readOf}
 use Rattle.bulk.specs.Walked.{blocked, Wide, InBlocks}
 use Rattle.bulk.proofs.Walks.{bits-same}
 
@@ -72,16 +73,6 @@ module _ {s : List ℕ} {frame channel : ℕ} {v : View} (l : Located s frame ch
   kind-seen o =
       let g = accepted-good s o (l .frames) (l .verdictIs) frame (l .frameIn) in
       rw (settings-seen l) (every-at GoodSettings (frameIn l .channels) (g .channels) zeroSettings channel (l .channelIs) .kind)
-
--- The bits of the sample at the place that the view gives.
-view-bits : (s : List ℕ) (channel n : ℕ) (f : Frame) → channel < length (f .channels) → numberOf (viewOf channel f .little) (take (widthIn (viewOf channel f .settings)) (drop (placeSeen (viewOf channel f) n) s)) ≡ bitsAt s channel f n
-unfolding viewOf placeSeen placeOf offsetOf bitsAt
-view-bits s channel n f h = simp (lt-ltb channel (length (f .channels)) h)
-
-pub bits-seen : {s : List ℕ} {frame channel : ℕ} {v : View} (l : Located s frame channel v) (n : ℕ) → numberOf (v .little) (take (widthIn (v .settings)) (drop (placeSeen v n) s)) ≡ bitsAt s channel (frameIn l) n
-bits-seen {s} {frame} {channel} l n =
-    ap (λ (w : View). numberOf (w .little) (take (widthIn (w .settings)) (drop (placeSeen w n) s))) (l .view)
-    ∙ view-bits s channel n (frameIn l) (l .channelIs)
 
 -- The widths of the data types.
 pub width-wide : (k : ℕ) → k ≤ 8 → Wide (widthOf k)
@@ -131,26 +122,26 @@ module _ {s : List ℕ} {frame channel first p : ℕ} {v : View} (m : PlacedAt s
         }
 
     -- The samples of the blocks are those of the channel.
-    pub seen-bits : (n : ℕ) → bitsFrom (blocked (v .little) w s (p - first % v .settings .block * w) (v .settings .block) (v .octets)) (first % v .settings .block) n ≡ bitsFrom (bitsAt s channel (frameIn (m .channelAt))) first n
+    pub seen-bits : (n : ℕ) → n ≤ countSeen v - first → bitsFrom (blocked (v .little) w s (p - first % v .settings .block * w) (v .settings .block) (v .octets)) (first % v .settings .block) n ≡ bitsFrom (sampleBits (frameIn (m .channelAt)) channel) first n
     unfolding blocked
-    seen-bits n =
-        bits-same (blocked (v .little) w s (p - first % v .settings .block * w) (v .settings .block) (v .octets)) (bitsAt s channel (frameIn (m .channelAt))) (first % v .settings .block) first n
-        (λ j k. rw (walked j, e) (bits-seen (m .channelAt) (first + j)))
+    seen-bits n h =
+        bits-same (blocked (v .little) w s (p - first % v .settings .block * w) (v .settings .block) (v .octets)) (sampleBits (frameIn (m .channelAt)) channel) (first % v .settings .block) first n
+        (λ j k. rw (walked j, e) (bits-seen (m .channelAt) (omega (arith, m .number))))
 
 -- ---- the answer and the buffer
 
 module _ (s : List ℕ) (frame channel first room : ℕ) where
-  pub read-samples : {p n : ℕ} {v : View} (m : PlacedAt s frame channel first p v) → n ≡ min room (countSeen v - first) → answered (bitsFrom (bitsAt s channel (frameIn (m .channelAt))) first n) ≡ readOf s frame channel first room
+  pub read-samples : {p n : ℕ} {v : View} (m : PlacedAt s frame channel first p v) → n ≡ min room (countSeen v - first) → answered (bitsFrom (sampleBits (frameIn (m .channelAt)) channel) first n) ≡ readOf s frame channel first room
   unfolding readOf
   read-samples m e =
       let l = m .channelAt in
       let c = count-seen l in
-      ap (λ (k : ℕ). answered (bitsFrom (bitsAt s channel (frameIn l)) first k)) (e ∙ ap (λ (k : ℕ). min room (k - first)) c)
+      ap (λ (k : ℕ). answered (bitsFrom (sampleBits (frameIn l) channel) first k)) (e ∙ ap (λ (k : ℕ). min room (k - first)) c)
       ∙ sym (sample-found frame channel (l .verdictIs) (l .frameIn) (l .channelIs) _ (omega (arith, m .number)))
 
-  pub read-refused : {number place : ℕ} → refusedAs number place ≡ placedOf s frame channel first → refusedAs number place ≡ readOf s frame channel first room
+  pub read-refused : {r : Placed} {x : Refusal} → placedSays r ≡ placedOf s frame channel first → r ≡ Placed.Refused x → refusedBy x ≡ readOf s frame channel first room
   unfolding placedOf readOf
-  read-refused e = sample-refused _ _ frame channel first (verdict s) e
+  read-refused e f = sample-refused _ _ frame channel first (verdict s) (ap placedSays (sym f) ∙ e)
 
 -- The buffer, and how many samples are answered, by what is read.
 module _ {a : Answer (List ℕ)} (out : List ℕ) where

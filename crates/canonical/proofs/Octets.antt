@@ -10,15 +10,15 @@ use mathlib.Core.Bool.{Bool, true, false}
 use native.Mathlib.Omega.{arith}
 use lib.ListN.{length, getD, take, drop, length-append, length-take, length-drop}
 use Rattle.octets.specs.Pick.{pick}
-use Rattle.octets.specs.Number.{littleOf, numberOf}
+use Rattle.octets.specs.Number.{Octets, littleOf, numberOf}
 use Rattle.octets.proofs.Laws.{take-octets, drop-octets}
 use Rattle.stores.specs.Number.{be}
-use Rattle.stores.proofs.Number.{Octets, octets-back}
+use Rattle.stores.proofs.Number.{octets-back}
 use Rattle.settings.specs.declared.Settings.{Settings}
 use Rattle.settings.specs.Settings.{zeroSettings}
 use Rattle.layout.specs.Frame.{Frame, widthIn, blockOctets, sequenceOctets, channelIn, samplesOf, offsetOf, reported, samplesOctets, octetsSampled}
 use Rattle.layout.specs.Size.{frameSize}
-use Rattle.laid.specs.Laid.{Named, sequence, laidFrom, laid, sampleIn}
+use Rattle.laid.specs.Laid.{Named, sequence, laidFrom, laid, sampleOctets, sampleBits}
 use Rattle.laid.specs.Turned.{turnedAll}
 use Rattle.laid.proofs.Places.{offset-inside}
 use Rattle.laid.proofs.Laid.{laid-same, laid-self}
@@ -79,16 +79,16 @@ number-written true w v e o = rw (← e) (be-little v o)
 number-written false w v e o = rw (← e) (octets-back v o)
 
 module _ (s : List ℕ) (f : Frame) (l : Lies s f) (octets : (i : ℕ) → getD (f .waveform) i 0 < 256) where
-  sample-octets : (c n : ℕ) → Octets (sampleIn (f .channels) (f .waveform) c n)
+  sample-octets : (c n : ℕ) → Octets (sampleOctets (f .channels) (f .waveform) c n)
   sample-octets c n i h =
       let o = offsetOf (f .channels) c n in
       take-octets (widthIn (channelIn c (f .channels))) (drop o (f .waveform)) (drop-octets o (f .waveform) octets) i
 
-  sample-long : (c n : ℕ) → Named (f .channels) (f .sequences) c n → length (sampleIn (f .channels) (f .waveform) c n) ≡ widthIn (channelIn c (f .channels))
+  sample-long : (c n : ℕ) → Named (f .channels) (f .sequences) c n → length (sampleOctets (f .channels) (f .waveform) c n) ≡ widthIn (channelIn c (f .channels))
   sample-long c n h = simp (length-take, length-drop) (omega (arith, offset-inside h, l .fits))
 
   -- A sample's octets in the canonical file are those of the waveform, highest first.
-  sample-written : (c n : ℕ) → Named (f .channels) (f .sequences) c n → be (widthIn (channelIn c (map reported (f .channels)))) (getD (getD (recordedFrame f .samples) c []) n 0) ≡ highestFirst (f .little) (sampleIn (f .channels) (f .waveform) c n)
+  sample-written : (c n : ℕ) → Named (f .channels) (f .sequences) c n → be (widthIn (channelIn c (map reported (f .channels)))) (getD (getD (recordedFrame f .samples) c []) n 0) ≡ highestFirst (f .little) (sampleOctets (f .channels) (f .waveform) c n)
   unfolding recordedFrame samplesOf reported sampleBits
   sample-written c n h =
       rw (
@@ -96,9 +96,9 @@ module _ (s : List ℕ) (f : Frame) (l : Lies s f) (octets : (i : ℕ) → getD 
         tabulate-at (length (f .channels)) (λ k. tabulate (samplesOf k f) (sampleBits f k)) c [] (h .channel),
         tabulate-at (samplesOf c f) (sampleBits f c) n 0 (h .number),
       )
-      (number-written (f .little) _ (sampleIn (f .channels) (f .waveform) c n) (sample-long c n h) (sample-octets c n))
+      (number-written (f .little) _ (sampleOctets (f .channels) (f .waveform) c n) (sample-long c n h) (sample-octets c n))
 
-  waveform-written : waveformOf (recordedFrame f) ≡ laid (λ c n. highestFirst (f .little) (sampleIn (f .channels) (f .waveform) c n)) (f .channels) (f .sequences)
+  waveform-written : waveformOf (recordedFrame f) ≡ laid (λ c n. highestFirst (f .little) (sampleOctets (f .channels) (f .waveform) c n)) (f .channels) (f .sequences)
   unfolding waveformOf recordedFrame
   waveform-written = laid-reported _ (f .channels) (f .sequences) ∙ laid-same _ _ (f .channels) (f .sequences) sample-written
 

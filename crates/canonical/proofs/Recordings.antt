@@ -20,10 +20,10 @@ use Rattle.stores.proofs.Number.{number-back}
 use Rattle.values.specs.declared.Bits.{Bits}
 use Rattle.settings.specs.declared.Settings.{Settings}
 use Rattle.layout.specs.Frame.{offsetBits, Frame, widthIn, blockOctets, sequenceOctets, widthAgrees, channelAgrees, allAgree, channelIn, samplesOf, reported, samplesOctets}
-use Rattle.laid.specs.Laid.{Named}
+use Rattle.laid.specs.Laid.{Named, sampleBits}
 use Rattle.laid.proofs.Laid.{laid-length, laid-at}
 use Rattle.framing.specs.Framing.{sequencesOf}
-use Rattle.canonical.specs.Recording.{Recorded, sampleBits, tabulate, recordedFrame}
+use Rattle.canonical.specs.Recording.{Recorded, tabulate, recordedFrame}
 use Rattle.canonical.specs.Canonical.{waveformOf}
 use Rattle.canonical.proofs.Good.{GoodReported, AllReported, GoodRecorded}
 use Rattle.canonical.proofs.Effects.{width-good}

@@ -3,10 +3,9 @@ use mathlib.Core.List.{List, [], _∷_, map}
 use Prim.Native.Nat.{ℕ, zero, suc}
 use lib.IntN.{ℤ}
 use lib.ListN.{length}
-use Rattle.octets.specs.Number.{numberOf}
 use Rattle.settings.specs.declared.Settings.{Settings}
 use Rattle.layout.specs.Frame.{Frame, samplesOf, reported}
-use Rattle.laid.specs.Laid.{sampleIn}
+use Rattle.laid.specs.Laid.{sampleBits}
 
 -- A frame of a recording: start pointer and sequences; the channels' attributes, as many as the channel count; and for each channel the bits
 -- of its samples by number.
@@ -15,10 +14,6 @@ pub record Recorded : Type 0 where
   pub sequences : ℕ
   pub channels : List Settings
   pub samples : List (List ℕ)
-
--- The bits of a sample, taken highest octet first, by the byte order that stands at the waveform.
-unfoldable pub sampleBits : Frame → ℕ → ℕ → ℕ
-sampleBits f channel n = numberOf (f .little) (sampleIn (f .channels) (f .waveform) channel n)
 
 -- The values of g at 0 to k - 1.
 unfoldable pub tabulate : {A : Type 0} → ℕ → (ℕ → A) → List A

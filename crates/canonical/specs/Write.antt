@@ -5,16 +5,16 @@ use Prim.Native.Nat.{ℕ, _+_, _≤_}
 use mathlib.Core.Path.{_≡_}
 use lib.Dec.{leb}
 use lib.ListN.{length}
+use Rattle.octets.specs.Number.{Octets}
 use Rattle.octets.specs.Pick.{pick, both}
 use Rattle.heads.specs.Refusals.{noRoom}
 use Rattle.heads.specs.Answer.{Answer, answered, refusedAs, refusedBy, mapAnswer, leftBy}
-use Rattle.stores.specs.Number.{Octets}
 use Rattle.layout.specs.Frame.{Frame}
 use Rattle.standing.specs.Standing.{octetsLimit}
 use Rattle.pass.specs.Scan.{sizes}
 use Rattle.pass.specs.Verdict.{Verdict, accepted, refused, verdict}
 use Rattle.canonical.specs.declared.Written.{Written}
-use Rattle.canonical.specs.Recording.{recording}
+use Rattle.canonical.specs.Recording.{Recorded, recording}
 use Rattle.canonical.specs.Canonical.{canonical}
 
 -- The frames of an accepted file; for a refused one none.
@@ -22,9 +22,13 @@ unfoldable pub framesIn : Verdict → List Frame
 framesIn (accepted fs) = fs
 framesIn (refused r) = []
 
+-- The recording that a file holds; a refused one has no frames.
+abbrev pub recordingOf : List ℕ → List Recorded
+recordingOf s = recording (framesIn (verdict s))
+
 -- The canonical file of an accepted file; for a refused one no octets.
 unfoldable pub canonicalOf : List ℕ → List ℕ
-canonicalOf s = canonical (recording (framesIn (verdict s)))
+canonicalOf s = canonical (recordingOf s)
 
 -- The canonical file is no longer than the output buffer, nor than 15's limit.
 unfoldable pub fits : List ℕ → List ℕ → Bool

@@ -14,7 +14,7 @@ use lib.ListN.{length, take, drop, length-append}
 use lib.Seq.{take-at, drop-at, drop-drop, take-add}
 use Rattle.settings.specs.declared.Settings.{Settings}
 use Rattle.layout.specs.Frame.{widthIn, blockOctets, sequenceOctets, channelIn, offsetOf, samplesOctets}
-use Rattle.laid.specs.Laid.{Named, block, sequence, laidFrom, laid, sampleIn}
+use Rattle.laid.specs.Laid.{Named, block, sequence, laidFrom, laid, sampleOctets}
 use Rattle.laid.proofs.Each.{UpEach, SequenceEach, Each, up-each, at-up, up-map, each, at-each}
 
 -- The sequences are laid out as the samples of a block are.
@@ -88,7 +88,7 @@ module _ (g : ℕ → ℕ → List ℕ) (cs : List Settings) (S : ℕ) (sized : 
       up-each (SequenceEach (λ c n s p. Stands x p (g c n)) 0 cs) (sequenceOctets cs) 0 0 S
       (λ q h. sequence-stands x g 0 cs _ _ (at-up _ (sequenceOctets cs) 0 0 S each-sized q h) (at-up _ (sequenceOctets cs) 0 0 S b q h))
 
-  pub laid-at : (c n : ℕ) → Named cs S c n → sampleIn cs (laid g cs S) c n ≡ g c n
+  pub laid-at : (c n : ℕ) → Named cs S c n → sampleOctets cs (laid g cs S) c n ≡ g c n
   laid-at c n h =
       let a = at-each (λ c n s p. Stands (laid g cs S) p (g c n)) cs S each-stands c n h in
       rw (a .1) (take-at (g c n) (a .0) (widthIn (channelIn c cs)) (sized c n h))
@@ -154,7 +154,7 @@ steps-in-take [] x = refl
 steps-in-take (s ∷ cs) x =
     rw (take-add, steps-take (λ y. take (widthIn s) y) (widthIn s) (s .block) x (λ y. refl), steps-in-take cs (drop (s .block * widthIn s) x))
 
-pub laid-self : (cs : List Settings) (S : ℕ) (x : List ℕ) → laid (sampleIn cs x) cs S ≡ take (samplesOctets cs S) x
+pub laid-self : (cs : List Settings) (S : ℕ) (x : List ℕ) → laid (sampleOctets cs x) cs S ≡ take (samplesOctets cs S) x
 laid-self cs S x =
     let f : Settings → List ℕ → List ℕ = λ s y. take (widthIn s) y in
-    laid-steps (sampleIn cs x) f cs S x (λ c n h. refl) ∙ steps-take (stepsIn f cs) (sequenceOctets cs) S x (steps-in-take cs)
+    laid-steps (sampleOctets cs x) f cs S x (λ c n h. refl) ∙ steps-take (stepsIn f cs) (sequenceOctets cs) S x (steps-in-take cs)

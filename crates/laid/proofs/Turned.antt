@@ -11,7 +11,7 @@ use native.Mathlib.Omega.{arith}
 use lib.ListN.{take, drop}
 use Rattle.settings.specs.declared.Settings.{Settings}
 use Rattle.layout.specs.Frame.{widthIn, blockOctets, sequenceOctets}
-use Rattle.laid.specs.Laid.{laid, sampleIn}
+use Rattle.laid.specs.Laid.{laid, sampleOctets}
 use Rattle.runs.specs.Turned.{turned}
 use Rattle.runs.proofs.Turned.{turned-add}
 use Rattle.laid.specs.Turned.{turnedSequence, turnedAll, sequenceSamples, Even}
@@ -38,8 +38,8 @@ unfolding turnedAll
 all-steps cs zero x = refl
 all-steps cs (suc m) x = rw (sequence-steps cs x, all-steps cs m (drop (sequenceOctets cs) x))
 
-pub laid-turned : (cs : List Settings) (S : ℕ) (x : List ℕ) → laid (λ c n. reverse (sampleIn cs x c n)) cs S ≡ turnedAll cs S x
-laid-turned cs S x = laid-steps (λ c n. reverse (sampleIn cs x c n)) turnedFirst cs S x (λ c n h. refl) ∙ all-steps cs S x
+pub laid-turned : (cs : List Settings) (S : ℕ) (x : List ℕ) → laid (λ c n. reverse (sampleOctets cs x c n)) cs S ≡ turnedAll cs S x
+laid-turned cs S x = laid-steps (λ c n. reverse (sampleOctets cs x c n)) turnedFirst cs S x (λ c n h. refl) ∙ all-steps cs S x
 
 -- ---- where all widths are one number
 

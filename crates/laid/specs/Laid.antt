@@ -3,8 +3,9 @@ use mathlib.Core.List.{List, [], _∷_, _++_}
 use mathlib.Core.Path.{_≡_}
 use Prim.Native.Nat.{ℕ, zero, suc, _+_, _*_, _<_}
 use lib.ListN.{length, take, drop}
+use Rattle.octets.specs.Number.{numberOf}
 use Rattle.settings.specs.declared.Settings.{Settings}
-use Rattle.layout.specs.Frame.{widthIn, channelIn, offsetOf}
+use Rattle.layout.specs.Frame.{Frame, widthIn, channelIn, offsetOf}
 
 -- Channel c and number n name a sample: the channel is one of the frame's, and the number is below its count of samples.
 pub record Named (cs : List Settings) (sequences c n : ℕ) : Type 0 where
@@ -40,5 +41,9 @@ unfoldable pub laid : (ℕ → ℕ → List ℕ) → List Settings → ℕ → L
 laid g cs sequences = laidFrom g cs 0 sequences
 
 -- A sample's octets in a waveform.
-abbrev pub sampleIn : List Settings → List ℕ → ℕ → ℕ → List ℕ
-sampleIn cs w channel n = take (widthIn (channelIn channel cs)) (drop (offsetOf cs channel n) w)
+abbrev pub sampleOctets : List Settings → List ℕ → ℕ → ℕ → List ℕ
+sampleOctets cs w channel n = take (widthIn (channelIn channel cs)) (drop (offsetOf cs channel n) w)
+
+-- The bits of a sample of a frame, by channel and number: its octets in the waveform, taken highest first, by the byte order that stands there.
+unfoldable pub sampleBits : Frame → ℕ → ℕ → ℕ
+sampleBits f channel n = numberOf (f .little) (sampleOctets (f .channels) (f .waveform) channel n)

@@ -9,7 +9,8 @@ use Rattle.octets.specs.Pick.{pick, both, either}
 use Rattle.values.specs.declared.Bits.{Bits}
 use Rattle.values.specs.Sample.{widthOf}
 use Rattle.settings.specs.declared.Settings.{Settings}
-use Rattle.settings.specs.Settings.{zeroSettings}
+use Rattle.settings.specs.declared.Change.the-variants.{Offset}
+use Rattle.settings.specs.Settings.{zeroSettings, applied}
 
 -- A frame: its start pointer, the place of its waveform's first octet, the byte order that stands there, its sequences, the settings
 -- of its channels, and its waveform.
@@ -52,17 +53,7 @@ offsetBits c = pick (eqb (c .offset .width) 0) (record { width = widthIn c; bits
 
 -- The attributes of a channel as they are reported and recorded: an offset not defined is zero bits of the sample's width.
 unfoldable pub reported : Settings → Settings
-reported c =
-    record {
-      block = c .block;
-      class = c .class;
-      lead = c .lead;
-      kind = c .kind;
-      interval = c .interval;
-      resolution = c .resolution;
-      offset = offsetBits c;
-      null = c .null;
-    }
+reported c = applied (Offset (offsetBits c)) c
 
 -- Bits that are defined have the sample's width.
 unfoldable pub widthAgrees : ℕ → Bits → Bool

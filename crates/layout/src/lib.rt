@@ -3,16 +3,17 @@
 // Promises: `Layout::more`, called for one channel after the other, sums up whether offsets and nulls have their sample widths, the octets of
 // a sequence, those below a channel, and the octets that the channels' groups take in the canonical file; `layout_of` does so for a table.
 // `frame_size` answers how many octets a frame takes there, `head_size` and `group_size` its head and a group, `content_size` and `null_size` a
-// group's items and a null's value, and `offset_bits` a channel's offset, one that is not defined too.
+// group's items and a null's value; `offset_bits` a channel's offset, one that is not defined too, and `reported` its attributes with that offset.
 // Read first: specs/Frame.antt (frames and the place of a sample), specs/Size.antt.
 ghost use mathlib.Core.Path.{_≡_};
 ghost use Prim.Native.Nat.{_+_, _%_, _^_, _<_};
 ghost use lib.Dec.{ltb};
 ghost use lib.ListN.{take};
 ghost use Rattle.octets.specs.Pick.{pick, both};
-ghost use Rattle.layout.specs.Frame.{offsetBits, widthAgrees};
-ghost use Rattle.layout.specs.Size.{channelSize, nullSize, contentSize, groupSize, sequencesSize, headSize, frameSize};
-ghost use Rattle.layout.specs.Measure.{noLayout, layoutOf, More};
+ghost use Rattle.layout.specs.Frame.{offsetBits, widthAgrees, widthIn, blockOctets, reported, channelAgrees};
+ghost use Rattle.layout.specs.Size.{channelSize, nullSize, contentSize, groupSize, sequencesSize, headSize, frameSize, lengthSize};
+ghost use Rattle.layout.specs.Measure.{noLayout, layoutOf, More, Small};
+use settings::Change;
 use settings::Settings;
 use values::Bits;
 
@@ -53,6 +54,13 @@ pub fn offset_bits(c: Settings) -> Bits
         };
     }
     offset
+}
+
+// The attributes of a channel as they are reported and recorded.
+pub fn reported(c: Settings) -> Settings
+    ensures { λ r. ⌜ r ≡ reported c ⌝ }
+{
+    settings::apply(c, Change::Offset(offset_bits(c)))
 }
 
 // A shortest channel number's octets.

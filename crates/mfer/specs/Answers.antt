@@ -5,11 +5,8 @@ use mathlib.Core.List.{List, [], _∷_}
 use Prim.Native.Nat.{ℕ}
 use lib.IntN.{ℤ, pos}
 use lib.ListN.{replicate}
-use Rattle.values.specs.declared.Value.{Value}
-use Rattle.values.specs.declared.Value.the-variants.{Whole, Status, Single, Double, NotNumber, Null}
-use Rattle.values.specs.Sample.{kindOf}
+use Rattle.octets.specs.Number.{Octets}
 use Rattle.heads.specs.Answer.{Answer, answered, refusedAs}
-use Rattle.stores.specs.Number.{Octets}
 use Rattle.reader.specs.declared.Attributes.{Attributes}
 use Rattle.reader.specs.Answer.{FoundSample}
 use Rattle.canonical.specs.Write.{writtenOf, leftOf}
@@ -49,26 +46,27 @@ pub record AttributesOut : Type 0 where
 -- The attributes that are numbers, in their order; a null of width 0 is none.
 unfoldable pub numbersOf : Attributes → List ℤ
 numbersOf a =
+    let c = a .settings in
     a .start
     ∷ pos (a .channels)
     ∷ pos (a .sequences)
-    ∷ pos (a .block)
-    ∷ pos (a .class)
-    ∷ pos (a .lead)
-    ∷ pos (a .kind)
-    ∷ pos (a .interval .unit)
-    ∷ a .interval .exponent
-    ∷ a .interval .mantissa
-    ∷ pos (a .resolution .unit)
-    ∷ a .resolution .exponent
-    ∷ a .resolution .mantissa
-    ∷ pos (a .offset .width)
-    ∷ pos (a .null .width)
+    ∷ pos (c .block)
+    ∷ pos (c .class)
+    ∷ pos (c .lead)
+    ∷ pos (c .kind)
+    ∷ pos (c .interval .unit)
+    ∷ c .interval .exponent
+    ∷ c .interval .mantissa
+    ∷ pos (c .resolution .unit)
+    ∷ c .resolution .exponent
+    ∷ c .resolution .mantissa
+    ∷ pos (c .offset .width)
+    ∷ pos (c .null .width)
     ∷ []
 
 -- The bits of the offset and of null.
 unfoldable pub bitPairOf : Attributes → List ℕ
-bitPairOf a = a .offset .bits ∷ a .null .bits ∷ []
+bitPairOf a = a .settings .offset .bits ∷ a .settings .null .bits ∷ []
 
 abbrev pub attributesValues : List ℤ → List ℕ → AttributesOut
 attributesValues numbers bits = record { numbers = numbers; bits = bits }
@@ -84,18 +82,9 @@ pub record SampleOut : Type 0 where
   pub whole : ℤ
   pub bits : ℕ
 
--- The number of a whole value, and 0 of every other kind.
-unfoldable pub wholeOf : Value → ℤ
-wholeOf (Whole z) = z
-wholeOf (Status n) = pos 0
-wholeOf (Single x) = pos 0
-wholeOf (Double x) = pos 0
-wholeOf (NotNumber n) = pos 0
-wholeOf Null = pos 0
-
 abbrev pub sampleValues : ℕ → ℤ → ℕ → SampleOut
 sampleValues kind whole bits = record { kind = kind; whole = whole; bits = bits }
 
--- A sample with these bits, and its place.
-abbrev pub sampleOut : ℕ → Answer FoundSample → Outputs SampleOut
-sampleOut bits a = handedOut (λ x. x .place) (λ x. sampleValues (kindOf (x .value)) (wholeOf (x .value)) bits) (sampleValues 0 (pos 0) 0) a
+-- A sample, and its place.
+abbrev pub sampleOut : Answer FoundSample → Outputs SampleOut
+sampleOut a = handedOut (λ x. x .place) (λ x. sampleValues (x .value .kind) (x .value .whole) (x .bits)) (sampleValues 0 (pos 0) 0) a

@@ -4,19 +4,19 @@
 // every case, and at a refusal all are 0 but `place`, which is the refusal's. A slice passes as a pointer and a length.
 // Read first: specs/Answers.antt; each function is thin over the crate that has its meaning.
 ghost use mathlib.Core.Path.{_≡_};
-ghost use Rattle.values.specs.Sample.{kindOf};
+ghost use Rattle.values.specs.Sample.{valueSays};
 ghost use Rattle.heads.specs.Answer.{mapAnswer, leftBy};
 ghost use Rattle.pass.specs.Verdict.{checkOf};
 ghost use Rattle.reader.specs.Answer.{attributesOf, sampleOf};
-ghost use Rattle.bulk.specs.Samples.{bitsOf, readOf};
-ghost use Rattle.mfer.specs.Answers.{outputs, countOut, CanonicalOut, numbersOf, bitPairOf, attributesValues, attributesOut, wholeOf, sampleValues, sampleOut};
+ghost use Rattle.bulk.specs.Samples.{readOf};
+ghost use Rattle.mfer.specs.Answers.{outputs, countOut, CanonicalOut, numbersOf, bitPairOf, attributesValues, attributesOut, sampleValues, sampleOut};
 ghost use lib.ListN.{length};
 use bulk::Read;
 use canonical::Written;
 use pass::Checked;
 use reader::Attributes;
 use reader::Described;
-use reader::Placed;
+use reader::Sampled;
 use values::Value;
 
 // Checks a file: how many frames it has.
@@ -42,18 +42,19 @@ pub extern "C" fn mfer_check(file: &[u8], frames: &mut u64, place: &mut u64) -> 
 fn numbers_of(a: Attributes) -> [i64; 15]
     ensures { λ r. ⌜ r ≡ numbersOf a ⌝ }
 {
-    let interval = a.interval;
-    let resolution = a.resolution;
-    let offset = a.offset;
-    let null = a.null;
+    let c = a.settings;
+    let interval = c.interval;
+    let resolution = c.resolution;
+    let offset = c.offset;
+    let null = c.null;
     [
         a.start,
         a.channels as i64,
         a.sequences as i64,
-        a.block as i64,
-        a.class as i64,
-        a.lead as i64,
-        a.kind as i64,
+        c.block as i64,
+        c.class as i64,
+        c.lead as i64,
+        c.kind as i64,
         interval.unit as i64,
         interval.exponent as i64,
         interval.mantissa as i64,
@@ -69,8 +70,9 @@ fn numbers_of(a: Attributes) -> [i64; 15]
 fn bits_of(a: Attributes) -> [u64; 2]
     ensures { λ r. ⌜ r ≡ bitPairOf a ⌝ }
 {
-    let offset = a.offset;
-    let null = a.null;
+    let c = a.settings;
+    let offset = c.offset;
+    let null = c.null;
     [offset.bits, null.bits]
 }
 
@@ -106,7 +108,7 @@ pub extern "C" fn mfer_attributes(
 
 // The number of a value's kind.
 fn kind_of(v: Value) -> u32
-    ensures { λ r. ⌜ r ≡ kindOf v ⌝ }
+    ensures { λ r. ⌜ r ≡ valueSays v .kind ⌝ }
 {
     match v {
         Value::Whole(_) => 0,
@@ -120,7 +122,7 @@ fn kind_of(v: Value) -> u32
 
 // The number of a whole value, and 0 of every other kind.
 fn whole_of(v: Value) -> i64
-    ensures { λ r. ⌜ r ≡ wholeOf v ⌝ }
+    ensures { λ r. ⌜ r ≡ valueSays v .whole ⌝ }
 {
     match v {
         Value::Whole(z) => z,
@@ -145,21 +147,21 @@ pub extern "C" fn mfer_sample(
     whole: &mut i64,
     bits: &mut u64,
 ) -> u32
-    ensures { λ r. ⌜ outputs r (now (place .exit)) (sampleValues (now (kind .exit)) (now (whole .exit)) (now (bits .exit))) ≡ sampleOut (bitsOf (now (file .entry)) frame channel number) (sampleOf (now (file .entry)) frame channel number) ⌝ }
+    ensures { λ r. ⌜ outputs r (now (place .exit)) (sampleValues (now (kind .exit)) (now (whole .exit)) (now (bits .exit))) ≡ sampleOut (sampleOf (now (file .entry)) frame channel number) ⌝ }
 {
-    match reader::place(file, frame, channel, number) {
-        Placed::At(at, v) => {
-            let c = v.settings;
-            let null = c.null;
-            let x = octets::part(file, at, values::width(c.kind));
-            let value = values::sample_value(x, v.little, c.kind, null);
+    match reader::sample(file, frame, channel, number) {
+        Sampled::Sample {
+            place: at,
+            bits: b,
+            value,
+        } => {
             *place = at as u64;
             *kind = kind_of(value);
             *whole = whole_of(value);
-            *bits = octets::number(x, v.little);
+            *bits = b;
             0
         }
-        Placed::Refused(x) => {
+        Sampled::Refused(x) => {
             *place = x.place as u64;
             *kind = 0;
             *whole = 0;

@@ -5,8 +5,12 @@ use mathlib.Core.Bool.{Bool, true, false}
 use Prim.Native.Nat.{ℕ, suc, _+_, _*_, _-_, _^_, _<_}
 use lib.Dec.{ltb}
 use lib.IntN.{ℤ, pos, negsuc}
-use lib.ListN.{length}
+use lib.ListN.{length, getD}
 use Rattle.octets.specs.Pick.{pick}
+
+-- Each number of a list is an octet.
+abbrev pub Octets : List ℕ → Type 0
+Octets v = (i : ℕ) → i < length v → getD v i 0 < 256
 
 -- How many numbers w octets tell apart.
 abbrev pub range : ℕ → ℕ

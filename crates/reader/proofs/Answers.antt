@@ -1,10 +1,11 @@
 -- Laws of the questions, over what one pass answers.
 --     checked-is        the check is the pass's count or refusal
 --     look-refused, look-no-frame, look-no-channel, look-found    the ways of a look-up
---     described-refused, described-found    the attributes, over a look-up
+--     described-is    the attributes, over a look-up
 --     place-refused, place-none, place-found, place-small, block-some    the place of a sample, over a look-up
 --     frameIn, settings-seen, count-seen, place-is, little-seen    what a channel that was found says of its frame
---     PlacedAt, placed-at, sample-refused, sample-found    a sample, over its place
+--     bits-seen    the octets at a sample's place are the sample's
+--     PlacedAt, placed-at, sample-at, sample-none    a sample, over its place
 -- Assumes nothing.
 use mathlib.Core.Path.{_≡_, refl, sym, ap, _∙_}
 use mathlib.Core.List.{List}
@@ -18,10 +19,16 @@ use Rattle.octets.specs.Pick.{pick}
 use Rattle.heads.specs.declared.Refusal.{Refusal}
 use Rattle.heads.specs.Refusals.{noFrame, noChannel, noSample}
 use Rattle.heads.specs.Answer.{Answer, answered, refusedAs, refusedBy, mapAnswer}
-use Rattle.values.specs.declared.Value.{Value}
-use Rattle.values.specs.Sample.{widthOf, valueOf}
+use Rattle.octets.specs.Number.{numberOf, Read}
+use Rattle.octets.proofs.Laws.{part-read}
+use Rattle.values.specs.Sample.{Said, widthOf, valueOf}
+use Rattle.values.proofs.Laws.{width-le}
 use Rattle.layout.specs.Frame.{Frame, channelIn, samplesOf, offsetOf, placeOf}
 use Rattle.reader.specs.declared.Attributes.{Attributes}
+use Rattle.reader.specs.declared.LookedUp.{LookedUp}
+use Rattle.reader.specs.declared.Placed.{Placed}
+use Rattle.reader.specs.declared.Placed.the-variants.{At}
+use Rattle.laid.specs.Laid.{sampleBits}
 use Rattle.laid.proofs.Places.{offset-inside}
 use Rattle.pass.specs.declared.Asked.{Asked}
 use Rattle.pass.specs.declared.View.{View}
@@ -31,9 +38,10 @@ use Rattle.pass.specs.declared.Checked.{Checked}
 use Rattle.pass.specs.declared.Scan.{Scan}
 use Rattle.pass.specs.Verdict.{Verdict, accepted, refused, verdict, checkedSays, checkedAs, checkOf}
 use Rattle.pass.specs.Scan.{zeroFrame, viewOf, foundIn, scannedIn, scanOf}
-use Rattle.reader.specs.Answer.{FoundSample, foundSample, FoundPlace, foundPlace, asked, seenOf, attributesIn, attributesSeen, attributesOf, placedOf, sampleIn, sampleOf, placeSeen}
-use Rattle.reader.proofs.Order.{asked-both, sample-both, asked-found}
+use Rattle.reader.specs.Answer.{foundSample, lookedUpSays, FoundPlace, foundPlace, placedSays, asked, seenOf, attributesIn, attributesSeen, attributesOf, placedOf, sampleIn, sampleOf, placeSeen}
+use Rattle.reader.proofs.Order.{asked-both, sample-both, asked-found, sample-found, sample-refused}
 use Rattle.reader.proofs.Ordered.{accepted-lies, accepted-small}
+use Rattle.reader.proofs.There.{bits-there}
 
 checked-in : (q : Asked) (v : Verdict) → checkedSays (scannedIn q v .checked) ≡ checkedAs v
 unfolding scannedIn checkedAs
@@ -164,12 +172,12 @@ pub record Located (s : List ℕ) (frame channel : ℕ) (w : View) : Type 0 wher
   pub channelIs : channel < length (getD frames frame zeroFrame .channels)
   pub view : w ≡ viewOf channel (getD frames frame zeroFrame)
 
-pub located : (s : List ℕ) (frame channel : ℕ) (w : View) → answered w ≡ seenOf s frame channel → Located s frame channel w
+pub located : (s : List ℕ) (frame channel : ℕ) (w : View) {r : LookedUp} → lookedUpSays r ≡ seenOf s frame channel → r ≡ LookedUp.Channel w → Located s frame channel w
 unfolding seenOf
-located s frame channel w e =
+located s frame channel w e f =
     asked-both (λ (a b : Answer View). answered w ≡ a → Located s frame channel w)
     (λ number place q. let z : _≡_ {A = ℕ} 0 1 = cc in let a : ⊥ = omega arith in absurd a) frame channel _ (λ g. answered (viewOf channel g)) (verdict s)
-    (λ fs v i c q. record { frames = fs; verdictIs = v; frameIn = i; channelIs = c; view = (cc) }) e
+    (λ fs v i c q. record { frames = fs; verdictIs = v; frameIn = i; channelIs = c; view = (cc) }) (ap lookedUpSays (sym f) ∙ e)
 
 view-attributes : (channel : ℕ) (f : Frame) → channel < length (f .channels) → attributesSeen (viewOf channel f) ≡ attributesIn channel f
 unfolding attributesSeen viewOf attributesIn
@@ -232,6 +240,16 @@ module _ {s : List ℕ} {frame channel : ℕ} {w : View} (p : Located s frame ch
         let c = offset-inside {cs = frameIn .channels} {S = frameIn .sequences} {c = channel} {n = n} (record { channel = p .channelIs; number = number-in }) in
         rw (place-is n) (omega (arith, a .fits, a .inside, b, c))
 
+    -- The octets there are the sample's.
+    pub bits-seen : numberOf (w .little) (take (widthOf (w .settings .kind)) (drop (placeSeen w n) s)) ≡ sampleBits frameIn channel n
+    unfolding samplesOf
+    bits-seen =
+        let o = little-seen in
+        let c = settings-seen in
+        let q = place-is n in
+        (λ j. numberOf (o j) (take (widthOf (c j .kind)) (drop (q j) s)))
+        ∙ bits-there s frameIn (accepted-lies s (p .frames) (p .verdictIs) frame (p .frameIn)) (record { channel = p .channelIs; number = number-in })
+
     pub block-some : 0 < w .settings .block
     block-some = positive (w .sequences) (w .settings .block) h
       where
@@ -243,11 +261,11 @@ module _ {s : List ℕ} {frame channel : ℕ} {w : View} (p : Located s frame ch
     place-found e = (λ i. answered (foundPlace ((e ∙ place-is n) i) (p .view i))) ∙ sym (placed-by n ∙ simp (lt-ltb n (samplesOf channel frameIn) number-in))
 
 -- Where no channel is seen there is no place.
-pub place-refused : (s : List ℕ) (frame channel n number place : ℕ) → refusedAs number place ≡ seenOf s frame channel → refusedAs number place ≡ placedOf s frame channel n
+pub place-refused : (s : List ℕ) (frame channel n : ℕ) (x : Refusal) {r : LookedUp} → lookedUpSays r ≡ seenOf s frame channel → r ≡ LookedUp.Refused x → refusedBy x ≡ placedOf s frame channel n
 unfolding placedOf seenOf
-place-refused s frame channel n number place e =
-    asked-both (λ (a : Answer View) (b : Answer FoundPlace). refusedAs number place ≡ a → refusedAs number place ≡ b) (λ m p q. cc) frame channel _ _ (verdict s)
-    (λ fs v i c q. let z : _≡_ {A = ℕ} 0 1 = cc in let a : ⊥ = omega arith in absurd a) e
+place-refused s frame channel n x e f =
+    asked-both (λ (a : Answer View) (b : Answer FoundPlace). refusedBy x ≡ a → refusedBy x ≡ b) (λ m p q. cc) frame channel _ _ (verdict s)
+    (λ fs v i c q. let z : _≡_ {A = ℕ} 0 1 = cc in let a : ⊥ = omega arith in absurd a) (ap lookedUpSays (sym f) ∙ e)
 
 -- The place as it is computed, with the width as it was read.
 pub place-sum : (v : View) (n width : ℕ) → width ≡ widthOf (v .settings .kind) → v .place + (n / v .settings .block * v .octets + v .below + n % v .settings .block * width) ≡ placeSeen v n
@@ -269,39 +287,31 @@ module _ (s : List ℕ) (frame channel n : ℕ) where
       let l : Located s frame channel _ = record { frames = fs; verdictIs = a; frameIn = i; channelIs = c; view = w } in
       record { channelAt = l; number = omega (arith, count-seen l); place = q ∙ sym (place-is l n) }
 
-  pub placed-at : {p : ℕ} {v : View} → answered (foundPlace p v) ≡ placedOf s frame channel n → PlacedAt s frame channel n p v
+  pub placed-at : {p : ℕ} {v : View} {r : Placed} → placedSays r ≡ placedOf s frame channel n → r ≡ At p v → PlacedAt s frame channel n p v
   unfolding placedOf
-  placed-at {p} {v} e =
+  placed-at {p} {v} e f =
       sample-both (λ (a b : Answer FoundPlace). answered (foundPlace p v) ≡ a → PlacedAt s frame channel n p v)
       (λ number place q. let z : _≡_ {A = ℕ} 0 1 = cc in let a : ⊥ = omega arith in absurd a) frame channel _ (λ f. foundPlace (placeOf channel n f) (viewOf channel f)) n (verdict s)
       (λ fs a i c h q.
       let x : foundPlace p v ≡ foundPlace (placeOf channel n (getD fs frame zeroFrame)) (viewOf channel (getD fs frame zeroFrame)) = cc in
-      there fs a i c h (ap (λ (y : FoundPlace). y .place) x) (ap (λ (y : FoundPlace). y .channel) x)) e
+      there fs a i c h (ap (λ (y : FoundPlace). y .place) x) (ap (λ (y : FoundPlace). y .channel) x)) (ap placedSays (sym f) ∙ e)
 
--- A sample is what the octets at its place say.
-abbrev pub sampleSeen : List ℕ → FoundPlace → FoundSample
-sampleSeen s x =
-    let c = x .channel .settings in
-    foundSample (x .place) (valueOf (c .kind) (c .null) (x .channel .little) (take (widthOf (c .kind)) (drop (x .place) s)))
+-- The sample that lies at the place that was found, of the octets x there.
+pub sample-at : (s : List ℕ) (frame channel n : ℕ) {p width bits : ℕ} {w : View} {x : List ℕ} {value : Said} {r : Placed} → placedSays r ≡ placedOf s frame channel n → r ≡ At p w
+    → width ≡ widthOf (w .settings .kind) → x ≡ take width (drop p s) → Read (w .little) (take 8 x) bits → value ≡ valueOf (w .settings .kind) (w .settings .null) bits
+    → answered (foundSample p bits value) ≡ sampleOf s frame channel n
+unfolding sampleOf sampleIn
+sample-at s frame channel n {p} {width} {bits} {w} {x} e f ew ex er ev =
+    let m = placed-at s frame channel n e f in
+    let l = m .channelAt in
+    let place : p ≡ placeOf channel n (frameIn l) = m .place ∙ place-is l n in
+    let c = settings-seen l in
+    let read : bits ≡ numberOf (w .little) (take (widthOf (w .settings .kind)) (drop p s)) = part-read (w .little) (widthOf (w .settings .kind)) (drop p s) x (width-le (w .settings .kind)) (rw ew at ex) er in
+    let b : bits ≡ sampleBits (frameIn l) channel n = read ∙ ap (λ (k : ℕ). numberOf (w .little) (take (widthOf (w .settings .kind)) (drop k s))) (m .place) ∙ bits-seen l (m .number) in
+    let v = ev ∙ (λ j. valueOf (c j .kind) (c j .null) (b j)) in
+    (λ j. answered (foundSample (place j) (b j) (v j)))
+    ∙ sym (sample-found frame channel (l .verdictIs) (l .frameIn) (l .channelIs) (sampleIn channel n) (omega (arith, count-seen l, m .number)))
 
-view-sample : (s : List ℕ) (channel n : ℕ) (f : Frame) → channel < length (f .channels) → sampleSeen s (foundPlace (placeOf channel n f) (viewOf channel f)) ≡ sampleIn s channel n f
-unfolding viewOf sampleIn
-view-sample s channel n f h =
-    let c : viewOf channel f .settings ≡ channelIn channel (f .channels) = simp (lt-ltb channel (length (f .channels)) h) in
-    λ j. foundSample (placeOf channel n f) (valueOf (c j .kind) (c j .null) (f .little) (take (widthOf (c j .kind)) (drop (placeOf channel n f) s)))
-
-pub sample-is : (s : List ℕ) (frame channel n : ℕ) → mapAnswer (sampleSeen s) (placedOf s frame channel n) ≡ sampleOf s frame channel n
+pub sample-none : (s : List ℕ) (frame channel n : ℕ) (x : Refusal) {r : Placed} → placedSays r ≡ placedOf s frame channel n → r ≡ Placed.Refused x → refusedBy x ≡ sampleOf s frame channel n
 unfolding placedOf sampleOf
-sample-is s frame channel n =
-    sample-both (λ (a : Answer FoundPlace) (b : Answer FoundSample). mapAnswer (sampleSeen s) a ≡ b) (λ number place. refl) frame channel _ _ n (verdict s)
-    (λ fs v i c h. ap answered (view-sample s channel n (getD fs frame zeroFrame) c))
-
--- The sample that lies at the place that was found.
-pub sample-at : (s : List ℕ) (frame channel n : ℕ) {p width : ℕ} {w : View} {x : List ℕ} {v : Value} → answered (foundPlace p w) ≡ placedOf s frame channel n
-    → width ≡ widthOf (w .settings .kind) → x ≡ take width (drop p s) → v ≡ valueOf (w .settings .kind) (w .settings .null) (w .little) x → answered (foundSample p v) ≡ sampleOf s frame channel n
-sample-at s frame channel n {p} {w = w} e ew ex ev =
-    ap (λ (y : Value). answered (foundSample p y)) (ev ∙ ap (valueOf (w .settings .kind) (w .settings .null) (w .little)) (rw ew at ex))
-    ∙ ap (mapAnswer (sampleSeen s)) e ∙ sample-is s frame channel n
-
-pub sample-refused : (s : List ℕ) (frame channel n number place : ℕ) → refusedAs number place ≡ placedOf s frame channel n → refusedAs number place ≡ sampleOf s frame channel n
-sample-refused s frame channel n number place e = ap (mapAnswer (sampleSeen s)) e ∙ sample-is s frame channel n
+sample-none s frame channel n x e f = sample-refused _ _ frame channel n (verdict s) (ap placedSays (sym f) ∙ e)

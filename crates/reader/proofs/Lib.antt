@@ -1,5 +1,6 @@
 pub mod Ordered
 pub mod Good
 pub mod Never
+pub mod There
 pub mod Order
 pub mod Answers

@@ -3,13 +3,15 @@
 use mathlib.Core.List.{List}
 use Prim.Native.Nat.{ℕ, _+_, _*_, _/_, _%_}
 use lib.Dec.{ltb}
-use lib.ListN.{length, getD, take, drop}
+use lib.IntN.{ℤ}
+use lib.ListN.{length, getD}
 use Rattle.octets.specs.Pick.{pick}
-use Rattle.values.specs.declared.Value.{Value}
-use Rattle.values.specs.Sample.{valueOf}
+use Rattle.values.specs.Sample.{Said, valueSays, valueOf}
 use Rattle.heads.specs.Refusals.{noFrame, noChannel, noSample}
 use Rattle.heads.specs.Answer.{Answer, answered, refusedAs, refusedBy}
-use Rattle.layout.specs.Frame.{Frame, widthIn, offsetBits, channelIn, samplesOf, placeOf}
+use Rattle.settings.specs.declared.Settings.{Settings}
+use Rattle.layout.specs.Frame.{Frame, widthIn, reported, channelIn, samplesOf, placeOf}
+use Rattle.laid.specs.Laid.{sampleBits}
 use Rattle.pass.specs.declared.View.{View}
 use Rattle.reader.specs.declared.Attributes.{Attributes}
 use Rattle.reader.specs.declared.Described.{Described}
@@ -28,16 +30,17 @@ abbrev pub describedSays : Described → Answer Attributes
 describedSays (Described.Attributes a) = answered a
 describedSays (Described.Refused r) = refusedBy r
 
--- A sample: its place and value.
+-- A sample: its place, its bits, and what its value says.
 pub record FoundSample : Type 0 where
   pub place : ℕ
-  pub value : Value
+  pub bits : ℕ
+  pub value : Said
 
-abbrev pub foundSample : ℕ → Value → FoundSample
-foundSample place value = record { place = place; value = value }
+abbrev pub foundSample : ℕ → ℕ → Said → FoundSample
+foundSample place bits value = record { place = place; bits = bits; value = value }
 
 abbrev pub sampledSays : Sampled → Answer FoundSample
-sampledSays (Sample place value) = answered (foundSample place value)
+sampledSays (Sample place bits value) = answered (foundSample place bits (valueSays value))
 sampledSays (Sampled.Refused r) = refusedBy r
 
 -- A channel as the pass keeps it.
@@ -75,23 +78,13 @@ askedSample answer frame channel n v =
 
 -- ---- attributes
 
+-- Start pointer, channels and sequences of a frame, and the settings of one of its channels, as they are reported.
+abbrev pub attributesWith : ℤ → ℕ → ℕ → Settings → Attributes
+attributesWith start channels sequences c = record { start = start; channels = channels; sequences = sequences; settings = reported c }
+
 -- The attributes of a channel in a frame.
 unfoldable pub attributesIn : ℕ → Frame → Attributes
-attributesIn channel f =
-    let c = channelIn channel (f .channels) in
-    record {
-      start = f .start;
-      channels = length (f .channels);
-      sequences = f .sequences;
-      block = c .block;
-      class = c .class;
-      lead = c .lead;
-      kind = c .kind;
-      interval = c .interval;
-      resolution = c .resolution;
-      offset = offsetBits c;
-      null = c .null;
-    }
+attributesIn channel f = attributesWith (f .start) (length (f .channels)) (f .sequences) (channelIn channel (f .channels))
 
 -- The attributes of a channel in a frame of a file.
 unfoldable pub attributesOf : List ℕ → ℕ → ℕ → Answer Attributes
@@ -99,16 +92,16 @@ attributesOf s frame channel = asked (λ f. answered (attributesIn channel f)) f
 
 -- ---- samples
 
--- The place and value of a sample: its octets are the w octets from its place on.
-unfoldable pub sampleIn : List ℕ → ℕ → ℕ → Frame → FoundSample
-sampleIn s channel n f =
+-- The place, bits and value of a sample of a frame.
+unfoldable pub sampleIn : ℕ → ℕ → Frame → FoundSample
+sampleIn channel n f =
     let c = channelIn channel (f .channels) in
-    let place = placeOf channel n f in
-    foundSample place (valueOf (c .kind) (c .null) (f .little) (take (widthIn c) (drop place s)))
+    let bits = sampleBits f channel n in
+    foundSample (placeOf channel n f) bits (valueOf (c .kind) (c .null) bits)
 
 -- A sample of a file, by frame, channel and number.
 unfoldable pub sampleOf : List ℕ → ℕ → ℕ → ℕ → Answer FoundSample
-sampleOf s frame channel n = askedSample (sampleIn s channel n) frame channel n (verdict s)
+sampleOf s frame channel n = askedSample (sampleIn channel n) frame channel n (verdict s)
 
 -- ---- what the answers are made of
 
@@ -122,21 +115,7 @@ placedOf s frame channel n = askedSample (λ f. foundPlace (placeOf channel n f)
 
 -- The attributes of a channel that is seen.
 unfoldable pub attributesSeen : View → Attributes
-attributesSeen v =
-    let c = v .settings in
-    record {
-      start = v .start;
-      channels = v .channels;
-      sequences = v .sequences;
-      block = c .block;
-      class = c .class;
-      lead = c .lead;
-      kind = c .kind;
-      interval = c .interval;
-      resolution = c .resolution;
-      offset = offsetBits c;
-      null = c .null;
-    }
+attributesSeen v = attributesWith (v .start) (v .channels) (v .sequences) (v .settings)
 
 -- The place of a sample of a channel that is seen.
 unfoldable pub placeSeen : View → ℕ → ℕ

@@ -1,8 +1,8 @@
 // The reader: every attribute and sample found.
 //
 // Promises, for any octets at all: `check` counts the frames or answers the refusal of document 01 with its number and place;
-// `describe` answers what stands for a channel in a frame, `place` where a sample lies, and `sample` where it lies and what it is, or a
-// refusal. All are thin over `pass::scan_file`, which walks the file once.
+// `describe` answers what stands for a channel in a frame, `place` where a sample lies, and `sample` where it lies, its bits and its value, or
+// a refusal. All are thin over `pass::scan_file`, which walks the file once.
 // Read first: in crate pass specs/Verdict.antt (the file), then specs/Answer.antt (the questions).
 ghost use mathlib.Core.Path.{_≡_};
 ghost use Prim.Native.Nat.{_^_, _<_};
@@ -13,23 +13,15 @@ use pass::Asked;
 use pass::Checked;
 use pass::Found;
 use pass::View;
-use settings::Scale;
-use values::Bits;
+use settings::Settings;
 use values::Value;
 
-// The attributes of a channel in a frame. The offset has the sample's width; a null of width 0 is none.
+// The attributes of a channel in a frame. The offset of its settings has the sample's width; a null of width 0 is none.
 pub struct Attributes {
     pub start: i64,
     pub channels: u32,
     pub sequences: u32,
-    pub block: u32,
-    pub class: u16,
-    pub lead: u16,
-    pub kind: u8,
-    pub interval: Scale,
-    pub resolution: Scale,
-    pub offset: Bits,
-    pub null: Bits,
+    pub settings: Settings,
 }
 
 // The answer to the question for attributes.
@@ -38,9 +30,13 @@ pub enum Described {
     Refused(Refusal),
 }
 
-// The answer to the question for a sample: its place and value.
+// The answer to the question for a sample: its place, bits and value.
 pub enum Sampled {
-    Sample(usize, Value),
+    Sample {
+        place: usize,
+        bits: u64,
+        value: Value,
+    },
     Refused(Refusal),
 }
 
@@ -106,23 +102,12 @@ pub fn look_up(s: &[u8], frame: u32, channel: u32) -> LookedUp
 fn attributes_seen(v: View) -> Attributes
     ensures { λ r. ⌜ r ≡ attributesSeen v ⌝ }
 {
-    let c = v.settings;
-    let interval = c.interval;
-    let resolution = c.resolution;
-    let offset = layout::offset_bits(c);
-    let null = c.null;
+    let settings = layout::reported(v.settings);
     Attributes {
         start: v.start,
         channels: v.channels,
         sequences: v.sequences,
-        block: c.block,
-        class: c.class,
-        lead: c.lead,
-        kind: c.kind,
-        interval,
-        resolution,
-        offset,
-        null,
+        settings,
     }
 }
 
@@ -174,7 +159,7 @@ pub fn place(s: &[u8], frame: u32, channel: u32, number: u64) -> Placed
     }
 }
 
-// The place and value of a sample.
+// The place, bits and value of a sample.
 pub fn sample(s: &[u8], frame: u32, channel: u32, number: u64) -> Sampled
     ensures { λ r. ⌜ sampledSays r ≡ sampleOf (now (s .entry)) frame channel number ⌝ }
 {
@@ -183,8 +168,14 @@ pub fn sample(s: &[u8], frame: u32, channel: u32, number: u64) -> Sampled
         Placed::At(at, v) => {
             let c = v.settings;
             let null = c.null;
-            let octets = octets::part(s, at, values::width(c.kind));
-            Sampled::Sample(at, values::sample_value(octets, v.little, c.kind, null))
+            let x = octets::part(s, at, values::width(c.kind));
+            let bits = octets::number(x, v.little);
+            let value = values::sample_value(bits, c.kind, null);
+            Sampled::Sample {
+                place: at,
+                bits,
+                value,
+            }
         }
     }
 }

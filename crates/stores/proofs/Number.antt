@@ -5,8 +5,8 @@ use mathlib.Core.Bool.{false}
 use Prim.Native.Nat.{ℕ, zero, suc, _+_, _*_, _/_, _%_, _^_, _<_}
 use native.Mathlib.Nat.{div-add-mod', div-lt-iff-lt-mul, pow-suc, add-zero, zero-add, add-suc, suc-add}
 use native.Mathlib.Omega.{arith}
-use lib.ListN.{length, getD}
-use Rattle.octets.specs.Number.{bigFrom, numberOf}
+use lib.ListN.{length}
+use Rattle.octets.specs.Number.{Octets, bigFrom, numberOf}
 use Rattle.stores.specs.Number.{be}
 
 big-append : (acc : ℕ) (u v : List ℕ) → bigFrom acc (u ++ v) ≡ bigFrom (bigFrom acc u) v
@@ -22,10 +22,6 @@ number-back (suc w) n h =
     let k : n < 256 ^ w * 256 = rw pow-suc at h in
     let l : n / 256 < 256 ^ w = div-lt-iff-lt-mul {k = 256} {x = n} {y = 256 ^ w} (omega arith) .1 k in
     rw (big-append, number-back w (n / 256) l) (div-add-mod' n 256)
-
--- Each number of the list is an octet.
-abbrev pub Octets : List ℕ → Type 0
-Octets v = (i : ℕ) → i < length v → getD v i 0 < 256
 
 be-from : (k a : ℕ) (v : List ℕ) → Octets v → be (k + length v) (bigFrom a v) ≡ be k a ++ v
 unfolding be bigFrom

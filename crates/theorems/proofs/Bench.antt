@@ -3,12 +3,10 @@ use mathlib.Core.Path.{_≡_, refl}
 use mathlib.Core.List.{List, [], _∷_, map}
 use Prim.Native.Nat.{ℕ}
 use Prim.Native.String.{String}
-use lib.IntN.{pos, negsuc}
+use lib.IntN.{ℤ, pos, negsuc}
 use lib.ListN.{length}
 use Rattle.octets.specs.Number.{bigFrom, littleOf, numberOf, twos, signedOf}
-use Rattle.values.specs.declared.Value.{Value}
-use Rattle.values.specs.declared.Value.the-variants.{Whole}
-use Rattle.values.specs.Sample.{widthOf, plainOf, isNull, valueOf}
+use Rattle.values.specs.Sample.{wholeSaid, widthOf, plainOf, isNull, valueOf}
 use Rattle.items.specs.declared.Item.{Item}
 use Rattle.heads.specs.Answer.{Answer, answered, refusedAs}
 use Rattle.heads.specs.Head.{channelOf, lengthOf, unknownContext, rootOnly, primitiveHead, groupLength, groupHead, headOf}
@@ -19,7 +17,7 @@ use Rattle.settings.specs.Settings.{allApplied}
 use Rattle.layout.specs.Frame.{channelIn, offsetBits, blockOctets, sequenceOctets, octetsBelow, widthAgrees, channelAgrees, allAgree, samplesOf, offsetOf, placeOf, reported}
 use Rattle.stores.specs.Number.{be}
 use Rattle.stores.specs.Length.{holding, shortest}
-use Rattle.laid.specs.Laid.{block, sequence, laidFrom, laid}
+use Rattle.laid.specs.Laid.{block, sequence, laidFrom, laid, sampleBits}
 use Rattle.reader.specs.declared.Attributes.{Attributes}
 use Rattle.framing.specs.Framing.{channelsOf, sequencesOf, pointerFits, pointerAfter, framedAs}
 use Rattle.effects.specs.Effects.{orderEffect, countEffect, sequencesEffect, startEffect, compressedEffect, allEffect, oneEffect, rootEffect, plainEffect, memberEffect, groupEffect, effectOf}
@@ -28,7 +26,7 @@ use Rattle.reader.specs.Answer.{FoundSample, foundSample, attributesIn, attribu
 use Rattle.groups.specs.Item.{item as itemOctets, numberItem, unsignedOf, itemOctets}
 use Rattle.groups.specs.Head.{sequencesItem, headItems}
 use Rattle.groups.specs.Group.{channelOctets, scaleItem, nullItem, groupItems, groupOctets, groupsOctets}
-use Rattle.canonical.specs.Recording.{sampleBits, tabulate, recordedFrame, recording}
+use Rattle.canonical.specs.Recording.{tabulate, recordedFrame, recording}
 use Rattle.canonical.specs.Canonical.{waveformOf, frameOctets, framesOctets, canonical}
 use Rattle.canonical.specs.Write.{framesIn, canonicalOf}
 use Rattle.line.specs.Line.{decimalIn, decimalOf, ascii, lineOf}
@@ -117,13 +115,10 @@ computed cs = map caseOf cs
 abbrev refusedAt : List ℕ → ℕ → ℕ → String → Case
 refusedAt s number place line = record { input = s; checked = refusedAs number place; line = ascii line; facts = [] }
 
--- The attributes of a channel by the frame's channels and sequences and by its data type and sample width; all else is as by default.
-abbrev typed : ℕ → ℕ → ℕ → ℕ → Answer Attributes
-typed channels sequences kind width =
-    answered (record {
-      start = pos 0;
-      channels = channels;
-      sequences = sequences;
+-- The settings of a channel by its data type and the width of its offset; all else is as by default.
+abbrev settingsBy : ℕ → ℕ → Settings
+settingsBy kind width =
+    record {
       block = 1;
       class = 0;
       lead = 0;
@@ -132,25 +127,16 @@ typed channels sequences kind width =
       resolution = record { unit = 0; exponent = negsuc 5; mantissa = pos 1 };
       offset = record { width = width; bits = 0 };
       null = record { width = 0; bits = 0 };
-    })
-
--- A sample at a place.
-abbrev at : ℕ → Value → Answer FoundSample
-at place value = answered (foundSample place value)
-
--- The settings of a channel by its data type; all else is as by default.
-abbrev settingsBy : ℕ → Settings
-settingsBy kind =
-    record {
-      block = 1;
-      class = 0;
-      lead = 0;
-      kind = kind;
-      interval = record { unit = 0; exponent = pos 0; mantissa = pos 1000 };
-      resolution = record { unit = 0; exponent = negsuc 5; mantissa = pos 1 };
-      offset = record { width = 0; bits = 0 };
-      null = record { width = 0; bits = 0 };
     }
+
+-- The attributes of a channel by the frame's channels and sequences and by its data type and sample width; all else is as by default.
+abbrev typed : ℕ → ℕ → ℕ → ℕ → Answer Attributes
+typed channels sequences kind width =
+    answered (record { start = pos 0; channels = channels; sequences = sequences; settings = settingsBy kind width })
+
+-- A whole number at a place, with its bits.
+abbrev wholeAt : ℕ → ℕ → ℤ → Answer FoundSample
+wholeAt place bits z = answered (foundSample place bits (wholeSaid z))
 
 -- P2's canonical file, 113 octets.
 abbrev pub canonical2 : List ℕ
@@ -186,9 +172,9 @@ cases =
       checked = answered 1;
       line = ascii "frames 1\n";
       facts =
-          sample 0 0 0 (at 17 (Whole (pos 1)))
-          ∷ sample 0 0 1 (at 19 (Whole (pos 2)))
-          ∷ sample 0 1 0 (at 21 (Whole (negsuc 0)))
+          sample 0 0 0 (wholeAt 17 1 (pos 1))
+          ∷ sample 0 0 1 (wholeAt 19 2 (pos 2))
+          ∷ sample 0 1 0 (wholeAt 21 0xFFFF (negsuc 0))
           ∷ rewritten 113 canonical2
           ∷ [];
     }
@@ -207,8 +193,8 @@ cases =
       facts =
           attributes 0 0 (typed 2 1 5 1)
           ∷ attributes 0 1 (typed 2 1 5 1)
-          ∷ sample 0 0 0 (at 14 (Whole (pos 7)))
-          ∷ sample 0 1 0 (at 15 (Whole (pos 8)))
+          ∷ sample 0 0 0 (wholeAt 14 7 (pos 7))
+          ∷ sample 0 1 0 (wholeAt 15 8 (pos 8))
           ∷ [];
     }
     -- P5
@@ -218,7 +204,7 @@ cases =
       line = ascii "frames 1\n";
       facts =
           attributes 0 0 (typed 1 1 0 2)
-          ∷ sample 0 0 0 (at 8 (Whole (pos 9)))
+          ∷ sample 0 0 0 (wholeAt 8 9 (pos 9))
           ∷ sample 0 0 1 (refusedAs 22 0)
           ∷ [];
     }
@@ -237,7 +223,7 @@ cases =
       input = 0x05 ∷ 0x02 ∷ 0x01 ∷ 0x00 ∷ 0x3F ∷ 0x81 ∷ 0x7F ∷ 0x03 ∷ 0x0A ∷ 0x01 ∷ 0x03 ∷ [];
       checked = answered 0;
       line = ascii "frames 0\n";
-      facts = groups (255 ∷ []) ∷ settings 255 (settingsBy 3) ∷ [];
+      facts = groups (255 ∷ []) ∷ settings 255 (settingsBy 3 0) ∷ [];
     }
     ∷ []
 

@@ -1,5 +1,5 @@
 -- The canonical files of recordings.
---     recordingOf, recording-is    the recording that a file holds
+--     recording-is, recording-long    the recording that a file holds
 --     canonical-read     the canonical file of an accepted file is accepted, and holds the same recording
 --     writes             the writer answers 23 exactly when the canonical file does not fit, and else its length
 --     wrote-out          what mfer_canonical does, write_canonical does
@@ -10,13 +10,14 @@
 use Prim.Native.Nat.{ℕ, _≤_, _<_}
 use mathlib.Core.Path.{_≡_, refl, sym, ap, _∙_}
 use mathlib.Core.Logic.{_↔_, _⊎_, inl, inr}
-use mathlib.Core.List.{List, [], _++_}
+use mathlib.Core.List.{List, _++_}
 use mathlib.Core.Bool.{true, false}
 use native.Mathlib.Omega.{arith}
 use native.Mathlib.Decide.{decLe, decLt}
 use borrow.Author.Tests.{le-leb, lt-leb}
 use lib.ListN.{length, getD, take, drop, length-map, List·getD-eq-default}
 use lib.Seq.{take-append-seam, drop-append-seam}
+use Rattle.octets.specs.Number.{Octets}
 use Rattle.octets.proofs.Pick.{both-false}
 use Rattle.heads.specs.declared.Refusal.{Refusal}
 use Rattle.heads.specs.Refusals.{noRoom}
@@ -27,27 +28,23 @@ use Rattle.pass.specs.Verdict.{Verdict, accepted, refused, verdict, checkOf}
 use Rattle.reader.proofs.Ordered.{accepted-few}
 use Rattle.canonical.specs.Recording.{Recorded, recordedFrame, recording}
 use Rattle.canonical.specs.Canonical.{canonical}
-use Rattle.canonical.specs.Write.{fits, outputIn, writtenOf, leftOf, Wrote}
+use Rattle.canonical.specs.Write.{framesIn, recordingOf, fits, outputIn, writtenOf, leftOf, Wrote}
 use Rattle.canonical.proofs.ReadBack.{Reads, read-back}
 use Rattle.canonical.proofs.Accepted.{accepted-recorded}
-use Rattle.stores.specs.Number.{Octets}
 use Rattle.mfer.specs.Answers.{Outputs, outputs, handedOut, countOut, CanonicalOut}
 use Rattle.theorems.proofs.Questions.{check-accepted}
 use Rattle.theorems.proofs.EntryPoints.{refused-answers}
 use Rattle.theorems.proofs.Exactly.{refused-numbered}
 
--- The recording that a verdict gives; a refused file has none.
-unfoldable pub recordingIn : Verdict → List Recorded
-recordingIn (accepted fs) = recording fs
-recordingIn (refused r) = []
-
--- The recording that a file holds.
-unfoldable pub recordingOf : List ℕ → List Recorded
-recordingOf s = recordingIn (verdict s)
-
+-- The recording that an accepted file holds.
 pub recording-is : (s : List ℕ) (fs : List Frame) → verdict s ≡ accepted fs → recordingOf s ≡ recording fs
-unfolding recordingOf recordingIn
-recording-is s fs e = ap recordingIn e
+unfolding framesIn
+recording-is s fs e = ap (λ (v : Verdict). recording (framesIn v)) e
+
+-- It has as many frames.
+pub recording-long : (fs : List Frame) → length (recording fs) ≡ length fs
+unfolding recording
+recording-long fs = length-map fs recordedFrame
 
 -- ---- reading
 
@@ -56,10 +53,6 @@ reads-one : (s : List ℕ) (x y : List Recorded) → Reads s x → Reads s y →
 reads-one s x y a b =
     let f : a .frames ≡ b .frames = cc (a .is, b .is) in
     sym (a .recorded) ∙ ap recording f ∙ b .recorded
-
-recording-long : (fs : List Frame) → length (recording fs) ≡ length fs
-unfolding recording
-recording-long fs = length-map fs recordedFrame
 
 -- Past its end a list of octets is read as 0.
 octets-all : (s : List ℕ) → Octets s → (i : ℕ) → getD s i 0 < 256

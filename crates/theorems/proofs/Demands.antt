@@ -1,6 +1,6 @@
 -- The three demands, over the definitions that the contracts cite.
 --     demand-one      every call ends with an answer or a refusal, each number exactly when its condition holds and none ahead of it does
---     demand-two      what is told and what is written is what document 01 defines, and reads back as the same recording
+--     demand-two      what is told is the recording, what is written is what document 01 lays down, and it reads back as the same recording
 --     demand-three    no two samples share an octet, and canonical files are equal exactly when the recordings are
 -- Assumes nothing.
 use Prim.Native.Nat.{ℕ, _≤_, _<_}
@@ -19,16 +19,17 @@ use Rattle.reader.specs.Answer.{attributesIn, attributesOf, sampleIn, sampleOf,
 use Rattle.pass.specs.Scan.{viewOf}
 use Rattle.bulk.specs.Samples.{readOf}
 use Rattle.canonical.specs.Canonical.{canonical}
-use Rattle.canonical.specs.Write.{Wrote}
+use Rattle.canonical.specs.Write.{recordingOf, Wrote}
 use Rattle.mfer.specs.Answers.{outputs, CanonicalOut}
 use Rattle.reader.proofs.Ordered.{endOf}
 use Rattle.theorems.proofs.Questions.{frameNumber, ByChannel, BySample, check-accepted, check-refused, accepted-or-refused, limit-exactly, limit-place, attributes-answered, channel-answered, sample-answered, place-answered, bitsRead, samples-answered, same-place}
 use Rattle.theorems.proofs.Places.{Name, Exists, NamedSample, Belongs, InWaveform, Owned, sample-exists, sample-inside, samples-apart, octet-owned}
 use Rattle.theorems.proofs.Waveforms.{PartOfFile, waveform-part, waveforms-apart}
-use Rattle.theorems.proofs.EntryPoints.{AnsweredBy, HandedOut, Kept, refused-answers, handed-out, kept}
+use Rattle.theorems.proofs.EntryPoints.{AnsweredBy, HandedOut, BuffersKept, refused-answers, handed-out, buffers-kept}
 use Rattle.theorems.specs.Refusing.{Refusing}
 use Rattle.theorems.proofs.Exactly.{refused-exactly, refused-numbered}
-use Rattle.theorems.proofs.Canonical.{recordingOf, Writes, ReadAgain, writes, wrote-out, written-file, written-again, same-written}
+use Rattle.theorems.proofs.Canonical.{Writes, ReadAgain, writes, wrote-out, written-file, written-again, same-written}
+use Rattle.theorems.proofs.Told.{RecordingTold, ToldSame, recording-told, told-same}
 
 -- ---- demand 1
 
@@ -49,14 +50,14 @@ pub record DemandOne (s : List ℕ) : Type 0 where
   -- On an accepted file 20, 21, 22 and 23 are answered at place 0, each exactly when its condition holds and none ahead of it does.
   pub attributes : (fs : List Frame) → verdict s ≡ accepted fs → (i c : ℕ) → ByChannel (attributesOf s i c) (attributesIn c) fs i c
   pub channel : (fs : List Frame) → verdict s ≡ accepted fs → (i c : ℕ) → ByChannel (seenOf s i c) (viewOf c) fs i c
-  pub sample : (fs : List Frame) → verdict s ≡ accepted fs → (i c n : ℕ) → BySample (sampleOf s i c n) (sampleIn s c n) fs i c n
+  pub sample : (fs : List Frame) → verdict s ≡ accepted fs → (i c n : ℕ) → BySample (sampleOf s i c n) (sampleIn c n) fs i c n
   pub place : (fs : List Frame) → verdict s ≡ accepted fs → (i c n : ℕ) → BySample (placedOf s i c n) (λ f. foundPlace (placeOf c n f) (viewOf c f)) fs i c n
-  pub samples : (fs : List Frame) → verdict s ≡ accepted fs → (i c n room : ℕ) → BySample (readOf s i c n room) (bitsRead s c n room) fs i c n
+  pub samples : (fs : List Frame) → verdict s ≡ accepted fs → (i c n room : ℕ) → BySample (readOf s i c n room) (bitsRead c n room) fs i c n
   pub written : (fs : List Frame) → verdict s ≡ accepted fs → (d : List ℕ) → Writes s d fs
   -- Each function for C hands a refusal out exactly when its question answers it, and all its other outputs are then 0.
   pub handed : HandedOut s
   -- A refusal changes no octet of the buffer.
-  pub kept : (d : List ℕ) → Kept s d
+  pub kept : (d : List ℕ) → BuffersKept s d
 
 pub demand-one : (s : List ℕ) → DemandOne s
 demand-one s =
@@ -74,7 +75,7 @@ demand-one s =
       samples = samples-answered s;
       written = λ fs e d. writes s d fs e;
       handed = handed-out s;
-      kept = kept s;
+      kept = buffers-kept s;
     }
 
 -- ---- demand 2
@@ -87,6 +88,10 @@ pub record DemandTwo (s : List ℕ) : Type 0 where
   -- The attributes, the start pointer among them, and the place and value of a sample are those of its frame.
   pub attributes : (fs : List Frame) → verdict s ≡ accepted fs → (i c : ℕ) → i < length fs → c < length (frameNumber fs i .channels) → attributesOf s i c ≡ answered (attributesIn c (frameNumber fs i))
   pub sample : (fs : List Frame) → verdict s ≡ accepted fs → (a : NamedSample s) → InWaveform s fs a
+  -- What the check and the questions answer is the recording: frame by frame the attributes of each channel and the bits of each sample.
+  pub told : (fs : List Frame) → verdict s ≡ accepted fs → RecordingTold s
+  -- A file that mfer_canonical writes out is written out as by write_canonical.
+  pub handed : (d left : List ℕ) (place m : ℕ) → CanonicalOut s d (outputs 0 place m) left → Wrote s d (answered m) left
   -- The canonical file stands at the start of the buffer, and octets past it keep what they held.
   pub written : (d left : List ℕ) (m : ℕ) → Wrote s d (answered m) left → (take m left ≡ canonical (recordingOf s)) × (drop m left ≡ drop m d)
   -- Read, it has as many frames and holds the same recording; written out again, it is as the first file.
@@ -98,6 +103,8 @@ demand-two s =
       count = check-accepted s;
       attributes = λ fs e i c h k. attributes-answered s fs e i c .there _ .1 (h, k, refl);
       sample = sample-inside s;
+      told = recording-told s;
+      handed = λ d left place m w. wrote-out w;
       written = λ d left m w. written-file w;
       again = λ d left m w. written-again w;
     }
@@ -127,11 +134,11 @@ pub record SamplesPlaced (s : List ℕ) (fs : List Frame) : Type 0 where
 -- every octet, exactly when the recordings are equal, down to each attribute and each bit of each sample."
 pub record DemandThree : Type 0 where
   pub places : (s : List ℕ) (fs : List Frame) → verdict s ≡ accepted fs → SamplesPlaced s fs
-  -- A file that mfer_canonical writes out is written out as by write_canonical.
-  pub handed : (s d left : List ℕ) (place m : ℕ) → CanonicalOut s d (outputs 0 place m) left → Wrote s d (answered m) left
   -- Files s and t are written to buffers that held d and g; m and n octets are their canonical files.
   pub same : (s t d g left right : List ℕ) (m n : ℕ) → Wrote s d (answered m) left → Wrote t g (answered n) right
       → ((m ≡ n) × (take m left ≡ take n right)) ↔ (recordingOf s ≡ recordingOf t)
+  -- Recordings are equal exactly when a reader is told the same of both files, each attribute and each bit of each sample.
+  pub told : (s t : List ℕ) (fs gs : List Frame) → verdict s ≡ accepted fs → verdict t ≡ accepted gs → (recordingOf s ≡ recordingOf t) ↔ ToldSame s t
 
 pub demand-three : DemandThree
 demand-three =
@@ -146,6 +153,6 @@ demand-three =
             apart = samples-apart s fs e;
             owned = octet-owned s fs e;
           };
-      handed = λ s d left place m w. wrote-out w;
       same = λ s t d g left right m n v w. same-written v w;
+      told = told-same;
     }

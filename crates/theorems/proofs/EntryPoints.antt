@@ -3,7 +3,7 @@
 --     handed-exactly     a function for C hands a refusal out exactly when its question answers it
 --     HandedOut, handed-out    so each of the five
 --     refusal-keeps, counted-refusal    a refusal changes no octet of a buffer
---     Kept, kept         so for each function that has one
+--     BuffersKept, buffers-kept         so for each function that has one
 -- Assumes nothing.
 use Prim.Native.Nat.{ℕ, _<_}
 use mathlib.Core.Path.{_≡_, refl, sym, ap, _∙_}
@@ -18,7 +18,7 @@ use Rattle.pass.specs.Verdict.{Verdict, refused, verdict, checkedAs, checkOf}
 use Rattle.reader.specs.Answer.{attributesOf, sampleOf, seenOf, placedOf}
 use Rattle.reader.proofs.Order.{asked-refused}
 use Rattle.canonical.specs.Write.{outputIn, writtenOf, leftOf, Wrote}
-use Rattle.bulk.specs.Samples.{bitsOf, readOf}
+use Rattle.bulk.specs.Samples.{readOf}
 use Rattle.mfer.specs.Answers.{Outputs, outputs, handedOut, countOut, CanonicalOut, attributesValues, attributesOut, sampleValues, sampleOut}
 
 -- ---- a refused file
@@ -49,10 +49,10 @@ refused-answers s r e =
 -- ---- the functions for C
 
 -- A refusal is handed out exactly when it is answered: its number as the result, its place, and zeros.
-abbrev pub Exactly : {A B : Type 0} → Outputs B → B → Answer A → Type 0
-Exactly out zeros a = (number place : ℕ) → 0 < number → (out ≡ outputs number place zeros) ↔ (a ≡ refusedAs number place)
+abbrev pub HandedExactly : {A B : Type 0} → Outputs B → B → Answer A → Type 0
+HandedExactly out zeros a = (number place : ℕ) → 0 < number → (out ≡ outputs number place zeros) ↔ (a ≡ refusedAs number place)
 
-handed-exactly : {A B : Type 0} (place : A → ℕ) (values : A → B) (zeros : B) (a : Answer A) → Exactly (handedOut place values zeros a) zeros a
+handed-exactly : {A B : Type 0} (place : A → ℕ) (values : A → B) (zeros : B) (a : Answer A) → HandedExactly (handedOut place values zeros a) zeros a
 unfolding handedOut
 handed-exactly {A} {B} place values zeros (answered x) number at h =
     (λ e. let z : ⊥ = omega (arith, ap (λ (o : Outputs B). o .refusal) e) in absurd z, λ e. let z : _≡_ {A = ℕ} 0 1 = cc in let y : ⊥ = omega arith in absurd y)
@@ -61,11 +61,11 @@ handed-exactly {A} {B} place values zeros (refusedAs m p) number at h =
 
 -- The five functions for C.
 pub record HandedOut (s : List ℕ) : Type 0 where
-  pub check : Exactly (countOut (checkOf s)) 0 (checkOf s)
-  pub attributes : (i c : ℕ) → Exactly (attributesOut (attributesOf s i c)) (attributesValues (replicate 15 (pos 0)) (replicate 2 0)) (attributesOf s i c)
-  pub sample : (i c n : ℕ) → Exactly (sampleOut (bitsOf s i c n) (sampleOf s i c n)) (sampleValues 0 (pos 0) 0) (sampleOf s i c n)
-  pub samples : (i c n room : ℕ) → Exactly (countOut (mapAnswer length (readOf s i c n room))) 0 (mapAnswer length (readOf s i c n room))
-  pub canonical : (d : List ℕ) → Exactly (countOut (writtenOf s d)) 0 (writtenOf s d)
+  pub check : HandedExactly (countOut (checkOf s)) 0 (checkOf s)
+  pub attributes : (i c : ℕ) → HandedExactly (attributesOut (attributesOf s i c)) (attributesValues (replicate 15 (pos 0)) (replicate 2 0)) (attributesOf s i c)
+  pub sample : (i c n : ℕ) → HandedExactly (sampleOut (sampleOf s i c n)) (sampleValues 0 (pos 0) 0) (sampleOf s i c n)
+  pub samples : (i c n room : ℕ) → HandedExactly (countOut (mapAnswer length (readOf s i c n room))) 0 (mapAnswer length (readOf s i c n room))
+  pub canonical : (d : List ℕ) → HandedExactly (countOut (writtenOf s d)) 0 (writtenOf s d)
 
 pub handed-out : (s : List ℕ) → HandedOut s
 handed-out s =
@@ -95,7 +95,7 @@ handed-refusal (answered n) h = let z : ⊥ = omega arith in absurd z
 handed-refusal (refusedAs number place) h = (number, place, refl)
 
 -- A refusal changes no octet of the output buffer: `write_canonical`, `mfer_canonical`, `bulk::samples`, `mfer_samples`.
-pub record Kept (s d : List ℕ) : Type 0 where
+pub record BuffersKept (s d : List ℕ) : Type 0 where
   pub canonical : (number place : ℕ) (left : List ℕ) → Wrote s d (refusedAs number place) left → left ≡ d
   pub canonicalOut : (out : Outputs ℕ) (left : List ℕ) → CanonicalOut s d out left → 0 < out .refusal → left ≡ d
   pub samples : (i c n number place : ℕ) → mapAnswer length (readOf s i c n (length d)) ≡ refusedAs number place → leftBy (readOf s i c n (length d)) d ≡ d
@@ -107,8 +107,8 @@ module _ (s d : List ℕ) where
   unfolding writtenOf leftOf
   written-kept number place left a l = l ∙ refusal-keeps (outputIn d (verdict s)) d number place a
 
-  pub kept : Kept s d
-  kept =
+  pub buffers-kept : BuffersKept s d
+  buffers-kept =
       record {
         canonical = λ number place left w. written-kept number place left (sym (w .answers)) (w .leaves);
         canonicalOut = λ out left w h. let r = handed-refusal (writtenOf s d) (rw (w .answers) at h) in written-kept (r .0) (r .1) left (r .2) (w .leaves);

@@ -31,7 +31,7 @@ use Rattle.items.proofs.Walks.{items-found, items-refused}
 use Rattle.standing.specs.Standing.{octetsLimit}
 use Rattle.effects.specs.Effects.{valueAt, effectOf}
 use Rattle.pass.specs.Verdict.{State, Outcome, goes, refuses, firstState, carried, placeAt, refused, interpret, verdict}
-use Rattle.pass.proofs.Keeps.{reached-same, meaning, firstCursor, items-first, interpret-goes, interpret-refuses, interpret-fault, verdict-law}
+use Rattle.pass.proofs.Keeps.{reached-same, meaning, firstCursor, items-first, interpret-refuses, interpret-fault, verdict-law}
 use Rattle.pass.proofs.Bounds.{both-split}
 use Rattle.theorems.specs.Rows.{lengthOctets, lengthIn, valueIn, itemRows, endRows, rowsAt}
 use Rattle.theorems.specs.Refusing.{around, ahead, DueAt, Refusing, overLimit, stops}

@@ -8,5 +8,6 @@ pub mod Places
 pub mod Waveforms
 pub mod EntryPoints
 pub mod Canonical
+pub mod Told
 pub mod Demands
 pub mod Bench

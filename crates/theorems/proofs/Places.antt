@@ -5,24 +5,24 @@
 --     samples-apart    two samples with different names share no octet
 --     octet-owned      each octet of a waveform is one sample's, or surplus, and never both
 -- Assumes nothing.
-use Prim.Native.Nat.{ℕ, zero, suc, _+_, _≤_, _<_}
+use Prim.Native.Nat.{ℕ, _+_, _≤_, _<_}
 use mathlib.Core.Path.{_≡_, refl, sym, ap, _∙_}
 use mathlib.Core.Logic.{_⊎_, inl, inr}
-use mathlib.Core.List.{List, [], _∷_}
+use mathlib.Core.List.{List}
 use native.Mathlib.Decide.{decLt, ℕ-discrete}
 use native.Mathlib.Omega.{arith}
 use lib.ListN.{length, take, drop}
-use lib.Seq.{take-take, drop-drop}
-use Rattle.values.specs.declared.Value.{Value}
-use Rattle.values.specs.Sample.{valueOf}
+use Rattle.octets.specs.Number.{numberOf}
+use Rattle.values.specs.Sample.{Said, valueOf}
 use Rattle.settings.specs.declared.Settings.{Settings}
-use Rattle.layout.specs.Frame.{Frame, widthIn, octetsSampled, channelIn, samplesOf, offsetOf, placeOf}
-use Rattle.laid.specs.Laid.{Named, Covered, sampleIn}
+use Rattle.layout.specs.Frame.{Frame, widthIn, octetsSampled, channelIn, samplesOf, placeOf}
+use Rattle.laid.specs.Laid.{Named, Covered, sampleIn, sampleOctets, sampleBits}
 use Rattle.laid.proofs.Places.{offset-inside, offset-apart, offset-covers}
 use Rattle.heads.specs.Answer.{answered}
 use Rattle.pass.specs.Verdict.{accepted, verdict}
-use Rattle.reader.specs.Answer.{FoundSample, foundSample, sampleOf, sampleIn as answerIn}
+use Rattle.reader.specs.Answer.{FoundSample, foundSample, sampleIn, sampleOf}
 use Rattle.reader.proofs.Ordered.{endOf, accepted-lies, accepted-ordered}
+use Rattle.reader.proofs.There.{offset-fits, octets-there}
 use Rattle.theorems.proofs.Questions.{frameNumber, sample-answered}
 
 -- ---- names
@@ -46,19 +46,20 @@ namedWidth fs x = widthIn (namedSettings fs x)
 
 -- The octets of a sample of this name in its frame's waveform.
 abbrev pub namedOctets : List Frame → Name → List ℕ
-namedOctets fs x = sampleIn (namedFrame fs x .channels) (namedFrame fs x .waveform) (x .channel) (x .number)
+namedOctets fs x = sampleOctets (namedFrame fs x .channels) (namedFrame fs x .waveform) (x .channel) (x .number)
 
 -- The frames have a sample of this name.
 pub record Exists (fs : List Frame) (x : Name) : Type 0 where
   pub frame : x .frame < length fs
   pub sample : Named (namedFrame fs x .channels) (namedFrame fs x .sequences) (x .channel) (x .number)
 
--- A named sample of a file: the reader answers its place and its value.
+-- A named sample of a file: the reader answers its place, its bits and its value.
 pub record NamedSample (s : List ℕ) : Type 0 where
   pub name : Name
   pub place : ℕ
-  pub value : Value
-  pub answer : sampleOf s (name .frame) (name .channel) (name .number) ≡ answered (foundSample place value)
+  pub bits : ℕ
+  pub value : Said
+  pub answer : sampleOf s (name .frame) (name .channel) (name .number) ≡ answered (foundSample place bits value)
 
 -- Octet p of the file is one of the sample's.
 pub record Belongs (s : List ℕ) (fs : List Frame) (a : NamedSample s) (p : ℕ) : Type 0 where
@@ -66,14 +67,15 @@ pub record Belongs (s : List ℕ) (fs : List Frame) (a : NamedSample s) (p : ℕ
   pub inside : index < namedWidth fs (a .name)
   pub place : a .place + index ≡ p
 
--- The sample is one of its frame's; its octets lie in that frame's waveform, from the place on, and its value is theirs.
+-- The sample is one of its frame's; its octets lie in that frame's waveform, from the place on; its bits and its value are theirs.
 pub record InWaveform (s : List ℕ) (fs : List Frame) (a : NamedSample s) : Type 0 where
   pub exists : Exists fs (a .name)
   pub placed : a .place ≡ placeOf (a .name .channel) (a .name .number) (namedFrame fs (a .name))
   pub low : namedFrame fs (a .name) .place ≤ a .place
   pub high : a .place + namedWidth fs (a .name) ≤ endOf (namedFrame fs (a .name))
   pub octets : take (namedWidth fs (a .name)) (drop (a .place) s) ≡ namedOctets fs (a .name)
-  pub value : a .value ≡ valueOf (namedSettings fs (a .name) .kind) (namedSettings fs (a .name) .null) (namedFrame fs (a .name) .little) (namedOctets fs (a .name))
+  pub bits : a .bits ≡ numberOf (namedFrame fs (a .name) .little) (namedOctets fs (a .name))
+  pub value : a .value ≡ valueOf (namedSettings fs (a .name) .kind) (namedSettings fs (a .name) .null) (a .bits)
 
 -- Octet p of the file is one of a sample's, and of no other's.
 pub record OneSample (s : List ℕ) (fs : List Frame) (p : ℕ) : Type 0 where
@@ -101,18 +103,6 @@ name-decided x y = by (ℕ-discrete (x .frame) (y .frame)) (ℕ-discrete (x .cha
     by (yes f) (no c) n = no (λ e. c (ap (λ (z : Name). z .channel) e))
     by (no f) c n = no (λ e. f (ap (λ (z : Name). z .frame) e))
 
--- A part of a part that does not run past its end.
-part-of : (w o l : ℕ) (u : List ℕ) → o + w ≤ l → take w (drop o (take l u)) ≡ take w (drop o u)
-part-of w zero l u h = take-take w l u (omega arith)
-part-of w (suc o) zero u h = let z : ⊥ = omega arith in absurd z
-part-of w (suc o) (suc l) [] h = refl
-part-of w (suc o) (suc l) (a ∷ u) h = part-of w o l u (omega arith)
-
--- A part of octets of the file is there in the file.
-part-there : (s x : List ℕ) (p o w : ℕ) → x ≡ take (length x) (drop p s) → o + w ≤ length x → take w (drop (p + o) s) ≡ take w (drop o x)
-part-there s x p o w e h =
-    sym (ap (λ (u : List ℕ). take w (drop o u)) e ∙ part-of w o (length x) (drop p s) h ∙ ap (take w) (drop-drop o p s))
-
 -- Two samples of one frame share no octet.
 apart-in : (f : Frame) (c n d m i j p : ℕ) → Named (f .channels) (f .sequences) c n → Named (f .channels) (f .sequences) d m
     → ((c ≡ d) × (n ≡ m) → ⊥) → i < widthIn (channelIn c (f .channels)) → j < widthIn (channelIn d (f .channels)) → placeOf c n f + i ≡ p → placeOf d m f + j ≡ p → ⊥
@@ -124,37 +114,30 @@ apart-in f c n d m i j p g h differ k l q r = offset-apart g h differ i j k l (o
 module _ (s : List ℕ) (fs : List Frame) (e : verdict s ≡ accepted fs) where
   -- A name that the file has is answered.
   pub sample-exists : (x : Name) → Exists fs x → (a : NamedSample s) × (a .name ≡ x)
-  unfolding samplesOf answerIn
+  unfolding samplesOf
   sample-exists x h =
       let r = sample-answered s fs e (x .frame) (x .channel) (x .number) .there _ .1 (h .frame, h .sample .channel, h .sample .number, refl) in
-      (record { name = x; place = _; value = _; answer = r }, refl)
-
-  -- The sample's offset ends by the end of the sequences, and so of the waveform.
-  offset-fits : (x : Name) → Exists fs x → offsetOf (namedFrame fs x .channels) (x .channel) (x .number) + namedWidth fs x ≤ length (namedFrame fs x .waveform)
-  offset-fits x h = omega (arith, offset-inside (h .sample), accepted-lies s fs e (x .frame) (h .frame) .fits)
-
-  octets-there : (x : Name) → Exists fs x → take (namedWidth fs x) (drop (placeOf (x .channel) (x .number) (namedFrame fs x)) s) ≡ namedOctets fs x
-  unfolding placeOf
-  octets-there x h = part-there s (namedFrame fs x .waveform) _ _ _ (accepted-lies s fs e (x .frame) (h .frame) .octets) (offset-fits x h)
+      (record { name = x; place = _; bits = _; value = _; answer = r }, refl)
 
   pub sample-inside : (a : NamedSample s) → InWaveform s fs a
-  unfolding samplesOf answerIn placeOf
+  unfolding samplesOf sampleIn sampleBits placeOf
   sample-inside a =
       let x = a .name in
+      let f = namedFrame fs x in
       let c = namedSettings fs x in
-      let order = namedFrame fs x .little in
-      let place = placeOf (x .channel) (x .number) (namedFrame fs x) in
-      let r = sample-answered s fs e (x .frame) (x .channel) (x .number) .there (foundSample (a .place) (a .value)) .0 (a .answer) in
+      let r = sample-answered s fs e (x .frame) (x .channel) (x .number) .there (foundSample (a .place) (a .bits) (a .value)) .0 (a .answer) in
       let h : Exists fs x = record { frame = r .0; sample = record { channel = r .1; number = r .2 } } in
-      let p : a .place ≡ place = sym (ap (λ (y : FoundSample). y .place) (r .3)) in
-      let v : a .value ≡ valueOf (c .kind) (c .null) order (take (namedWidth fs x) (drop place s)) = sym (ap (λ (y : FoundSample). y .value) (r .3)) in
+      let l = accepted-lies s fs e (x .frame) (h .frame) in
+      let p : a .place ≡ placeOf (x .channel) (x .number) f = sym (ap (λ (y : FoundSample). y .place) (r .3)) in
+      let b : a .bits ≡ sampleBits f (x .channel) (x .number) = sym (ap (λ (y : FoundSample). y .bits) (r .3)) in
       record {
         exists = h;
         placed = p;
         low = omega arith;
-        high = omega (arith, offset-fits x h);
-        octets = rw p (octets-there x h);
-        value = v ∙ ap (valueOf (c .kind) (c .null) order) (octets-there x h);
+        high = omega (arith, offset-fits s f l (h .sample));
+        octets = rw p (octets-there s f l (h .sample));
+        bits = b;
+        value = sym (ap (λ (y : FoundSample). y .value) (r .3)) ∙ ap (valueOf (c .kind) (c .null)) (sym b);
       }
 
   -- ---- two samples

@@ -28,7 +28,8 @@ use Rattle.reader.proofs.Never.{only-limit}
 use Rattle.reader.proofs.Order.{sample-both}
 use Rattle.pass.specs.Scan.{zeroFrame, viewOf}
 use Rattle.reader.specs.Answer.{FoundSample, FoundPlace, foundPlace, asked, askedSample, attributesIn, attributesOf, sampleIn, sampleOf, seenOf, placedOf}
-use Rattle.bulk.specs.Samples.{bitsAt, bitsFrom, readOf}
+use Rattle.bulk.specs.Samples.{bitsFrom, readOf}
+use Rattle.laid.specs.Laid.{sampleBits}
 
 -- ---- three tests
 
@@ -222,8 +223,8 @@ module _ {A : Type 0} (g : Frame → A) (v : Verdict) (fs : List Frame) (e : v �
 -- ---- the questions
 
 -- The bits of samples n and on of channel c of a frame, as many as there is room for or as there are.
-abbrev pub bitsRead : List ℕ → ℕ → ℕ → ℕ → Frame → List ℕ
-bitsRead s c n room f = bitsFrom (bitsAt s c f) n (min room (samplesOf c f - n))
+abbrev pub bitsRead : ℕ → ℕ → ℕ → Frame → List ℕ
+bitsRead c n room f = bitsFrom (sampleBits f c) n (min room (samplesOf c f - n))
 
 module _ (s : List ℕ) (fs : List Frame) (e : verdict s ≡ accepted fs) (i c : ℕ) where
   pub attributes-answered : ByChannel (attributesOf s i c) (attributesIn c) fs i c
@@ -235,17 +236,17 @@ module _ (s : List ℕ) (fs : List Frame) (e : verdict s ≡ accepted fs) (i c :
   channel-answered = by-channel (viewOf c) (verdict s) fs e i c
 
   module _ (n : ℕ) where
-    pub sample-answered : BySample (sampleOf s i c n) (sampleIn s c n) fs i c n
+    pub sample-answered : BySample (sampleOf s i c n) (sampleIn c n) fs i c n
     unfolding sampleOf
-    sample-answered = by-sample (sampleIn s c n) (verdict s) fs e i c n
+    sample-answered = by-sample (sampleIn c n) (verdict s) fs e i c n
 
     pub place-answered : BySample (placedOf s i c n) (λ f. foundPlace (placeOf c n f) (viewOf c f)) fs i c n
     unfolding placedOf
     place-answered = by-sample (λ f. foundPlace (placeOf c n f) (viewOf c f)) (verdict s) fs e i c n
 
-    pub samples-answered : (room : ℕ) → BySample (readOf s i c n room) (bitsRead s c n room) fs i c n
+    pub samples-answered : (room : ℕ) → BySample (readOf s i c n room) (bitsRead c n room) fs i c n
     unfolding readOf
-    samples-answered room = by-sample (bitsRead s c n room) (verdict s) fs e i c n
+    samples-answered room = by-sample (bitsRead c n room) (verdict s) fs e i c n
 
 -- The questions for a place and for a sample answer the same place, or the same refusal.
 pub same-place : (s : List ℕ) (i c n : ℕ) → mapAnswer (λ x. x .place) (placedOf s i c n) ≡ mapAnswer (λ x. x .place) (sampleOf s i c n)

@@ -1,4 +1,5 @@
--- When a file is refused, as document 01's tables say it: what a reader has to believe of demand 1.
+-- When a file is refused, as document 01's tables say it, and what a recording says: what a reader has to believe of the demands.
 pub mod Attributes
 pub mod Rows
 pub mod Refusing
+pub mod Told

@@ -1,109 +1,94 @@
--- What a value keeps of its sample: a single, a double and a float that is no number have exactly the file's bits, and null is
--- answered exactly where the bits are null's. Assumes nothing.
+-- What a value keeps of its sample's bits.
+--     said-back     what a value says tells which value it is: nothing is lost
+--     value-bits    a status, a single, a double and a float that is no number have exactly the sample's bits
+--     null-first, null-only    null is answered exactly where the bits are null's
+-- Assumes nothing.
 use mathlib.Core.Path.{_≡_, refl, sym, ap, subst, _∙_}
-use mathlib.Core.Bool.{Bool, true, false, not}
-use mathlib.Core.List.{List}
-use Prim.Native.Nat.{ℕ, _*_, _<_}
-use native.Mathlib.Nat.{lt-of-lt-of-le}
+use mathlib.Core.List.{[], _∷_}
+use mathlib.Core.Bool.{true}
+use Prim.Native.Nat.{ℕ, _<_}
 use native.Mathlib.Omega.{arith}
-use lib.Dec.{T, lit<}
-use lib.Ieee.{Float, Format, binary32, binary64, nanBits, ofBits, toBits, top}
-use lib.Ieee.Bits.{nanBits-is, toBits-ofBits}
-use lib.ListN.{getD, take}
-use Rattle.octets.specs.Number.{range, numberOf}
+use lib.Dec.{T}
+use lib.Ieee.{binary32, binary64, fits, nanBits, ofBits}
+use lib.Ieee.Bits.{ofBits-toBits}
+use lib.IntN.{pos}
+use lib.ListN.{getD}
 use Rattle.octets.proofs.Pick.{pick-cases}
-use Rattle.octets.proofs.Laws.{cap, number-below, take-length-le, take-octets}
 use Rattle.values.specs.declared.Bits.{Bits}
 use Rattle.values.specs.declared.Value.{Value}
 use Rattle.values.specs.declared.Value.the-variants.{Whole, Status, Single, Double, NotNumber, Null}
 use Rattle.values.proofs.Laws.{kind-cases, plain-other}
-use Rattle.values.specs.Sample.{widthOf, kindOf, singleOf, doubleOf, plainOf, isNull, sampleBits, valueOf}
+use Rattle.values.specs.Sample.{Said, wholeSaid, nullSaid, valueSays, singleOf, doubleOf, plainOf, isNull, lowBits, valueOf}
 
--- A float that is a number has exactly the bits that it was made of.
-pub bits-kept : (f : Format) (n : ℕ) → n < 2 * top f → nanBits f n ≡ false → toBits f (ofBits f n) ≡ n
-bits-kept f n h e = toBits-ofBits f n h (subst (λ (b : Bool). T (not b)) (sym e ∙ nanBits-is f n) tt)
+-- ---- what a value says
 
--- A value has the bits n, as far as it has bits, and is not null.
-abbrev pub HasBits : ℕ → Value → Type 0
-HasBits n (Whole z) = Unit {0}
-HasBits n (Status m) = m ≡ n
-HasBits n (Single x) = toBits binary32 x ≡ n
-HasBits n (Double x) = toBits binary64 x ≡ n
-HasBits n (NotNumber m) = m ≡ n
-HasBits n Null = ⊥
+-- The value that says so.
+abbrev saying : Said → Value
+saying x =
+    getD (Whole (x .whole) ∷ Status (x .bits) ∷ Single (ofBits binary32 (x .bits)) ∷ Double (ofBits binary64 (x .bits)) ∷ NotNumber (x .bits) ∷ []) (x .kind) Null
 
--- Null has no bits, and is the one value of its kind.
-not-null : (u : Value) → Null ≡ u → kindOf u < 5 → ⊥
-unfolding kindOf
-not-null u e h = omega (arith, ap kindOf e)
+-- A single is one of its format, and so is a double; every value that a program has is.
+abbrev pub Held : Value → Type 0
+Held (Whole z) = Unit {0}
+Held (Status n) = Unit {0}
+Held (Single x) = T (fits binary32 x)
+Held (Double x) = T (fits binary64 x)
+Held (NotNumber n) = Unit {0}
+Held Null = Unit {0}
 
-has-kind : (n : ℕ) (u : Value) → HasBits n u → kindOf u ≡ 5 → ⊥
-unfolding kindOf
-has-kind n (Whole z) h e = omega arith
-has-kind n (Status m) h e = omega arith
-has-kind n (Single x) h e = omega arith
-has-kind n (Double x) h e = omega arith
-has-kind n (NotNumber m) h e = omega arith
-has-kind n Null h e = h
+back : (v : Value) → Held v → saying (valueSays v) ≡ v
+unfolding valueSays
+back (Whole z) h = refl
+back (Status n) h = refl
+back (Single x) h = ap Single (ofBits-toBits binary32 x h)
+back (Double x) h = ap Double (ofBits-toBits binary64 x h)
+back (NotNumber n) h = refl
+back Null h = refl
 
-single-has : (n : ℕ) → n < range 4 → HasBits n (singleOf n)
+pub said-back : (a b : Value) → Held a → Held b → valueSays a ≡ valueSays b → a ≡ b
+said-back a b h k e = sym (back a h) ∙ ap saying e ∙ back b k
+
+-- ---- the value of some bits
+
+-- A value that is not whole says these bits, and it is not null.
+abbrev HasBits : ℕ → Said → Type 0
+HasBits n x = (x .kind < 5) × (0 < x .kind → x .bits ≡ n)
+
+single-has : (n : ℕ) → HasBits n (singleOf n)
 unfolding singleOf
-single-has n h = pick-cases (HasBits n) (nanBits binary32 n) (λ e. refl) (λ e. bits-kept binary32 n h e)
+single-has n = pick-cases (HasBits n) (nanBits binary32 n) (λ e. (omega arith, λ h. refl)) (λ e. (omega arith, λ h. refl))
 
-double-has : (n : ℕ) → n < range 8 → HasBits n (doubleOf n)
+double-has : (n : ℕ) → HasBits n (doubleOf n)
 unfolding doubleOf
-double-has n h = pick-cases (HasBits n) (nanBits binary64 n) (λ e. refl) (λ e. bits-kept binary64 n h e)
+double-has n = pick-cases (HasBits n) (nanBits binary64 n) (λ e. (omega arith, λ h. refl)) (λ e. (omega arith, λ h. refl))
 
--- By data type: a sample that is not null has its bits.
-plain-has : (little : Bool) (x : List ℕ) (k : ℕ) → numberOf little x < range (widthOf k) → HasBits (numberOf little x) (plainOf k little x)
-unfolding plainOf widthOf
-plain-has little x =
-    let n = numberOf little x in
-    kind-cases (λ (k : ℕ). n < range (widthOf k) → HasBits n (plainOf k little x))
-    (λ _. tt) (λ _. tt) (λ _. tt) (λ _. tt) (λ _. refl) (λ _. tt) (λ _. tt) (single-has n) (double-has n)
-    (λ k h _. subst (HasBits n) (plain-other k little x h) tt)
+whole-has : (n : ℕ) → HasBits n (wholeSaid (pos 0))
+whole-has n = (omega arith, λ h. let w : ⊥ = omega arith in absurd w)
 
--- Null is answered where the sample's bits are null's.
-pub null-first : (kind : ℕ) (null : Bits) (little : Bool) (v : List ℕ) → isNull null (sampleBits kind little v) ≡ true → valueOf kind null little v ≡ Null
-unfolding valueOf
-null-first kind null little v h = rw h
+plain-has : (k n : ℕ) → HasBits n (plainOf k n)
+unfolding plainOf
+plain-has k n =
+    let w = whole-has n in
+    kind-cases (λ (j : ℕ). HasBits n (plainOf j n)) w w w w (omega arith, λ h. refl) w w (single-has n) (double-has n)
+    (λ j h. subst (HasBits n) (plain-other j n h) w) k
 
-module _ (kind : ℕ) (null : Bits) (little : Bool) (v : List ℕ) (octets : (i : ℕ) → getD v i 0 < 256) where
-  -- Else the value has the bits.
-  other-has : HasBits (sampleBits kind little v) (plainOf kind little (take (widthOf kind) v))
-  other-has =
-      plain-has little (take (widthOf kind) v) kind
-      (lt-of-lt-of-le (number-below little (take (widthOf kind) v) (take-octets (widthOf kind) v octets))
-      (cap _ _ (take-length-le (widthOf kind) v)))
-
-  value-has : (u : Value) → valueOf kind null little v ≡ u → kindOf u < 5 → HasBits (sampleBits kind little v) u
+module _ (kind : ℕ) (null : Bits) (bits : ℕ) where
+  -- A value that is neither whole nor null.
+  pub value-bits : 0 < valueOf kind null bits .kind → valueOf kind null bits .kind < 5 → valueOf kind null bits .bits ≡ lowBits kind bits
   unfolding valueOf
-  value-has u =
-      pick-cases (λ (a : Value). a ≡ u → kindOf u < 5 → HasBits (sampleBits kind little v) u) (isNull null (sampleBits kind little v))
-      (λ t e h. absurd (not-null u e h))
-      (λ t e h. subst (HasBits (sampleBits kind little v)) e other-has)
+  value-bits =
+      pick-cases (λ (x : Said). 0 < x .kind → x .kind < 5 → x .bits ≡ lowBits kind bits) (isNull null (lowBits kind bits))
+      (λ t l h. let z : ⊥ = omega arith in absurd z)
+      (λ t l h. plain-has kind (lowBits kind bits) .1 l)
 
-  -- A single that is handed out has exactly the bits of the sample; so has a double, so have bits that are no number's.
-  pub single-bits : (x : Float) → valueOf kind null little v ≡ Single x → toBits binary32 x ≡ sampleBits kind little v
-  unfolding kindOf
-  single-bits x e = value-has (Single x) e (lit< tt)
+  -- Null is answered where the sample's bits are null's, and nowhere else.
+  pub null-first : isNull null (lowBits kind bits) ≡ true → valueOf kind null bits ≡ nullSaid
+  unfolding valueOf
+  null-first h = rw h
 
-  pub double-bits : (x : Float) → valueOf kind null little v ≡ Double x → toBits binary64 x ≡ sampleBits kind little v
-  unfolding kindOf
-  double-bits x e = value-has (Double x) e (lit< tt)
-
-  pub not-number-bits : (n : ℕ) → valueOf kind null little v ≡ NotNumber n → n ≡ sampleBits kind little v
-  unfolding kindOf
-  not-number-bits n e = value-has (NotNumber n) e (lit< tt)
-
-  pub status-bits : (n : ℕ) → valueOf kind null little v ≡ Status n → n ≡ sampleBits kind little v
-  unfolding kindOf
-  status-bits n e = value-has (Status n) e (lit< tt)
-
-  -- Null is answered nowhere else.
-  pub null-only : kindOf (valueOf kind null little v) ≡ 5 → isNull null (sampleBits kind little v) ≡ true
+  pub null-only : valueOf kind null bits .kind ≡ 5 → isNull null (lowBits kind bits) ≡ true
   unfolding valueOf
   null-only =
-      pick-cases (λ (a : Value). kindOf a ≡ 5 → isNull null (sampleBits kind little v) ≡ true) (isNull null (sampleBits kind little v))
+      pick-cases (λ (x : Said). x .kind ≡ 5 → isNull null (lowBits kind bits) ≡ true) (isNull null (lowBits kind bits))
       (λ t e. t)
-      (λ t e. absurd (has-kind (sampleBits kind little v) (plainOf kind little (take (widthOf kind) v)) other-has e))
+      (λ t e. let z : ⊥ = omega (arith, plain-has kind (lowBits kind bits) .0) in absurd z)

@@ -3,26 +3,28 @@
 --     kind-cases, width-cases    what holds of each data type, and of the widths that they have
 --     three, width-le, plain-signed, plain-unsigned    the tables by data type
 --     width-other, plain-other, past    and at a number that is no type
+--     low-bits, low-below    the bits of the sample's width
 --     null-yes, null-no    null comes first
+--     bits-kept    a float that is a number has its bits
 -- Assumes nothing.
-use mathlib.Core.Path.{_≡_, refl, _∙_}
+use mathlib.Core.Path.{_≡_, refl, sym, subst, _∙_}
 use mathlib.Core.Logic.{_⊎_, inl, inr, ⊎-elim}
-use mathlib.Core.Bool.{Bool, true, false}
-use mathlib.Core.List.{List}
+use mathlib.Core.Bool.{Bool, true, false, not}
 use Prim.Native.Nat.{ℕ, zero, suc, _*_, _%_, _<_, _≤_}
 use native.Mathlib.Decide.{decLt}
+use native.Mathlib.Nat.{mod-lt, mod-eq-of-lt}
 use native.Mathlib.Omega.{arith}
 use borrow.Author.Tests.{lt-ltb, le-ltb, eq-eqb, ne-eqb}
-use lib.Dec.{lit≤}
-use lib.Ieee.{Format, nanBits, ones, hid, top}
-use lib.Ieee.Bits.{nanBits-above}
+use lib.Dec.{T, lit≤}
+use lib.Ieee.{Format, ofBits, toBits, nanBits, ones, hid, top}
+use lib.Ieee.Bits.{nanBits-is, nanBits-above, toBits-ofBits}
 use lib.IntN.{pos}
-use lib.ListN.{take, List·getD-eq-default}
-use Rattle.octets.specs.Number.{numberOf, signedOf}
+use lib.ListN.{List·getD-eq-default}
+use Rattle.octets.specs.Number.{range, twos}
+use Rattle.octets.proofs.Laws.{range-pos}
 use Rattle.octets.proofs.Pick.{both-false}
 use Rattle.values.specs.declared.Bits.{Bits}
-use Rattle.values.specs.declared.Value.the-variants.{Whole, Null}
-use Rattle.values.specs.Sample.{widthOf, plainOf, isNull, valueOf}
+use Rattle.values.specs.Sample.{widthOf, wholeSaid, nullSaid, plainOf, isNull, lowBits, valueOf}
 
 -- A float is no number where its bits without the sign are above infinity's.
 module _ (f : Format) (n : ℕ) where
@@ -31,6 +33,10 @@ module _ (f : Format) (n : ℕ) where
 
   pub nan-no : n % top f ≤ ones f * hid f → nanBits f n ≡ false
   nan-no h = nanBits-above f n ∙ le-ltb _ _ h
+
+-- A float that is a number has exactly the bits that it was made of.
+pub bits-kept : (f : Format) (n : ℕ) → n < 2 * top f → nanBits f n ≡ false → toBits f (ofBits f n) ≡ n
+bits-kept f n h e = toBits-ofBits f n h (subst (λ (b : Bool). T (not b)) (sym e ∙ nanBits-is f n) tt)
 
 -- What holds of three numbers holds of one that is among them.
 pub three : (P : ℕ → Type 0) {a b c k : ℕ} → P a → P b → P c → (k ≡ a) ⊎ ((k ≡ b) ⊎ (k ≡ c)) → P k
@@ -54,9 +60,9 @@ pub width-other : (k : ℕ) → 9 ≤ k → 0 ≡ widthOf k
 unfolding widthOf
 width-other k h = rw List·getD-eq-default
 
-pub plain-other : (k : ℕ) (little : Bool) (x : List ℕ) → 9 ≤ k → Whole (pos 0) ≡ plainOf k little x
+pub plain-other : (k n : ℕ) → 9 ≤ k → wholeSaid (pos 0) ≡ plainOf k n
 unfolding plainOf
-plain-other k little x h = rw List·getD-eq-default
+plain-other k n h = rw List·getD-eq-default
 
 -- What holds of the widths 1, 2, 4 and 8 holds of the width of each data type.
 pub width-cases : (P : ℕ → Type 0) → P 1 → P 2 → P 4 → P 8 → (k : ℕ) → k ≤ 8 → P (widthOf k)
@@ -75,26 +81,33 @@ width-le k = by (decLt 8 k)
     by (no h) = width-cases (λ (w : ℕ). w ≤ 8) (lit≤ tt) (lit≤ tt) (lit≤ tt) (lit≤ tt) k (omega arith)
 
 -- The signed data types, and the unsigned ones.
-module _ (k : ℕ) (little : Bool) (x : List ℕ) where
-  pub plain-signed : (k ≡ 0) ⊎ ((k ≡ 2) ⊎ (k ≡ 5)) → Whole (signedOf little x) ≡ plainOf k little x
+module _ (k n : ℕ) where
+  pub plain-signed : (k ≡ 0) ⊎ ((k ≡ 2) ⊎ (k ≡ 5)) → wholeSaid (twos (widthOf k) n) ≡ plainOf k n
   unfolding plainOf
-  plain-signed h = three (λ (j : ℕ). Whole (signedOf little x) ≡ plainOf j little x) refl refl refl h
+  plain-signed h = three (λ (j : ℕ). wholeSaid (twos (widthOf j) n) ≡ plainOf j n) refl refl refl h
 
-  pub plain-unsigned : (k ≡ 1) ⊎ ((k ≡ 3) ⊎ (k ≡ 6)) → Whole (pos (numberOf little x)) ≡ plainOf k little x
+  pub plain-unsigned : (k ≡ 1) ⊎ ((k ≡ 3) ⊎ (k ≡ 6)) → wholeSaid (pos n) ≡ plainOf k n
   unfolding plainOf
-  plain-unsigned h = three (λ (j : ℕ). Whole (pos (numberOf little x)) ≡ plainOf j little x) refl refl refl h
+  plain-unsigned h = three (λ (j : ℕ). wholeSaid (pos n) ≡ plainOf j n) refl refl refl h
 
 -- A number that is at least j, and not j, is above it.
 pub past : {k j : ℕ} → j ≤ k → (k ≡ j → ⊥) → suc j ≤ k
 past h n = omega arith
 
--- Null comes first: it is defined and its bits are the sample's, or the data type decides.
-module _ (k n : ℕ) (u : Bits) (little : Bool) (x v : List ℕ) (e : x ≡ take (widthOf k) v) (b : n ≡ numberOf little x) where
-  pub null-yes : (u .width ≡ 0 → ⊥) → u .bits ≡ n → Null ≡ valueOf k u little v
-  unfolding valueOf isNull
-  null-yes h q = rw (← e, ← b) (simp (ne-eqb _ _ h, eq-eqb _ _ q))
+-- Bits of the sample's width are all looked at.
+pub low-bits : (k n : ℕ) → n < range (widthOf k) → lowBits k n ≡ n
+low-bits k n h = mod-eq-of-lt h
 
-  pub null-no : (u .width ≡ 0) ⊎ (u .bits ≡ n → ⊥) → plainOf k little x ≡ valueOf k u little v
+pub low-below : (k n : ℕ) → lowBits k n < range (widthOf k)
+low-below k n = mod-lt n (range-pos (widthOf k))
+
+-- Null comes first: it is defined and its bits are the sample's, or the data type decides.
+module _ (k bits n : ℕ) (u : Bits) (e : n ≡ lowBits k bits) where
+  pub null-yes : (u .width ≡ 0 → ⊥) → u .bits ≡ n → nullSaid ≡ valueOf k u bits
+  unfolding valueOf isNull
+  null-yes h q = rw (← e) (simp (ne-eqb _ _ h, eq-eqb _ _ q))
+
+  pub null-no : (u .width ≡ 0) ⊎ (u .bits ≡ n → ⊥) → plainOf k n ≡ valueOf k u bits
   unfolding valueOf isNull
   null-no (inl h) = rw (← e) (simp (eq-eqb _ _ h))
-  null-no (inr h) = rw (← e, ← b) (simp (ne-eqb _ _ h, both-false))
+  null-no (inr h) = rw (← e) (simp (ne-eqb _ _ h, both-false))

@@ -1,12 +1,12 @@
 -- The value of a sample: "Octets per sample by type", and the six kinds of "Frames and samples".
 use mathlib.Core.Bool.{Bool, not}
-use mathlib.Core.List.{List, [], _∷_}
-use Prim.Native.Nat.{ℕ}
+use mathlib.Core.List.{[], _∷_}
+use Prim.Native.Nat.{ℕ, _%_}
 use lib.Dec.{eqb}
-use lib.IntN.{pos}
-use lib.Ieee.{binary32, binary64, ofBits, nanBits}
-use lib.ListN.{getD, take}
-use Rattle.octets.specs.Number.{numberOf, signedOf}
+use lib.IntN.{ℤ, pos}
+use lib.Ieee.{binary32, binary64, toBits, nanBits}
+use lib.ListN.{getD}
+use Rattle.octets.specs.Number.{range, twos}
 use Rattle.octets.specs.Pick.{pick, both}
 use Rattle.values.specs.declared.Bits.{Bits}
 use Rattle.values.specs.declared.Value.{Value}
@@ -16,49 +16,67 @@ use Rattle.values.specs.declared.Value.the-variants.{Whole, Status, Sing
 unfoldable pub widthOf : ℕ → ℕ
 widthOf kind = getD (2 ∷ 2 ∷ 4 ∷ 1 ∷ 2 ∷ 1 ∷ 4 ∷ 4 ∷ 8 ∷ []) kind 0
 
--- The number of a value's kind, in the order whole, status, single, double, not-a-number, null.
-unfoldable pub kindOf : Value → ℕ
-kindOf (Whole z) = 0
-kindOf (Status n) = 1
-kindOf (Single x) = 2
-kindOf (Double x) = 3
-kindOf (NotNumber n) = 4
-kindOf Null = 5
+-- ---- what a value says
+
+-- The number of its kind, its number where it is whole, and its bits where it has bits; else 0.
+pub record Said : Type 0 where
+  pub kind : ℕ
+  pub whole : ℤ
+  pub bits : ℕ
+
+-- The six kinds, numbered in this order.
+abbrev pub wholeSaid : ℤ → Said
+wholeSaid z = record { kind = 0; whole = z; bits = 0 }
+
+abbrev pub statusSaid : ℕ → Said
+statusSaid n = record { kind = 1; whole = pos 0; bits = n }
+
+abbrev pub singleSaid : ℕ → Said
+singleSaid n = record { kind = 2; whole = pos 0; bits = n }
+
+abbrev pub doubleSaid : ℕ → Said
+doubleSaid n = record { kind = 3; whole = pos 0; bits = n }
+
+abbrev pub notNumberSaid : ℕ → Said
+notNumberSaid n = record { kind = 4; whole = pos 0; bits = n }
+
+abbrev pub nullSaid : Said
+nullSaid = record { kind = 5; whole = pos 0; bits = 0 }
+
+-- What each value says; a single and a double say their own bits.
+unfoldable pub valueSays : Value → Said
+valueSays (Whole z) = wholeSaid z
+valueSays (Status n) = statusSaid n
+valueSays (Single x) = singleSaid (toBits binary32 x)
+valueSays (Double x) = doubleSaid (toBits binary64 x)
+valueSays (NotNumber n) = notNumberSaid n
+valueSays Null = nullSaid
+
+-- ---- the value of some bits
 
 -- The single of some bits, or the bits themselves where they are no number's.
-unfoldable pub singleOf : ℕ → Value
-singleOf n = pick (nanBits binary32 n) (NotNumber n) (Single (ofBits binary32 n))
+unfoldable pub singleOf : ℕ → Said
+singleOf n = pick (nanBits binary32 n) (notNumberSaid n) (singleSaid n)
 
 -- The double of some bits, or the bits themselves where they are no number's.
-unfoldable pub doubleOf : ℕ → Value
-doubleOf n = pick (nanBits binary64 n) (NotNumber n) (Double (ofBits binary64 n))
+unfoldable pub doubleOf : ℕ → Said
+doubleOf n = pick (nanBits binary64 n) (notNumberSaid n) (doubleSaid n)
 
--- The value of a sample's octets, null aside, by its data type, 0 to 8; an accepted file has no other type.
-unfoldable pub plainOf : ℕ → Bool → List ℕ → Value
-plainOf kind little x =
-    getD
-    (Whole (signedOf little x)
-    ∷ Whole (pos (numberOf little x))
-    ∷ Whole (signedOf little x)
-    ∷ Whole (pos (numberOf little x))
-    ∷ Status (numberOf little x)
-    ∷ Whole (signedOf little x)
-    ∷ Whole (pos (numberOf little x))
-    ∷ singleOf (numberOf little x)
-    ∷ doubleOf (numberOf little x)
-    ∷ [])
-    kind
-    (Whole (pos 0))
+-- The value of a sample's bits, null aside, by its data type, 0 to 8; an accepted file has no other type. Types 0, 2 and 5 are signed.
+unfoldable pub plainOf : ℕ → ℕ → Said
+plainOf kind n =
+    let signed = wholeSaid (twos (widthOf kind) n) in
+    let unsigned = wholeSaid (pos n) in
+    getD (signed ∷ unsigned ∷ signed ∷ unsigned ∷ statusSaid n ∷ signed ∷ unsigned ∷ singleOf n ∷ doubleOf n ∷ []) kind (wholeSaid (pos 0))
 
 -- The bits are null's: null is defined, and its bits are these. Widths need no comparison: 12 has refused a null of another width.
 unfoldable pub isNull : Bits → ℕ → Bool
 isNull null n = both (not (eqb (null .width) 0)) (eqb (null .bits) n)
 
--- The bits of the sample that octets start with.
-abbrev pub sampleBits : ℕ → Bool → List ℕ → ℕ
-sampleBits kind little v = numberOf little (take (widthOf kind) v)
+-- The lowest bits, as many as a sample of a data type has.
+abbrev pub lowBits : ℕ → ℕ → ℕ
+lowBits kind bits = bits % range (widthOf kind)
 
--- The value of the sample that octets start with: null comes first, then the data type decides.
-unfoldable pub valueOf : ℕ → Bits → Bool → List ℕ → Value
-valueOf kind null little v =
-    pick (isNull null (sampleBits kind little v)) Null (plainOf kind little (take (widthOf kind) v))
+-- The value of a sample's bits: null comes first, then the data type decides.
+unfoldable pub valueOf : ℕ → Bits → ℕ → Said
+valueOf kind null bits = pick (isNull null (lowBits kind bits)) nullSaid (plainOf kind (lowBits kind bits))

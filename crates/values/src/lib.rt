@@ -1,4 +1,4 @@
-// Values: what the octets of one sample stand for.
+// Values: what the bits of one sample stand for.
 //
 // For the answer to a sample's question, and for every crate that keeps null or offset bits (Bits).
 // Promises: each public function answers for every input and its whole answer is a definition of specs/Sample.antt. A
@@ -6,12 +6,11 @@
 // Read first: specs/Sample.antt, in the order of the rules.
 ghost use mathlib.Core.Path.{_≡_};
 ghost use Prim.Native.Nat.{_<_, _≤_};
-ghost use lib.ListN.{length};
 ghost use lib.IntN.{pos};
-ghost use Rattle.octets.specs.Number.{range, signedOf, Read};
-ghost use Rattle.values.specs.Sample.{widthOf, singleOf, doubleOf, plainOf, valueOf};
+ghost use Rattle.octets.specs.Number.{range, twos};
+ghost use Rattle.values.specs.Sample.{widthOf, wholeSaid, valueSays, singleOf, doubleOf, plainOf, lowBits, valueOf};
 
-// A value is one of six kinds, whose numbers are those of `kindOf`.
+// A value is one of six kinds; `valueSays` has their numbers.
 pub enum Value {
     Whole(i64),
     Status(u16),
@@ -45,19 +44,30 @@ pub fn width(kind: u8) -> usize
     }
 }
 
-// A whole number with a sign.
-fn whole(x: &[u8], little: bool) -> Value
-    requires { ⌜ length (now x) ≤ 4 ⌝ }
-    ensures { λ r. ⌜ r ≡ Value.Whole (signedOf «little» (now (x .entry))) ⌝ }
+// How many numbers w octets tell apart.
+fn range_of(w: usize) -> u64
+    requires { ⌜ w < 8 ⌝ }
+    ensures { λ r. ⌜ r ≡ range w ⌝ }
 {
-    let z = octets::signed(x, little);
-    Value::Whole(z as i64)
+    1 << (8 * w)
+}
+
+// A whole number with a sign, of w octets.
+fn whole(n: u64, w: usize) -> Value
+    requires { ⌜ (w ≤ 4) × (n < range w) ⌝ }
+    ensures { λ r. ⌜ valueSays r ≡ wholeSaid (twos w n) ⌝ }
+{
+    let full = range_of(w);
+    if 2 * n < full {
+        return Value::Whole(n as i64);
+    }
+    Value::Whole(!((full - 1 - n) as i64))
 }
 
 // A whole number without a sign.
 fn count(n: u64) -> Value
     requires { ⌜ n < range 4 ⌝ }
-    ensures { λ r. ⌜ r ≡ Value.Whole (pos n) ⌝ }
+    ensures { λ r. ⌜ valueSays r ≡ wholeSaid (pos n) ⌝ }
 {
     Value::Whole(n as i64)
 }
@@ -65,7 +75,7 @@ fn count(n: u64) -> Value
 // A single, or its bits where they are no number's: without the sign they are above infinity's.
 fn single(n: u64) -> Value
     requires { ⌜ n < range 4 ⌝ }
-    ensures { λ r. ⌜ r ≡ singleOf n ⌝ }
+    ensures { λ r. ⌜ valueSays r ≡ singleOf n ⌝ }
 {
     if 0x7F800000 < n % 0x80000000 {
         return Value::NotNumber(n);
@@ -75,7 +85,7 @@ fn single(n: u64) -> Value
 
 // A double, or its bits where they are no number's.
 fn double(n: u64) -> Value
-    ensures { λ r. ⌜ r ≡ doubleOf n ⌝ }
+    ensures { λ r. ⌜ valueSays r ≡ doubleOf n ⌝ }
 {
     if 0x7FF0000000000000 < n % 0x8000000000000000 {
         return Value::NotNumber(n);
@@ -83,13 +93,13 @@ fn double(n: u64) -> Value
     Value::Double(f64::from_bits(n))
 }
 
-// A sample that is not null, of the octets x with the bits n.
-fn plain(x: &[u8], little: bool, kind: u8, n: u64) -> Value
-    requires { ⌜ (length (now x) ≤ widthOf kind) × Read «little» (now x) n ⌝ }
-    ensures { λ r. ⌜ r ≡ plainOf kind «little» (now (x .entry)) ⌝ }
+// A sample that is not null, of the bits n.
+fn plain(kind: u8, n: u64) -> Value
+    requires { ⌜ n < range (widthOf kind) ⌝ }
+    ensures { λ r. ⌜ valueSays r ≡ plainOf kind n ⌝ }
 {
     match kind {
-        0 | 2 | 5 => whole(x, little),
+        0 | 2 | 5 => whole(n, width(kind)),
         1 | 3 | 6 => count(n),
         4 => Value::Status(n as u16),
         7 => single(n),
@@ -98,17 +108,26 @@ fn plain(x: &[u8], little: bool, kind: u8, n: u64) -> Value
     }
 }
 
-// The value of the sample that v starts with.
-pub fn sample_value(v: &[u8], little: bool, kind: u8, null: Bits) -> Value
-    ensures { λ r. ⌜ r ≡ valueOf kind null «little» (now (v .entry)) ⌝ }
+// The lowest bits, as many as a sample of a data type has.
+fn low_bits(bits: u64, kind: u8) -> u64
+    ensures { λ r. ⌜ r ≡ lowBits kind bits ⌝ }
 {
     let w = width(kind);
-    let x = octets::part(v, 0, w);
-    let n = octets::number(x, little);
+    if w == 8 {
+        return bits;
+    }
+    bits % range_of(w)
+}
+
+// The value of a sample's bits; bits above its width are not looked at.
+pub fn sample_value(bits: u64, kind: u8, null: Bits) -> Value
+    ensures { λ r. ⌜ valueSays r ≡ valueOf kind null bits ⌝ }
+{
+    let n = low_bits(bits, kind);
     if null.width != 0 {
         if null.bits == n {
             return Value::Null;
         }
     }
-    plain(x, little, kind, n)
+    plain(kind, n)
 }

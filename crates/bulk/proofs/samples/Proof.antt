@@ -7,7 +7,6 @@ use lib.Seq.{sets}
 use Rattle.bulk.specs.Walked.{Wide}
 use lib.ListN.{length}
 use Rattle.heads.specs.Answer.{answered, mapAnswer}
-use Rattle.reader.specs.Answer.{placedSays}
 use Rattle.reader.proofs.Answers.{placed-at}
 use Rattle.bulk.proofs.Walks.{length-bits}
 use Rattle.bulk.proofs.Reading.{block-some, rest-low, kind-seen, width-wide, in-blocks, seen-bits, read-samples, read-refused, kept, filled}
@@ -31,7 +30,7 @@ width-requires : tie.Need-width-requires
 width-requires c κs = search needs
 
 rem-r : tie.Need-rem-r
-rem-r c = block-some (placed-at _ _ _ _ (ap placedSays (sym (c .before .before .before .before .at .given .1)) ∙ c .before .before .before .before .before .before .place .ensures))
+rem-r c = block-some (placed-at _ _ _ _ (c .before .before .before .before .before .before .place .ensures) (c .before .before .before .before .at .given .1))
 
 cast-fitting : tie.Need-cast-fitting
 cast-fitting c = search needs
@@ -43,26 +42,26 @@ mul-fitting c =
     omega (arith, mul-le-mul p q)
 
 sub-fitting : tie.Need-sub-fitting
-sub-fitting c = omega (arith, (placed-at _ _ _ _ (ap placedSays (sym (c .before .before .before .before .before .at .given .1)) ∙ c .before .before .before .before .before .before .before .place .ensures)) .number)
+sub-fitting c = omega (arith, (placed-at _ _ _ _ (c .before .before .before .before .before .before .before .place .ensures) (c .before .before .before .before .before .at .given .1)) .number)
 
 fitting-requires : tie.Need-fitting-requires
 fitting-requires c κs = search needs
 
 mul-fill : tie.Need-mul-fill
-mul-fill c = omega (arith, rest-low (placed-at _ _ _ _ (ap placedSays (sym (c .before .before .before .before .before .before .at .given .1)) ∙ c .before .before .before .before .before .before .before .before .place .ensures)) _ (c .before .before .width .ensures))
+mul-fill c = omega (arith, rest-low (placed-at _ _ _ _ (c .before .before .before .before .before .before .before .before .place .ensures) (c .before .before .before .before .before .before .at .given .1)) _ (c .before .before .width .ensures))
 
 sub-fill : tie.Need-sub-fill
-sub-fill c = rest-low (placed-at _ _ _ _ (ap placedSays (sym (c .before .before .before .before .before .before .at .given .1)) ∙ c .before .before .before .before .before .before .before .before .place .ensures)) _ (c .before .before .width .ensures)
+sub-fill c = rest-low (placed-at _ _ _ _ (c .before .before .before .before .before .before .before .before .place .ensures) (c .before .before .before .before .before .before .at .given .1)) _ (c .before .before .width .ensures)
 
 fill-requires : tie.Need-fill-requires
 fill-requires c κs =
-    let m = placed-at _ _ _ _ (ap placedSays (sym (c .before .before .before .before .before .before .before .at .given .1)) ∙ c .before .before .before .before .before .before .before .before .before .place .ensures) in
+    let m = placed-at _ _ _ _ (c .before .before .before .before .before .before .before .before .before .place .ensures) (c .before .before .before .before .before .before .before .at .given .1) in
     let wide = subst Wide (sym (c .before .before .before .width .ensures)) (width-wide _ (kind-seen (m .channelAt) (λ i. c .before .before .before .before .before .before .before .before .before .before .before .shared-slice-known .given i .fits))) in
     (wide, (in-blocks m _ (c .before .before .before .width .ensures) _ (omega (arith, c .before .fitting .ensures)), omega (arith, c .before .fitting .ensures)))
 
 returns : tie.Need-returns
 returns c =
-    let e = read-refused _ _ _ _ _ (ap placedSays (sym (c .before .x .given .1)) ∙ c .before .before .before .place .ensures) in
+    let e = read-refused _ _ _ _ _ (c .before .before .before .place .ensures) (c .before .x .given .1) in
     (ap (mapAnswer length) e, kept _ e)
 
 same-length : tie.Need-same-length
@@ -70,10 +69,10 @@ same-length c = search needs
 
 returns-2 : tie.Need-returns-2
 returns-2 c =
-    let m = placed-at _ _ _ _ (ap placedSays (sym (c .before .before .before .before .before .before .before .before .before .before .at .given .1)) ∙ c .before .before .before .before .before .before .before .before .before .before .before .before .place .ensures) in
+    let m = placed-at _ _ _ _ (c .before .before .before .before .before .before .before .before .before .before .before .before .place .ensures) (c .before .before .before .before .before .before .before .before .before .before .at .given .1) in
     let e = read-samples _ _ _ _ _ m (c .before .before .before .before .fitting .ensures) in
     let n = length-bits _ _ _ in
-    let stored = c .before .before .fill .ensures ∙ ap (sets _ 0) (seen-bits m _ (c .before .before .before .before .before .before .width .ensures) _) in
+    let stored = c .before .before .fill .ensures ∙ ap (sets _ 0) (seen-bits m _ (c .before .before .before .before .before .before .width .ensures) _ (omega (arith, c .before .before .before .before .fitting .ensures))) in
     (ap answered (sym n) ∙ ap (mapAnswer length) e, filled _ e (omega (arith, c .before .before .before .before .fitting .ensures, n)) stored)
 
 pub samples-spec : {M : Type 1} → statement M

@@ -1,6 +1,7 @@
 -- By the kind that the arm has found.
 use mathlib.Core.Path.{sym, ap}
-use Rattle.values.specs.Sample.{kindOf}
+use Rattle.values.specs.declared.Value.{Value}
+use Rattle.values.specs.Sample.{valueSays}
 use borrow.Author.Needs.{needs}
 use Rattle.mfer.proofs.kind_of.Statement.{statement}
 use Rattle.mfer.proofs.kind_of.Tie as tie
@@ -24,28 +25,28 @@ enum-told-6 : tie.Need-enum-told-6
 enum-told-6 c = search needs
 
 returns : tie.Need-returns
-unfolding kindOf
-returns c = ap kindOf (sym (c .enum-told .given .1))
+unfolding valueSays
+returns c = ap (λ (v : Value). valueSays v .kind) (sym (c .enum-told .given .1))
 
 returns-2 : tie.Need-returns-2
-unfolding kindOf
-returns-2 c = ap kindOf (sym (c .enum-told2 .given .1))
+unfolding valueSays
+returns-2 c = ap (λ (v : Value). valueSays v .kind) (sym (c .enum-told2 .given .1))
 
 returns-3 : tie.Need-returns-3
-unfolding kindOf
-returns-3 c = ap kindOf (sym (c .enum-told3 .given .1))
+unfolding valueSays
+returns-3 c = ap (λ (v : Value). valueSays v .kind) (sym (c .enum-told3 .given .1))
 
 returns-4 : tie.Need-returns-4
-unfolding kindOf
-returns-4 c = ap kindOf (sym (c .enum-told4 .given .1))
+unfolding valueSays
+returns-4 c = ap (λ (v : Value). valueSays v .kind) (sym (c .enum-told4 .given .1))
 
 returns-5 : tie.Need-returns-5
-unfolding kindOf
-returns-5 c = ap kindOf (sym (c .enum-told5 .given .1))
+unfolding valueSays
+returns-5 c = ap (λ (v : Value). valueSays v .kind) (sym (c .enum-told5 .given .1))
 
 returns-6 : tie.Need-returns-6
-unfolding kindOf
-returns-6 c = ap kindOf (sym (c .enum-told6 .given .1))
+unfolding valueSays
+returns-6 c = ap (λ (v : Value). valueSays v .kind) (sym (c .enum-told6 .given .1))
 
 pub kind-of-spec : {M : Type 1} → statement M
 kind-of-spec =

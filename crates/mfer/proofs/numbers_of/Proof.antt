@@ -2,15 +2,11 @@
 use borrow.Author.Needs.{needs}
 use mathlib.Core.List.{[], _∷_}
 use mir.Syntax.{w8, w32, w64}
-use mir.Val.{SFits}
 use mir.Facts.{toZ-ofZ}
 use Rattle.mfer.specs.Answers.{numbersOf}
 use Rattle.mfer.proofs.Widen.{widens, widened, plain}
 use Rattle.mfer.proofs.numbers_of.Statement.{statement}
 use Rattle.mfer.proofs.numbers_of.Tie as tie
-
-cast-t6 : tie.Need-cast-t6
-cast-t6 c = search needs
 
 cast-t7 : tie.Need-cast-t7
 cast-t7 c = search needs
@@ -30,69 +26,57 @@ cast-t11 c = search needs
 cast-t12 : tie.Need-cast-t12
 cast-t12 c = search needs
 
-fits13 : (c : tie.After-struct-told) → SFits w8 (c .before .before .before .before .before .before .before .before .before .before .before .before .before .args .a .interval .exponent)
-fits13 c = search needs
-
 cast-t13 : tie.Need-cast-t13
-cast-t13 c = widens {w = w8} tt (fits13 c)
-
-fits14 : (c : tie.After-struct-told2) → SFits w32 (c .before .before .before .before .before .before .before .before .before .before .before .before .before .before .before .args .a .interval .mantissa)
-fits14 c = search needs
+cast-t13 c = search needs
 
 cast-t14 : tie.Need-cast-t14
-cast-t14 c = widens {w = w32} tt (fits14 c)
+cast-t14 c = widens {w = w8} {z = c .before .before .before .before .before .before .before .before .before .before .before .before .before .before .args .a .settings .interval .exponent} tt (search needs)
 
 cast-t15 : tie.Need-cast-t15
-cast-t15 c = search needs
-
-fits16 : (c : tie.After-struct-told3) → SFits w8 (c .before .before .before .before .before .before .before .before .before .before .before .before .before .before .before .before .before .before .args .a .resolution .exponent)
-fits16 c = search needs
+cast-t15 c = widens {w = w32} {z = c .before .before .before .before .before .before .before .before .before .before .before .before .before .before .before .before .args .a .settings .interval .mantissa} tt (search needs)
 
 cast-t16 : tie.Need-cast-t16
-cast-t16 c = widens {w = w8} tt (fits16 c)
-
-fits17 : (c : tie.After-struct-told4) → SFits w32 (c .before .before .before .before .before .before .before .before .before .before .before .before .before .before .before .before .before .before .before .before .args .a .resolution .mantissa)
-fits17 c = search needs
+cast-t16 c = search needs
 
 cast-t17 : tie.Need-cast-t17
-cast-t17 c = widens {w = w32} tt (fits17 c)
+cast-t17 c = widens {w = w8} {z = c .before .before .before .before .before .before .before .before .before .before .before .before .before .before .before .before .before .before .before .args .a .settings .resolution .exponent} tt (search needs)
 
 cast-t18 : tie.Need-cast-t18
-cast-t18 c = search needs
+cast-t18 c = widens {w = w32} {z = c .before .before .before .before .before .before .before .before .before .before .before .before .before .before .before .before .before .before .before .before .before .args .a .settings .resolution .mantissa} tt (search needs)
 
 cast-t19 : tie.Need-cast-t19
 cast-t19 c = search needs
 
-start : (c : tie.After-struct-told5) → SFits w64 (c .before .before .before .before .before .before .before .before .before .before .before .before .before .before .before .before .before .before .before .before .before .before .before .args .a .start)
-start c = search needs
+cast-t20 : tie.Need-cast-t20
+cast-t20 c = search needs
 
 returns : tie.Need-returns
 unfolding numbersOf
 returns c =
-    let a = c .before .before .before .before .before .before .before .before .before .before .before .before .before .before .before .before .before .before .before .before .before .before .before .args .a in
+    let a = c .before .before .before .before .before .before .before .before .before .before .before .before .before .before .before .before .before .before .before .before .before .before .before .before .args .a in
+    let s = a .settings in
     λ i.
-    toZ-ofZ (start c) i
+    toZ-ofZ {w = w64} {z = a .start} (search needs) i
     ∷ plain (a .channels) (search needs) i
     ∷ plain (a .sequences) (search needs) i
-    ∷ plain (a .block) (search needs) i
-    ∷ plain (a .class) (search needs) i
-    ∷ plain (a .lead) (search needs) i
-    ∷ plain (a .kind) (search needs) i
-    ∷ plain (a .interval .unit) (search needs) i
-    ∷ widened {w = w8} tt (fits13 (c .before .before .before .before .before .before .before .before .before .before)) i
-    ∷ widened {w = w32} tt (fits14 (c .before .before .before .before .before .before .before .before)) i
-    ∷ plain (a .resolution .unit) (search needs) i
-    ∷ widened {w = w8} tt (fits16 (c .before .before .before .before .before)) i
-    ∷ widened {w = w32} tt (fits17 (c .before .before .before)) i
-    ∷ plain (a .offset .width) (search needs) i
-    ∷ plain (a .null .width) (search needs) i
+    ∷ plain (s .block) (search needs) i
+    ∷ plain (s .class) (search needs) i
+    ∷ plain (s .lead) (search needs) i
+    ∷ plain (s .kind) (search needs) i
+    ∷ plain (s .interval .unit) (search needs) i
+    ∷ widened {w = w8} {z = s .interval .exponent} tt (search needs) i
+    ∷ widened {w = w32} {z = s .interval .mantissa} tt (search needs) i
+    ∷ plain (s .resolution .unit) (search needs) i
+    ∷ widened {w = w8} {z = s .resolution .exponent} tt (search needs) i
+    ∷ widened {w = w32} {z = s .resolution .mantissa} tt (search needs) i
+    ∷ plain (s .offset .width) (search needs) i
+    ∷ plain (s .null .width) (search needs) i
     ∷ []
 
 pub numbers-of-spec : {M : Type 1} → statement M
 numbers-of-spec =
     tie.close
     (tie.spec
-    cast-t6
     cast-t7
     cast-t8
     cast-t9
@@ -106,4 +90,5 @@ numbers-of-spec =
     cast-t17
     cast-t18
     cast-t19
+    cast-t20
     returns)

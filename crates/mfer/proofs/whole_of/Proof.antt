@@ -3,7 +3,8 @@ use mathlib.Core.Path.{sym, ap, _∙_}
 use mir.Val.{SFits}
 use mir.Facts.{toZ-ofZ}
 use mir.Syntax.{w64}
-use Rattle.mfer.specs.Answers.{wholeOf}
+use Rattle.values.specs.declared.Value.{Value}
+use Rattle.values.specs.Sample.{valueSays}
 use borrow.Author.Needs.{needs}
 use Rattle.mfer.proofs.whole_of.Statement.{statement}
 use Rattle.mfer.proofs.whole_of.Tie as tie
@@ -30,28 +31,28 @@ in64 : (c : tie.After-known-told) → SFits w64 (c .before .v .given .0 .0)
 in64 c = search needs
 
 returns : tie.Need-returns
-unfolding wholeOf
-returns c = toZ-ofZ (in64 c) ∙ ap wholeOf (sym (c .before .v .given .1))
+unfolding valueSays
+returns c = toZ-ofZ (in64 c) ∙ ap (λ (v : Value). valueSays v .whole) (sym (c .before .v .given .1))
 
 returns-2 : tie.Need-returns-2
-unfolding wholeOf
-returns-2 c = ap wholeOf (sym (c .enum-told .given .1))
+unfolding valueSays
+returns-2 c = ap (λ (v : Value). valueSays v .whole) (sym (c .enum-told .given .1))
 
 returns-3 : tie.Need-returns-3
-unfolding wholeOf
-returns-3 c = ap wholeOf (sym (c .enum-told2 .given .1))
+unfolding valueSays
+returns-3 c = ap (λ (v : Value). valueSays v .whole) (sym (c .enum-told2 .given .1))
 
 returns-4 : tie.Need-returns-4
-unfolding wholeOf
-returns-4 c = ap wholeOf (sym (c .enum-told3 .given .1))
+unfolding valueSays
+returns-4 c = ap (λ (v : Value). valueSays v .whole) (sym (c .enum-told3 .given .1))
 
 returns-5 : tie.Need-returns-5
-unfolding wholeOf
-returns-5 c = ap wholeOf (sym (c .enum-told4 .given .1))
+unfolding valueSays
+returns-5 c = ap (λ (v : Value). valueSays v .whole) (sym (c .enum-told4 .given .1))
 
 returns-6 : tie.Need-returns-6
-unfolding wholeOf
-returns-6 c = ap wholeOf (sym (c .enum-told5 .given .1))
+unfolding valueSays
+returns-6 c = ap (λ (v : Value). valueSays v .whole) (sym (c .enum-told5 .given .1))
 
 pub whole-of-spec : {M : Type 1} → statement M
 whole-of-spec =

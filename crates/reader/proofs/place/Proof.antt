@@ -1,7 +1,5 @@
 -- By the answer of the look-up; a sample that is there lies in its frame's waveform, so that its place is small.
-use mathlib.Core.Path.{sym, ap, _∙_}
 use Prim.Native.Nat.{_≤_}
-use Rattle.reader.specs.Answer.{lookedUpSays}
 use native.Mathlib.Nat.{mul-le-mul}
 use native.Mathlib.Omega.{arith}
 use Rattle.reader.proofs.Answers.{located, place-refused, place-none, place-small, block-some, place-found}
@@ -31,18 +29,18 @@ mul-count c =
     omega (arith, mul-le-mul p q)
 
 returns : tie.Need-returns
-returns c = place-none (located _ _ _ _ (ap lookedUpSays (sym (c .before .before .before .before .before .v .given .1)) ∙ c .before .before .before .before .before .before .before .look-up .ensures)) (c .if1 .taken)
+returns c = place-none (located _ _ _ _ (c .before .before .before .before .before .before .before .look-up .ensures) (c .before .before .before .before .before .v .given .1)) (c .if1 .taken)
 
 place-seen-requires : tie.Need-place-seen-requires
 place-seen-requires c κs =
-    let l = located _ _ _ _ (ap lookedUpSays (sym (c .before .before .before .before .before .v .given .1)) ∙ c .before .before .before .before .before .before .before .look-up .ensures) in
+    let l = located _ _ _ _ (c .before .before .before .before .before .before .before .look-up .ensures) (c .before .before .before .before .before .v .given .1) in
     (block-some l (c .if1 .left), place-small l (c .if1 .left))
 
 returns-2 : tie.Need-returns-2
-returns-2 c = place-refused _ _ _ _ _ _ (ap lookedUpSays (sym (c .before .x .given .1)) ∙ c .before .before .before .look-up .ensures)
+returns-2 c = place-refused _ _ _ _ _ (c .before .before .before .look-up .ensures) (c .before .x .given .1)
 
 returns-3 : tie.Need-returns-3
-returns-3 c = place-found (located _ _ _ _ (ap lookedUpSays (sym (c .before .before .before .before .before .before .v .given .1)) ∙ c .before .before .before .before .before .before .before .before .look-up .ensures)) (c .before .if1 .left) (c .place-seen .ensures)
+returns-3 c = place-found (located _ _ _ _ (c .before .before .before .before .before .before .before .before .look-up .ensures) (c .before .before .before .before .before .before .v .given .1)) (c .before .if1 .left) (c .place-seen .ensures)
 
 pub place-spec : {M : Type 1} → statement M
 place-spec =

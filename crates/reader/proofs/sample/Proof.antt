@@ -1,7 +1,5 @@
--- By the answer for the place; the value is that of the octets there.
-use mathlib.Core.Path.{sym, ap, _∙_}
-use Rattle.reader.specs.Answer.{placedSays}
-use Rattle.reader.proofs.Answers.{sample-at, sample-refused}
+-- By the answer for the place; the octets there are the sample's, and the value is that of their bits.
+use Rattle.reader.proofs.Answers.{sample-at, sample-none}
 use borrow.Author.Needs.{needs}
 use Rattle.reader.proofs.sample.Statement.{statement}
 use Rattle.reader.proofs.sample.Tie as tie
@@ -21,16 +19,19 @@ width-requires c κs = search needs
 part-requires : tie.Need-part-requires
 part-requires c κs = search needs
 
+number-requires : tie.Need-number-requires
+number-requires c κs = search needs
+
 sample-value-requires : tie.Need-sample-value-requires
 sample-value-requires c κs = search needs
 
 returns : tie.Need-returns
-returns c = sample-refused _ _ _ _ _ _ (ap placedSays (sym (c .before .x .given .1)) ∙ c .before .before .before .place .ensures)
+returns c = sample-none _ _ _ _ _ (c .before .before .before .place .ensures) (c .before .x .given .1)
 
 returns-2 : tie.Need-returns-2
 returns-2 c =
-    let placed = ap placedSays (sym (c .before .before .before .before .before .before .at .given .1)) ∙ c .before .before .before .before .before .before .before .before .place .ensures in
-    sample-at _ _ _ _ placed (c .before .before .width .ensures) (c .before .part .ensures) (c .sample-value .ensures)
+    sample-at _ _ _ _ (c .before .before .before .before .before .before .before .before .before .place .ensures) (c .before .before .before .before .before .before .before .at .given .1)
+    (c .before .before .before .width .ensures) (c .before .before .part .ensures) (c .before .number .ensures) (c .sample-value .ensures)
 
 pub sample-spec : {M : Type 1} → statement M
 sample-spec =
@@ -41,6 +42,7 @@ sample-spec =
     enum-known-at
     width-requires
     part-requires
+    number-requires
     sample-value-requires
     returns
     returns-2)

@@ -2,7 +2,7 @@
 use mathlib.Core.Path.{ap}
 use mir.Syntax.{w64}
 use mir.Facts.{toZ-pos}
-use Rattle.values.specs.declared.Value.the-variants.{Whole}
+use Rattle.values.specs.Sample.{wholeSaid, valueSays}
 use borrow.Author.Needs.{needs}
 use Rattle.values.proofs.count.Statement.{statement}
 use Rattle.values.proofs.count.Tie as tie
@@ -11,7 +11,8 @@ cast-t2 : tie.Need-cast-t2
 cast-t2 c = search needs
 
 returns : tie.Need-returns
-returns c = ap Whole (toZ-pos w64 (search needs))
+unfolding valueSays
+returns c = ap wholeSaid (toZ-pos w64 (search needs))
 
 pub count-spec : {M : Type 1} → statement M
 count-spec = tie.close (tie.spec cast-t2 returns)

@@ -1,29 +1,44 @@
--- `values::whole` meets its contract: the signed number of at most four octets is an i32, and an i64 holds every i32. Assumes nothing.
-use mathlib.Core.Path.{ap, _∙_}
-use lib.IntN.{ℤ}
-use lib.Seq.{take-all}
-use mir.Syntax.{w32, w64}
-use mir.Val.{SFits, toZ, ofZ}
-use mir.Facts.{toZ-ofZ, sfits-widen}
-use Rattle.values.specs.declared.Value.the-variants.{Whole}
+-- `values::whole` meets its contract: below half of the range the number is itself, else the complement of its distance from the top; an i64
+-- holds both. Assumes nothing.
+use Prim.Native.Nat.{_-_}
+use mathlib.Core.Path.{ap}
+use native.Mathlib.Omega.{arith}
+use mir.Syntax.{w64}
+use Rattle.octets.proofs.Laws.{cap, twos-low, twos-high}
+use Rattle.values.specs.Sample.{wholeSaid, valueSays}
 use borrow.Author.Needs.{needs}
 use Rattle.values.proofs.whole.Statement.{statement}
 use Rattle.values.proofs.whole.Tie as tie
 
-in32 : (c : tie.After-signed) → SFits w32 (c .signed .result)
-in32 c = search needs
+range-of-requires : tie.Need-range-of-requires
+range-of-requires c κs = search needs
 
-signed-requires : tie.Need-signed-requires
-signed-requires c κs = search needs
+mul-if1 : tie.Need-mul-if1
+mul-if1 c = omega (arith, cap (c .before .args .w) 4 (c .before .pre .0))
 
-cast-t4 : tie.Need-cast-t4
-cast-t4 c = rw (toZ-ofZ (in32 c)) (sfits-widen tt (in32 c))
+cast-t6 : tie.Need-cast-t6
+cast-t6 c = search needs
 
 returns : tie.Need-returns
-returns c =
-    let back = ap (λ (z : ℤ). toZ w64 (ofZ w64 z)) (toZ-ofZ (in32 c)) ∙ toZ-ofZ (sfits-widen tt (in32 c)) in
-    let all = take-all 4 (c .before .before .args .x .now) (c .before .before .pre) in
-    ap Whole (back ∙ c .signed .ensures ∙ rw all)
+unfolding valueSays
+returns c = ap wholeSaid (twos-low w64 (c .before .before .args .w) (c .before .before .args .n) (omega (arith, c .before .range-of .ensures)) (omega (arith, cap (c .before .before .args .w) 4 (c .before .before .pre .0))))
+
+sub-t4 : tie.Need-sub-t4
+sub-t4 c = search needs
+
+sub-t7 : tie.Need-sub-t7
+sub-t7 c = search needs
+
+cast-t8 : tie.Need-cast-t8
+cast-t8 c = search needs
+
+returns-2 : tie.Need-returns-2
+unfolding valueSays
+returns-2 c =
+    let small = cap (c .before .before .args .w) 4 (c .before .before .pre .0) in
+    let full = c .before .range-of .ensures in
+    ap wholeSaid (twos-high w64 (c .before .before .args .w) (c .before .before .args .n) (18446744073709551615 - (c .before .range-of .result - 1 - c .before .before .args .n)) (omega arith) (omega arith) (omega arith))
 
 pub whole-spec : {M : Type 1} → statement M
-whole-spec = tie.close (tie.spec signed-requires cast-t4 returns)
+whole-spec =
+    tie.close (tie.spec range-of-requires mul-if1 cast-t6 returns sub-t4 sub-t7 cast-t8 returns-2)

@@ -1,0 +1,48 @@
+-- What a recording says to the questions (document 01, "A recording is the list of frames").
+use mathlib.Core.List.{List, []}
+use Prim.Native.Nat.{ℕ}
+use lib.Dec.{ltb}
+use lib.IntN.{pos}
+use lib.ListN.{length, getD}
+use Rattle.octets.specs.Pick.{pick}
+use Rattle.heads.specs.Refusals.{noFrame, noChannel, noSample}
+use Rattle.heads.specs.Answer.{Answer, answered, refusedAs}
+use Rattle.layout.specs.Frame.{channelIn}
+use Rattle.reader.specs.declared.Attributes.{Attributes}
+use Rattle.canonical.specs.Recording.{Recorded}
+
+-- What is read past a recording's last frame; no answer depends on it.
+abbrev pub zeroRecorded : Recorded
+zeroRecorded = record { start = pos 0; sequences = 0; channels = []; samples = [] }
+
+-- Frame i of a recording.
+abbrev pub frameRecorded : List Recorded → ℕ → Recorded
+frameRecorded rs i = getD rs i zeroRecorded
+
+-- The attributes of a channel: start pointer, channel count, sequences, and the channel's own.
+abbrev pub attributesRecorded : ℕ → Recorded → Attributes
+attributesRecorded c r = record { start = r .start; channels = length (r .channels); sequences = r .sequences; settings = channelIn c (r .channels) }
+
+-- The bits of a channel's samples.
+abbrev pub samplesRecorded : ℕ → Recorded → List ℕ
+samplesRecorded c r = getD (r .samples) c []
+
+-- What a list says of its number n: 22, or the number.
+abbrev pub said : List ℕ → ℕ → Answer ℕ
+said a n = pick (ltb n (length a)) (answered (getD a n 0)) (refusedAs noSample 0)
+
+-- What is asked of channel c of an entry: 21, or its answer.
+abbrev pub channelSaid : {A : Type 0} → (Recorded → Answer A) → Recorded → ℕ → Answer A
+channelSaid g r c = pick (ltb c (length (r .channels))) (g r) (refusedAs noChannel 0)
+
+-- What is asked of channel c of frame i: 20, 21, or the answer of the entry.
+abbrev pub channelTold : {A : Type 0} → (Recorded → Answer A) → List Recorded → ℕ → ℕ → Answer A
+channelTold g rs i c = pick (ltb i (length rs)) (channelSaid g (frameRecorded rs i) c) (refusedAs noFrame 0)
+
+-- The answer to the question for attributes.
+unfoldable pub attributesTold : List Recorded → ℕ → ℕ → Answer Attributes
+attributesTold rs i c = channelTold (λ r. answered (attributesRecorded c r)) rs i c
+
+-- The bits in the answer to the question for a sample.
+unfoldable pub bitsTold : List Recorded → ℕ → ℕ → ℕ → Answer ℕ
+bitsTold rs i c n = channelTold (λ r. said (samplesRecorded c r) n) rs i c
