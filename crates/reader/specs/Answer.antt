@@ -1,5 +1,5 @@
 -- The questions (document 01, "Frames and samples" and "What comes back when it is no"): the attributes of a channel in a frame, and the
--- place and value of a sample.
+-- place, bits and value of a sample.
 use mathlib.Core.List.{List}
 use Prim.Native.Nat.{ℕ, _+_, _*_, _/_, _%_}
 use lib.Dec.{ltb}

@@ -30,7 +30,9 @@ width-requires : tie.Need-width-requires
 width-requires c κs = search needs
 
 rem-r : tie.Need-rem-r
-rem-r c = block-some (placed-at _ _ _ _ (c .before .before .before .before .before .before .place .ensures) (c .before .before .before .before .at .given .1))
+rem-r c =
+    let m = placed-at _ _ _ _ (c .before .before .before .before .before .before .place .ensures) (c .before .before .before .before .at .given .1) in
+    block-some m
 
 cast-fitting : tie.Need-cast-fitting
 cast-fitting c = search needs
@@ -42,16 +44,22 @@ mul-fitting c =
     omega (arith, mul-le-mul p q)
 
 sub-fitting : tie.Need-sub-fitting
-sub-fitting c = omega (arith, (placed-at _ _ _ _ (c .before .before .before .before .before .before .before .place .ensures) (c .before .before .before .before .before .at .given .1)) .number)
+sub-fitting c =
+    let m = placed-at _ _ _ _ (c .before .before .before .before .before .before .before .place .ensures) (c .before .before .before .before .before .at .given .1) in
+    omega (arith, m .number)
 
 fitting-requires : tie.Need-fitting-requires
 fitting-requires c κs = search needs
 
 mul-fill : tie.Need-mul-fill
-mul-fill c = omega (arith, rest-low (placed-at _ _ _ _ (c .before .before .before .before .before .before .before .before .place .ensures) (c .before .before .before .before .before .before .at .given .1)) _ (c .before .before .width .ensures))
+mul-fill c =
+    let m = placed-at _ _ _ _ (c .before .before .before .before .before .before .before .before .place .ensures) (c .before .before .before .before .before .before .at .given .1) in
+    omega (arith, rest-low m _ (c .before .before .width .ensures))
 
 sub-fill : tie.Need-sub-fill
-sub-fill c = rest-low (placed-at _ _ _ _ (c .before .before .before .before .before .before .before .before .place .ensures) (c .before .before .before .before .before .before .at .given .1)) _ (c .before .before .width .ensures)
+sub-fill c =
+    let m = placed-at _ _ _ _ (c .before .before .before .before .before .before .before .before .place .ensures) (c .before .before .before .before .before .before .at .given .1) in
+    rest-low m _ (c .before .before .width .ensures)
 
 fill-requires : tie.Need-fill-requires
 fill-requires c κs =

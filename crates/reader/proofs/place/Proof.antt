@@ -29,7 +29,9 @@ mul-count c =
     omega (arith, mul-le-mul p q)
 
 returns : tie.Need-returns
-returns c = place-none (located _ _ _ _ (c .before .before .before .before .before .before .before .look-up .ensures) (c .before .before .before .before .before .v .given .1)) (c .if1 .taken)
+returns c =
+    let l = located _ _ _ _ (c .before .before .before .before .before .before .before .look-up .ensures) (c .before .before .before .before .before .v .given .1) in
+    place-none l (c .if1 .taken)
 
 place-seen-requires : tie.Need-place-seen-requires
 place-seen-requires c κs =
@@ -40,7 +42,9 @@ returns-2 : tie.Need-returns-2
 returns-2 c = place-refused _ _ _ _ _ (c .before .before .before .look-up .ensures) (c .before .x .given .1)
 
 returns-3 : tie.Need-returns-3
-returns-3 c = place-found (located _ _ _ _ (c .before .before .before .before .before .before .before .before .look-up .ensures) (c .before .before .before .before .before .before .v .given .1)) (c .before .if1 .left) (c .place-seen .ensures)
+returns-3 c =
+    let l = located _ _ _ _ (c .before .before .before .before .before .before .before .before .look-up .ensures) (c .before .before .before .before .before .before .v .given .1) in
+    place-found l (c .before .if1 .left) (c .place-seen .ensures)
 
 pub place-spec : {M : Type 1} → statement M
 place-spec =

@@ -15,25 +15,37 @@ div-offset : tie.Need-div-offset
 div-offset c = search needs
 
 mul-offset : tie.Need-mul-offset
-mul-offset c = omega (arith, place-sum (c .before .before .before .before .args .v) (c .before .before .before .before .args .number) _ (c .before .before .width .ensures), c .before .before .before .before .pre .1)
+mul-offset c =
+    let start = c .before .before .before .before in
+    omega (arith, place-sum (start .args .v) (start .args .number) _ (c .before .before .width .ensures), start .pre .1)
 
 add-offset : tie.Need-add-offset
-add-offset c = omega (arith, place-sum (c .before .before .before .before .before .args .v) (c .before .before .before .before .before .args .number) _ (c .before .before .before .width .ensures), c .before .before .before .before .before .pre .1)
+add-offset c =
+    let start = c .before .before .before .before .before in
+    omega (arith, place-sum (start .args .v) (start .args .number) _ (c .before .before .before .width .ensures), start .pre .1)
 
 rem-offset : tie.Need-rem-offset
 rem-offset c = search needs
 
 mul-offset-2 : tie.Need-mul-offset-2
-mul-offset-2 c = omega (arith, place-sum (c .before .before .before .before .before .args .v) (c .before .before .before .before .before .args .number) _ (c .before .before .before .width .ensures), c .before .before .before .before .before .pre .1)
+mul-offset-2 c =
+    let start = c .before .before .before .before .before in
+    omega (arith, place-sum (start .args .v) (start .args .number) _ (c .before .before .before .width .ensures), start .pre .1)
 
 add-offset-2 : tie.Need-add-offset-2
-add-offset-2 c = omega (arith, place-sum (c .before .before .before .before .before .args .v) (c .before .before .before .before .before .args .number) _ (c .before .before .before .width .ensures), c .before .before .before .before .before .pre .1)
+add-offset-2 c =
+    let start = c .before .before .before .before .before in
+    omega (arith, place-sum (start .args .v) (start .args .number) _ (c .before .before .before .width .ensures), start .pre .1)
 
 add-result : tie.Need-add-result
-add-result c = omega (arith, place-sum (c .before .before .before .before .before .args .v) (c .before .before .before .before .before .args .number) _ (c .before .before .before .width .ensures), c .before .before .before .before .before .pre .1)
+add-result c =
+    let start = c .before .before .before .before .before in
+    omega (arith, place-sum (start .args .v) (start .args .number) _ (c .before .before .before .width .ensures), start .pre .1)
 
 returns : tie.Need-returns
-returns c = place-sum (c .before .before .before .before .before .args .v) (c .before .before .before .before .before .args .number) _ (c .before .before .before .width .ensures)
+returns c =
+    let start = c .before .before .before .before .before in
+    place-sum (start .args .v) (start .args .number) _ (c .before .before .before .width .ensures)
 
 pub place-seen-spec : {M : Type 1} → statement M
 place-seen-spec =
