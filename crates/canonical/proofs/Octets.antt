@@ -25,7 +25,7 @@ use Rattle.laid.proofs.Laid.{laid-same, laid-self}
 use Rattle.laid.proofs.Turned.{laid-turned}
 use Rattle.pass.specs.Scan.{sizeOf, sizes}
 use Rattle.reader.proofs.Ordered.{Lies}
-use Rattle.canonical.specs.Recording.{sampleBits, tabulate, recordedFrame, recording}
+use Rattle.canonical.specs.Recording.{tabulate, recordedFrame, recording}
 use Rattle.canonical.specs.Canonical.{waveformOf, frameOctets, framesOctets, canonical}
 use Rattle.groups.proofs.Sizes.{length-item, head-long, groups-long}
 use Rattle.canonical.proofs.Recordings.{waveform-long}
