@@ -23,7 +23,7 @@ use Rattle.framing.specs.Framing.{channelsOf, sequencesOf, pointerFits, pointer
 use Rattle.effects.specs.Effects.{orderEffect, countEffect, sequencesEffect, startEffect, compressedEffect, allEffect, oneEffect, rootEffect, plainEffect, memberEffect, groupEffect, effectOf}
 use Rattle.pass.specs.Verdict.{State, firstState, Outcome, goes, refuses, oneChanged, withFrame, carried, placeAt, afterItem, interpret, verdict, checkedAs, checkOf}
 use Rattle.reader.specs.Answer.{FoundSample, foundSample, attributesIn, attributesOf, sampleIn, sampleOf}
-use Rattle.groups.specs.Item.{item as itemOctets, numberItem, unsignedOf, itemOctets}
+use Rattle.groups.specs.Item.{itemOctets, numberItem, unsignedOf}
 use Rattle.groups.specs.Head.{sequencesItem, headItems}
 use Rattle.groups.specs.Group.{channelOctets, scaleItem, nullItem, groupItems, groupOctets, groupsOctets}
 use Rattle.canonical.specs.Recording.{tabulate, recordedFrame, recording}
