@@ -39,7 +39,7 @@ use Rattle.pass.specs.Reached.{Reached, begin, behind}
 use Rattle.theorems.proofs.Due.{first, due-exactly, otherwise, first-append, due-numbered}
 use Rattle.theorems.proofs.HeadRows.{ReadPrimitive, ReadGroup, Reads, headRows, head-reads}
 use Rattle.theorems.proofs.FrameRows.{stopped}
-use Rattle.theorems.proofs.ValueRows.{behind, mark-first, group-first, plain-first, member-first}
+use Rattle.theorems.proofs.ValueRows.{bodyRows, mark-first, group-first, plain-first, member-first}
 
 -- ---- the value of an item
 
@@ -73,11 +73,11 @@ module _ (s : List ℕ) (x : State) where
 
   module _ (at tag : ℕ) (u : List ℕ) where
     -- The rows of the head come first.
-    rows-split : (inside : Bool) → first (itemRows x at inside tag u) ≡ otherwise (first (headRows x at inside tag u)) (first (behind x at inside tag u))
-    rows-split inside = ap first (sym (take-append-drop 6 (itemRows x at inside tag u))) ∙ first-append (headRows x at inside tag u) (behind x at inside tag u)
+    rows-split : (inside : Bool) → first (itemRows x at inside tag u) ≡ otherwise (first (headRows x at inside tag u)) (first (bodyRows x at inside tag u))
+    rows-split inside = ap first (sym (take-append-drop 6 (itemRows x at inside tag u))) ∙ first-append (headRows x at inside tag u) (bodyRows x at inside tag u)
 
-    rows-behind : (inside : Bool) → first (headRows x at inside tag u) ≡ none → first (itemRows x at inside tag u) ≡ first (behind x at inside tag u)
-    rows-behind inside n = rows-split inside ∙ ap (λ (o : Option Refusal). otherwise o (first (behind x at inside tag u))) n
+    rows-behind : (inside : Bool) → first (headRows x at inside tag u) ≡ none → first (itemRows x at inside tag u) ≡ first (bodyRows x at inside tag u)
+    rows-behind inside n = rows-split inside ∙ ap (λ (o : Option Refusal). otherwise o (first (bodyRows x at inside tag u))) n
 
     group-found : (inside : Bool) (channel : ℕ) → ReadGroup (first (headRows x at inside tag u)) tag u channel → stopped at (meaning s x (Item.Group at channel)) ≡ first (itemRows x at inside tag u)
     unfolding effectOf

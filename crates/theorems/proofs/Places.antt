@@ -16,7 +16,7 @@ use Rattle.octets.specs.Number.{numberOf}
 use Rattle.values.specs.Sample.{Said, valueOf}
 use Rattle.settings.specs.declared.Settings.{Settings}
 use Rattle.layout.specs.Frame.{Frame, widthIn, octetsSampled, channelIn, samplesOf, placeOf}
-use Rattle.laid.specs.Laid.{Named, Covered, sampleIn, sampleOctets, sampleBits}
+use Rattle.laid.specs.Laid.{Named, Covered, sampleOctets, sampleBits}
 use Rattle.laid.proofs.Places.{offset-inside, offset-apart, offset-covers}
 use Rattle.heads.specs.Answer.{answered}
 use Rattle.pass.specs.Verdict.{accepted, verdict}

@@ -278,15 +278,15 @@ module _ (s : List ℕ) (x : State) (at : ℕ) (v : List ℕ) where
 -- ---- every item
 
 -- The rows behind those of the head.
-abbrev pub behind : State → ℕ → Bool → ℕ → List ℕ → List Row
-behind x at inside tag u = drop 6 (itemRows x at inside tag u)
+abbrev pub bodyRows : State → ℕ → Bool → ℕ → List ℕ → List Row
+bodyRows x at inside tag u = drop 6 (itemRows x at inside tag u)
 
 module _ (s : List ℕ) (x : State) (at : ℕ) (u : List ℕ) where
-  pub mark-first : none ≡ first (behind x at true 0x00 u)
+  pub mark-first : none ≡ first (bodyRows x at true 0x00 u)
   unfolding itemRows entryIn
   mark-first = simp both-false
 
-  compressed-first : stopped at (carried s x (compressedEffect (valueIn u))) ≡ first (behind x at false 0x0E u)
+  compressed-first : stopped at (carried s x (compressedEffect (valueIn u))) ≡ first (bodyRows x at false 0x0E u)
   unfolding compressedEffect carried itemRows entryIn
   compressed-first = rw (both-false (given (valueIn u))) (by (eqb (length (valueIn u)) 0))
     where
@@ -294,11 +294,11 @@ module _ (s : List ℕ) (x : State) (at : ℕ) (u : List ℕ) where
       by true = refl
       by false = refl
 
-  waveform-first : (start : ℕ) → stopped at (carried s x (Effect.Frame start (length (valueIn u)))) ≡ first (behind x at false 0x1E u)
+  waveform-first : (start : ℕ) → stopped at (carried s x (Effect.Frame start (length (valueIn u)))) ≡ first (bodyRows x at false 0x1E u)
   unfolding itemRows entryIn
   waveform-first start = rw (both-false (given (valueIn u))) (frame-first s x at start u)
 
-  pub group-first : (inside : Bool) (tag : ℕ) → isGroup tag ≡ true → stopped at (carried s x (groupEffect (x .standing) (channelNamed u))) ≡ first (behind x at inside tag u)
+  pub group-first : (inside : Bool) (tag : ℕ) → isGroup tag ≡ true → stopped at (carried s x (groupEffect (x .standing) (channelNamed u))) ≡ first (bodyRows x at inside tag u)
   unfolding groupEffect carried itemRows entryIn
   group-first inside tag g =
       rw (eqb-true tag 0x3F g, leb-not (x .standing .counted) (channelNamed u))
@@ -309,11 +309,11 @@ module _ (s : List ℕ) (x : State) (at : ℕ) (u : List ℕ) where
       by false true = refl
       by false false = refl
 
-  pub plain-first : (start tag : ℕ) → isGroup tag ≡ false → stopped at (carried s x (plainEffect (x .standing) tag start (valueIn u) (tagged tag))) ≡ first (behind x at false tag u)
+  pub plain-first : (start tag : ℕ) → isGroup tag ≡ false → stopped at (carried s x (plainEffect (x .standing) tag start (valueIn u) (tagged tag))) ≡ first (bodyRows x at false tag u)
   unfolding tagged plainEffect rootEffect itemRows
   plain-first start tag g = by (ℕ-discrete tag 0x0E) (ℕ-discrete tag 0x1E)
     where
-      by : Dec (tag ≡ 0x0E) → Dec (tag ≡ 0x1E) → stopped at (carried s x (plainEffect (x .standing) tag start (valueIn u) (tagged tag))) ≡ first (behind x at false tag u)
+      by : Dec (tag ≡ 0x0E) → Dec (tag ≡ 0x1E) → stopped at (carried s x (plainEffect (x .standing) tag start (valueIn u) (tagged tag))) ≡ first (bodyRows x at false tag u)
       by (yes e) w = rw e compressed-first
       by (no c) (yes e) = rw e (waveform-first start)
       by (no c) (no w) =
@@ -325,7 +325,7 @@ module _ (s : List ℕ) (x : State) (at : ℕ) (u : List ℕ) where
   unbarred : (tag t : ℕ) → rootOnly tag ≡ false → rootOnly t ≡ true → eqb tag t ≡ false
   unbarred tag t f h = ne-eqb tag t (λ e. let r : rootOnly tag ≡ true = rw e h in let z : _≡_ {A = ℕ} 0 1 = cc in omega arith)
 
-  pub member-first : (channel tag : ℕ) → isGroup tag ≡ false → rootOnly tag ≡ false → stopped at (carried s x (pick (uncounted x) Effect.Pass (memberEffect (x .standing) channel (valueIn u) (tagged tag)))) ≡ first (behind x at true tag u)
+  pub member-first : (channel tag : ℕ) → isGroup tag ≡ false → rootOnly tag ≡ false → stopped at (carried s x (pick (uncounted x) Effect.Pass (memberEffect (x .standing) channel (valueIn u) (tagged tag)))) ≡ first (bodyRows x at true tag u)
   unfolding itemRows rootOnly carried
   member-first channel tag g f =
       let c = unbarred tag 0x0E f refl in
