@@ -25,13 +25,33 @@ smaller-requires : tie.Need-smaller-requires Inv-loop μ-loop
 smaller-requires c κs = search needs
 
 mul-run : tie.Need-mul-run Inv-loop μ-loop
-mul-run c = omega (arith, block-within _ _ _ _ _ (c .before .loop-test .taken) (c .smaller .ensures) (c .before .before .loop .inv) (c .before .before .before .before .before .pre .0) .starts, c .before .before .loop .inv .small)
+mul-run c =
+    let at-loop = c .before .before in
+    let at-start = at-loop .before .before .before in
+    omega (
+      arith,
+      block-within _ _ _ _ _ (c .before .loop-test .taken) (c .smaller .ensures) (at-loop .loop .inv) (at-start .pre .0) .starts,
+      at-loop .loop .inv .small,
+    )
 
 add-run : tie.Need-add-run Inv-loop μ-loop
-add-run c = omega (arith, block-within _ _ _ _ _ (c .before .loop-test .taken) (c .smaller .ensures) (c .before .before .loop .inv) (c .before .before .before .before .before .pre .0) .starts, c .before .before .loop .inv .small)
+add-run c =
+    let at-loop = c .before .before in
+    let at-start = at-loop .before .before .before in
+    omega (
+      arith,
+      block-within _ _ _ _ _ (c .before .loop-test .taken) (c .smaller .ensures) (at-loop .loop .inv) (at-start .pre .0) .starts,
+      at-loop .loop .inv .small,
+    )
 
 run-requires : tie.Need-run-requires Inv-loop μ-loop
-run-requires c κs = (c .before .before .before .before .before .before .pre .0, (block-within _ _ _ _ _ (c .before .before .loop-test .taken) (c .before .smaller .ensures) (c .before .before .before .loop .inv) (c .before .before .before .before .before .before .pre .0), search needs))
+run-requires c κs =
+    let at-loop-test = c .before .before in
+    let at-loop = at-loop-test .before in
+    let at-start = at-loop .before .before .before in (
+      at-start .pre .0,
+      (block-within _ _ _ _ _ (at-loop-test .loop-test .taken) (c .before .smaller .ensures) (at-loop .loop .inv) (at-start .pre .0), search needs),
+    )
 
 add-p : tie.Need-add-p Inv-loop μ-loop
 add-p c = search needs
@@ -40,10 +60,21 @@ add-start : tie.Need-add-start Inv-loop μ-loop
 add-start c = search needs
 
 loop-less : tie.Need-loop-less Inv-loop μ-loop
-loop-less c = omega (arith, block-some _ _ _ _ _ (c .before .before .before .before .before .loop-test .taken) (c .before .before .before .before .smaller .ensures) (c .before .before .before .before .before .before .loop .inv))
+loop-less c =
+    let at-smaller = c .before .before .before .before in
+    let at-loop-test = at-smaller .before in
+    let at-loop = at-loop-test .before in
+    omega (arith, block-some _ _ _ _ _ (at-loop-test .loop-test .taken) (at-smaller .smaller .ensures) (at-loop .loop .inv))
 
 loop-again : tie.Need-loop-again Inv-loop μ-loop
-loop-again c = blocks-turn _ _ _ _ _ (c .before .before .before .before .before .loop-test .taken) (c .before .before .before .before .smaller .ensures) (c .before .before .before .before .before .before .loop .inv) (c .before .before .run .ensures) (c .before .before .before .before .before .before .before .before .before .pre .0)
+loop-again c =
+    let at-run = c .before .before in
+    let at-smaller = at-run .before .before in
+    let at-loop-test = at-smaller .before in
+    let at-loop = at-loop-test .before in
+    let at-start = at-loop .before .before .before in
+    blocks-turn _ _ _ _ _ (at-loop-test .loop-test .taken) (at-smaller .smaller .ensures) (at-loop .loop .inv) (at-run .run .ensures)
+    (at-start .pre .0)
 
 same-length : tie.Need-same-length Inv-loop μ-loop
 same-length c = c .before .loop .inv .long

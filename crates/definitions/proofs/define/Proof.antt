@@ -18,7 +18,11 @@ standing-in-requires : tie.Need-standing-in-requires
 standing-in-requires c κs = search needs
 
 returns-2 : tie.Need-returns-2
-returns-2 c = ap Changed (c .standing-in .ensures) ∙ define-back _ _ _ _ (sym (c .before .before .before .length-fits .ensures) ∙ not-false _ (c .before .before .if1 .left)) (c .before .if2 .taken)
+returns-2 c =
+    let at-if1 = c .before .before in
+    let at-length-fits = at-if1 .before in
+    ap Changed (c .standing-in .ensures) ∙ define-back _ _ _ _ (sym (at-length-fits .length-fits .ensures) ∙ not-false _ (at-if1 .if1 .left))
+    (c .before .if2 .taken)
 
 change-of-requires : tie.Need-change-of-requires
 change-of-requires c κs = search needs
@@ -27,10 +31,23 @@ in-range-requires : tie.Need-in-range-requires
 in-range-requires c κs = search needs
 
 returns-3 : tie.Need-returns-3
-returns-3 c = ap Changed (c .before .before .change-of .ensures) ∙ define-changed _ _ _ _ (sym (c .before .before .before .before .before .length-fits .ensures) ∙ not-false _ (c .before .before .before .before .if1 .left)) (c .before .before .before .if2 .left) (ap inRange (sym (c .before .before .change-of .ensures)) ∙ sym (c .before .in-range .ensures) ∙ c .if3 .taken)
+returns-3 c =
+    let at-change-of = c .before .before in
+    let at-if2 = at-change-of .before in
+    let at-if1 = at-if2 .before in
+    let at-length-fits = at-if1 .before in
+    ap Changed (at-change-of .change-of .ensures) ∙ define-changed _ _ _ _
+    (sym (at-length-fits .length-fits .ensures) ∙ not-false _ (at-if1 .if1 .left)) (at-if2 .if2 .left)
+    (ap inRange (sym (at-change-of .change-of .ensures)) ∙ sym (c .before .in-range .ensures) ∙ c .if3 .taken)
 
 returns-4 : tie.Need-returns-4
-returns-4 c = define-value _ _ _ _ (sym (c .before .before .before .before .before .length-fits .ensures) ∙ not-false _ (c .before .before .before .before .if1 .left)) (c .before .before .before .if2 .left) (ap inRange (sym (c .before .before .change-of .ensures)) ∙ sym (c .before .in-range .ensures) ∙ c .if3 .left)
+returns-4 c =
+    let at-change-of = c .before .before in
+    let at-if2 = at-change-of .before in
+    let at-if1 = at-if2 .before in
+    let at-length-fits = at-if1 .before in
+    define-value _ _ _ _ (sym (at-length-fits .length-fits .ensures) ∙ not-false _ (at-if1 .if1 .left)) (at-if2 .if2 .left)
+    (ap inRange (sym (at-change-of .change-of .ensures)) ∙ sym (c .before .in-range .ensures) ∙ c .if3 .left)
 
 pub define-spec : {M : Type 1} → statement M
 define-spec =

@@ -40,7 +40,13 @@ in32 c = search needs
 
 returns : tie.Need-returns
 unfolding scaleOf
-returns c = λ i. record { unit = c .before .before .before .before .octet .ensures i; exponent = (toZ-ofZ (in8 c) ∙ c .before .before .signed-octet .ensures ∙ ap (twos 1) (c .before .before .before .octet2 .ensures)) i; mantissa = (toZ-ofZ (in32 c) ∙ c .signed .ensures ∙ ap (signedOf (c .before .before .before .before .before .before .args .little)) (cut-again (c .before .before .before .before .before .before .args .v .now) _ (c .before .part .ensures))) i }
+returns c =
+    let at-signed-octet = c .before .before in
+    let at-octet2 = at-signed-octet .before in
+    let at-octet = at-octet2 .before in
+    let at-start = at-octet .before .before in
+    λ i. record
+    { unit = at-octet .octet .ensures i; exponent = (toZ-ofZ (in8 c) ∙ at-signed-octet .signed-octet .ensures ∙ ap (twos 1) (at-octet2 .octet2 .ensures)) i; mantissa = (toZ-ofZ (in32 c) ∙ c .signed .ensures ∙ ap (signedOf (at-start .args .little)) (cut-again (at-start .args .v .now) _ (c .before .part .ensures))) i }
 
 pub scale-of-spec : {M : Type 1} → statement M
 scale-of-spec =

@@ -25,7 +25,13 @@ apply-requires c κs = search needs
 
 returns-2 : tie.Need-returns-2
 unfolding settledAs
-returns-2 c = ap Record (c .apply .ensures ∙ ap (λ (x : Change). applied x (c .before .before .before .before .before .before .args .s)) (c .before .standing-in .ensures)) ∙ ap (settledAs _) (define-back _ _ _ _ (sym (c .before .before .before .before .length-fits .ensures) ∙ not-false _ (c .before .before .before .if1 .left)) (c .before .before .if2 .taken))
+returns-2 c =
+    let at-if2 = c .before .before in
+    let at-if1 = at-if2 .before in
+    let at-length-fits = at-if1 .before in
+    let at-start = at-length-fits .before .before in
+    ap Record (c .apply .ensures ∙ ap (λ (x : Change). applied x (at-start .args .s)) (c .before .standing-in .ensures)) ∙ ap (settledAs _)
+    (define-back _ _ _ _ (sym (at-length-fits .length-fits .ensures) ∙ not-false _ (at-if1 .if1 .left)) (at-if2 .if2 .taken))
 
 change-of-requires : tie.Need-change-of-requires
 change-of-requires c κs = search needs
@@ -41,11 +47,32 @@ apply-requires-2 c κs = search needs
 
 returns-3 : tie.Need-returns-3
 unfolding settledAs
-returns-3 c = ap Record (c .apply2 .ensures ∙ ap (λ (x : Change). applied x (c .before .before .before .before .before .before .before .before .before .args .s)) (c .before .before .before .renewed .ensures ∙ c .before .before .before .before .change-of .ensures)) ∙ ap (settledAs _) (define-changed _ _ _ _ (sym (c .before .before .before .before .before .before .before .length-fits .ensures) ∙ not-false _ (c .before .before .before .before .before .before .if1 .left)) (c .before .before .before .before .before .if2 .left) (ap inRange (sym (c .before .before .before .renewed .ensures ∙ c .before .before .before .before .change-of .ensures)) ∙ sym (c .before .before .in-range .ensures) ∙ c .before .if3 .taken))
+returns-3 c =
+    let at-in-range = c .before .before in
+    let at-renewed = at-in-range .before in
+    let at-change-of = at-renewed .before in
+    let at-if2 = at-change-of .before in
+    let at-if1 = at-if2 .before in
+    let at-length-fits = at-if1 .before in
+    let at-start = at-length-fits .before .before in
+    ap Record
+    (c .apply2 .ensures ∙ ap (λ (x : Change). applied x (at-start .args .s)) (at-renewed .renewed .ensures ∙ at-change-of .change-of .ensures)) ∙ ap
+    (settledAs _)
+    (define-changed _ _ _ _ (sym (at-length-fits .length-fits .ensures) ∙ not-false _ (at-if1 .if1 .left)) (at-if2 .if2 .left)
+    (ap inRange (sym (at-renewed .renewed .ensures ∙ at-change-of .change-of .ensures)) ∙ sym
+    (at-in-range .in-range .ensures) ∙ c .before .if3 .taken))
 
 returns-4 : tie.Need-returns-4
 unfolding settledAs
-returns-4 c = ap (settledAs _) (define-value _ _ _ _ (sym (c .before .before .before .before .before .before .length-fits .ensures) ∙ not-false _ (c .before .before .before .before .before .if1 .left)) (c .before .before .before .before .if2 .left) (ap inRange (sym (c .before .before .renewed .ensures ∙ c .before .before .before .change-of .ensures)) ∙ sym (c .before .in-range .ensures) ∙ c .if3 .left))
+returns-4 c =
+    let at-renewed = c .before .before in
+    let at-change-of = at-renewed .before in
+    let at-if2 = at-change-of .before in
+    let at-if1 = at-if2 .before in
+    let at-length-fits = at-if1 .before in
+    ap (settledAs _)
+    (define-value _ _ _ _ (sym (at-length-fits .length-fits .ensures) ∙ not-false _ (at-if1 .if1 .left)) (at-if2 .if2 .left)
+    (ap inRange (sym (at-renewed .renewed .ensures ∙ at-change-of .change-of .ensures)) ∙ sym (c .before .in-range .ensures) ∙ c .if3 .left))
 
 pub settle-spec : {M : Type 1} → statement M
 settle-spec =

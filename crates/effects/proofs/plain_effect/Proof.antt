@@ -30,7 +30,14 @@ root-effect-requires c κs = search needs
 
 returns : tie.Need-returns
 unfolding plainEffect
-returns c = c .all-effect .ensures ∙ ap allEffect (c .before .define .ensures ∙ ap (λ (b : Settings). defined (c .before .before .before .before .a .given .0 .0) (c .before .before .before .before .before .before .before .before .args .st .little) b (c .before .before .before .before .before .before .before .before .args .v .now)) (c .before .before .default .ensures)) ∙ simp (sym (c .before .before .before .before .before .before .attribute-of .ensures) ∙ c .before .before .before .before .a .given .1)
+returns c =
+    let at-default = c .before .before in
+    let at-a = at-default .before .before in
+    let at-attribute-of = at-a .before .before in
+    let at-start = at-attribute-of .before .before in
+    c .all-effect .ensures ∙ ap allEffect
+    (c .before .define .ensures ∙ ap (λ (b : Settings). defined (at-a .a .given .0 .0) (at-start .args .st .little) b (at-start .args .v .now))
+    (at-default .default .ensures)) ∙ simp (sym (at-attribute-of .attribute-of .ensures) ∙ at-a .a .given .1)
 
 returns-2 : tie.Need-returns-2
 unfolding plainEffect

@@ -21,7 +21,12 @@ barred-requires : tie.Need-barred-requires
 barred-requires c κs = search needs
 
 returns-3 : tie.Need-returns-3
-returns-3 c = head-barred _ _ (c .before .before .before .before .before .if1 .left) (sym (c .before .before .before .unknown-context .ensures) ∙ c .before .before .if2 .left) (sym (c .before .barred .ensures) ∙ c .if3 .taken)
+returns-3 c =
+    let at-if2 = c .before .before in
+    let at-unknown-context = at-if2 .before in
+    let at-if1 = at-unknown-context .before .before in
+    head-barred _ _ (at-if1 .if1 .left) (sym (at-unknown-context .unknown-context .ensures) ∙ at-if2 .if2 .left)
+    (sym (c .before .barred .ensures) ∙ c .if3 .taken)
 
 sub-group-head : tie.Need-sub-group-head
 sub-group-head c = search needs
@@ -48,10 +53,28 @@ primitive-head-requires : tie.Need-primitive-head-requires
 primitive-head-requires c κs = search needs
 
 returns-4 : tie.Need-returns-4
-returns-4 c = c .group-head .ensures ∙ simp rest-is (head-group _ _ (c .before .before .before .before .before .before .before .before .if1 .left) (sym (c .before .before .before .before .before .before .unknown-context .ensures) ∙ c .before .before .before .before .before .if2 .left) (sym (c .before .before .before .before .barred .ensures) ∙ c .before .before .before .if3 .left) (c .before .before .if4 .taken))
+returns-4 c =
+    let at-if4 = c .before .before in
+    let at-if3 = at-if4 .before in
+    let at-barred = at-if3 .before in
+    let at-if2 = at-barred .before in
+    let at-unknown-context = at-if2 .before in
+    let at-if1 = at-unknown-context .before .before in
+    c .group-head .ensures ∙ simp rest-is
+    (head-group _ _ (at-if1 .if1 .left) (sym (at-unknown-context .unknown-context .ensures) ∙ at-if2 .if2 .left)
+    (sym (at-barred .barred .ensures) ∙ at-if3 .if3 .left) (at-if4 .if4 .taken))
 
 returns-5 : tie.Need-returns-5
-returns-5 c = c .primitive-head .ensures ∙ simp rest-is (head-primitive _ _ (c .before .before .before .before .before .before .before .before .if1 .left) (sym (c .before .before .before .before .before .before .unknown-context .ensures) ∙ c .before .before .before .before .before .if2 .left) (sym (c .before .before .before .before .barred .ensures) ∙ c .before .before .before .if3 .left) (c .before .before .if4 .left))
+returns-5 c =
+    let at-if4 = c .before .before in
+    let at-if3 = at-if4 .before in
+    let at-barred = at-if3 .before in
+    let at-if2 = at-barred .before in
+    let at-unknown-context = at-if2 .before in
+    let at-if1 = at-unknown-context .before .before in
+    c .primitive-head .ensures ∙ simp rest-is
+    (head-primitive _ _ (at-if1 .if1 .left) (sym (at-unknown-context .unknown-context .ensures) ∙ at-if2 .if2 .left)
+    (sym (at-barred .barred .ensures) ∙ at-if3 .if3 .left) (at-if4 .if4 .left))
 
 pub item-head-spec : {M : Type 1} → statement M
 item-head-spec =

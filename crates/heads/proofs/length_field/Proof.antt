@@ -29,13 +29,20 @@ returns-3 : tie.Need-returns-3
 returns-3 c = length-open _ (c .before .before .before .if1 .left) (c .before .if2 .left) (c .if3 .taken)
 
 returns-4 : tie.Need-returns-4
-returns-4 c = length-bad _ (c .before .before .before .before .if1 .left) (c .before .before .if2 .left) (c .before .if3 .left) (c .if4 .taken)
+returns-4 c =
+    let at-if2 = c .before .before in
+    let at-if1 = at-if2 .before .before in
+    length-bad _ (at-if1 .if1 .left) (at-if2 .if2 .left) (c .before .if3 .left) (c .if4 .taken)
 
 sub-if5 : tie.Need-sub-if5
 sub-if5 c = search needs
 
 returns-5 : tie.Need-returns-5
-returns-5 c = length-past _ (c .before .before .before .before .before .if1 .left) (c .before .before .before .if2 .left) (c .before .before .if3 .left) (c .before .if4 .left) (c .if5 .taken)
+returns-5 c =
+    let at-if3 = c .before .before in
+    let at-if2 = at-if3 .before in
+    let at-if1 = at-if2 .before .before in
+    length-past _ (at-if1 .if1 .left) (at-if2 .if2 .left) (at-if3 .if3 .left) (c .before .if4 .left) (c .if5 .taken)
 
 part-requires : tie.Need-part-requires
 part-requires c κs = search needs
@@ -51,7 +58,15 @@ unfolding numberOf
 read-is u v n r h e q = ap (λ (k : ℕ). Known k (n + 1)) (read-all false v r (omega (arith, part-short n (drop 1 u) v e)) q .value ∙ ap (numberOf false) e)
 
 returns-6 : tie.Need-returns-6
-returns-6 c = read-is (c .before .before .before .before .before .before .before .before .before .args .u .now) _ _ _ (c .before .before .before .if4 .left) (c .before .part .ensures) (c .number .ensures) ∙ length-long _ (c .before .before .before .before .before .before .before .if1 .left) (c .before .before .before .before .before .if2 .left) (c .before .before .before .before .if3 .left) (c .before .before .before .if4 .left) (c .before .before .if5 .left)
+returns-6 c =
+    let at-if5 = c .before .before in
+    let at-if4 = at-if5 .before in
+    let at-if3 = at-if4 .before in
+    let at-if2 = at-if3 .before in
+    let at-if1 = at-if2 .before .before in
+    let at-start = at-if1 .before .before in
+    read-is (at-start .args .u .now) _ _ _ (at-if4 .if4 .left) (c .before .part .ensures) (c .number .ensures) ∙ length-long _ (at-if1 .if1 .left)
+    (at-if2 .if2 .left) (at-if3 .if3 .left) (at-if4 .if4 .left) (at-if5 .if5 .left)
 
 pub length-field-spec : {M : Type 1} → statement M
 length-field-spec =

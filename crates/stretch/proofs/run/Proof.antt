@@ -35,7 +35,10 @@ cast-n : tie.Need-cast-n Inv-loop μ-loop
 cast-n c = omega (arith, c .shared-slice-known3 .given (c .before .before .before .loop .at + 1))
 
 returns : tie.Need-returns Inv-loop μ-loop
-returns c = (running-ends (c .before .before .before .before .loop .inv) (step-long _ _ _ _ _ refl (c .before .before .before .loop-test .taken) (c .if1 .taken)), c .before .before .before .before .loop .inv .low)
+returns c =
+    let at-loop-test = c .before .before .before in
+    let at-loop = at-loop-test .before in
+    (running-ends (at-loop .loop .inv) (step-long _ _ _ _ _ refl (at-loop-test .loop-test .taken) (c .if1 .taken)), at-loop .loop .inv .low)
 
 sub-if2 : tie.Need-sub-if2 Inv-loop μ-loop
 sub-if2 c = search needs
@@ -44,7 +47,12 @@ sub-if2-2 : tie.Need-sub-if2-2 Inv-loop μ-loop
 sub-if2-2 c = search needs
 
 returns-2 : tie.Need-returns-2 Inv-loop μ-loop
-returns-2 c = (running-ends (c .before .before .before .before .before .loop .inv) (step-past _ _ _ _ _ refl (c .before .before .before .before .loop-test .taken) (c .before .if1 .left) (c .if2 .taken)), c .before .before .before .before .before .loop .inv .low)
+returns-2 c =
+    let at-loop-test = c .before .before .before .before in
+    let at-loop = at-loop-test .before in (
+      running-ends (at-loop .loop .inv) (step-past _ _ _ _ _ refl (at-loop-test .loop-test .taken) (c .before .if1 .left) (c .if2 .taken)),
+      at-loop .loop .inv .low,
+    )
 
 add-next : tie.Need-add-next Inv-loop μ-loop
 add-next c = search needs
@@ -75,14 +83,37 @@ loop-less c = search needs
 
 loop-again : tie.Need-loop-again Inv-loop μ-loop
 unfolding leftBy
-loop-again c = running-goes (c .before .before .before .before .before .before .before .before .before .before .before .before .before .before .loop .inv) refl (c .before .before .before .before .before .before .before .before .before .before .before .before .before .loop-test .taken) (c .before .before .before .before .before .before .before .before .before .if2 .left) (step-here _ _ _ _ _ refl (c .before .before .before .before .before .before .before .before .before .before .before .before .before .loop-test .taken) (c .before .before .before .before .before .before .before .before .before .before .if1 .left) (c .before .before .before .before .before .before .before .before .before .if2 .left) ∙ leaves-defined _ _ _ _ _ (c .before .before .before .before .before .before .before .before .attribute-of .ensures) (c .before .before .before .before .before .before .a .given .1) (c .before .before .before .before .part .ensures) (c .before .before .before .settle .ensures) ∙ ap leftBy (c .before .x .given .1))
+loop-again c =
+    let at-settle = c .before .before .before in
+    let at-part = at-settle .before in
+    let at-a = at-part .before .before in
+    let at-attribute-of = at-a .before .before in
+    let at-if2 = at-attribute-of .before in
+    let at-if1 = at-if2 .before in
+    let at-loop-test = at-if1 .before .before .before in
+    let at-loop = at-loop-test .before in
+    running-goes (at-loop .loop .inv) refl (at-loop-test .loop-test .taken) (at-if2 .if2 .left)
+    (step-here _ _ _ _ _ refl (at-loop-test .loop-test .taken) (at-if1 .if1 .left) (at-if2 .if2 .left) ∙ leaves-defined _ _ _ _ _
+    (at-attribute-of .attribute-of .ensures) (at-a .a .given .1) (at-part .part .ensures) (at-settle .settle .ensures) ∙ ap leftBy
+    (c .before .x .given .1))
 
 enum-told : tie.Need-enum-told Inv-loop μ-loop
 enum-told c = search needs
 
 returns-3 : tie.Need-returns-3 Inv-loop μ-loop
 unfolding leftBy
-returns-3 c = (running-ends (c .before .before .before .before .before .before .before .before .before .before .before .before .before .loop .inv) (step-here _ _ _ _ _ refl (c .before .before .before .before .before .before .before .before .before .before .before .before .loop-test .taken) (c .before .before .before .before .before .before .before .before .before .if1 .left) (c .before .before .before .before .before .before .before .before .if2 .left) ∙ leaves-defined _ _ _ _ _ (c .before .before .before .before .before .before .before .attribute-of .ensures) (c .before .before .before .before .before .a .given .1) (c .before .before .before .part .ensures) (c .before .before .settle .ensures) ∙ ap leftBy (c .enum-told .given .1)), c .before .before .before .before .before .before .before .before .before .before .before .before .before .loop .inv .low)
+returns-3 c =
+    let at-settle = c .before .before in
+    let at-part = at-settle .before in
+    let at-a = at-part .before .before in
+    let at-attribute-of = at-a .before .before in
+    let at-if2 = at-attribute-of .before in
+    let at-if1 = at-if2 .before in
+    let at-loop-test = at-if1 .before .before .before in
+    let at-loop = at-loop-test .before in (
+      running-ends (at-loop .loop .inv) (step-here _ _ _ _ _ refl (at-loop-test .loop-test .taken) (at-if1 .if1 .left) (at-if2 .if2 .left) ∙ leaves-defined _ _ _ _ _ (at-attribute-of .attribute-of .ensures) (at-a .a .given .1) (at-part .part .ensures) (at-settle .settle .ensures) ∙ ap leftBy (c .enum-told .given .1)),
+      at-loop .loop .inv .low,
+    )
 
 enum-told-2 : tie.Need-enum-told-2 Inv-loop μ-loop
 enum-told-2 c = search needs
@@ -91,13 +122,32 @@ stepped-over-requires : tie.Need-stepped-over-requires Inv-loop μ-loop
 stepped-over-requires c κs = search needs
 
 returns-4 : tie.Need-returns-4 Inv-loop μ-loop
-returns-4 c = (running-ends (c .before .before .before .before .before .before .before .before .before .before .loop .inv) (step-here _ _ _ _ _ refl (c .before .before .before .before .before .before .before .before .before .loop-test .taken) (c .before .before .before .before .before .before .if1 .left) (c .before .before .before .before .before .if2 .left) ∙ leaves-nothing _ _ _ _ _ (c .before .before .before .before .attribute-of .ensures) (c .before .before .enum-told2 .given .1) (sym (c .before .stepped-over .ensures) ∙ not-true _ (c .if3 .taken))), c .before .before .before .before .before .before .before .before .before .before .loop .inv .low)
+returns-4 c =
+    let at-enum-told2 = c .before .before in
+    let at-attribute-of = at-enum-told2 .before .before in
+    let at-if2 = at-attribute-of .before in
+    let at-if1 = at-if2 .before in
+    let at-loop-test = at-if1 .before .before .before in
+    let at-loop = at-loop-test .before in (
+      running-ends (at-loop .loop .inv) (step-here _ _ _ _ _ refl (at-loop-test .loop-test .taken) (at-if1 .if1 .left) (at-if2 .if2 .left) ∙ leaves-nothing _ _ _ _ _ (at-attribute-of .attribute-of .ensures) (at-enum-told2 .enum-told2 .given .1) (sym (c .before .stepped-over .ensures) ∙ not-true _ (c .if3 .taken))),
+      at-loop .loop .inv .low,
+    )
 
 loop-less-2 : tie.Need-loop-less-2 Inv-loop μ-loop
 loop-less-2 c = search needs
 
 loop-again-2 : tie.Need-loop-again-2 Inv-loop μ-loop
-loop-again-2 c = running-goes (c .before .before .before .before .before .before .before .before .before .before .loop .inv) refl (c .before .before .before .before .before .before .before .before .before .loop-test .taken) (c .before .before .before .before .before .if2 .left) (step-here _ _ _ _ _ refl (c .before .before .before .before .before .before .before .before .before .loop-test .taken) (c .before .before .before .before .before .before .if1 .left) (c .before .before .before .before .before .if2 .left) ∙ leaves-same _ _ _ _ _ (c .before .before .before .before .attribute-of .ensures) (c .before .before .enum-told2 .given .1) (sym (c .before .stepped-over .ensures) ∙ not-false _ (c .if3 .left)))
+loop-again-2 c =
+    let at-enum-told2 = c .before .before in
+    let at-attribute-of = at-enum-told2 .before .before in
+    let at-if2 = at-attribute-of .before in
+    let at-if1 = at-if2 .before in
+    let at-loop-test = at-if1 .before .before .before in
+    let at-loop = at-loop-test .before in
+    running-goes (at-loop .loop .inv) refl (at-loop-test .loop-test .taken) (at-if2 .if2 .left)
+    (step-here _ _ _ _ _ refl (at-loop-test .loop-test .taken) (at-if1 .if1 .left) (at-if2 .if2 .left) ∙ leaves-same _ _ _ _ _
+    (at-attribute-of .attribute-of .ensures) (at-enum-told2 .enum-told2 .given .1)
+    (sym (c .before .stepped-over .ensures) ∙ not-false _ (c .if3 .left)))
 
 returns-5 : tie.Need-returns-5 Inv-loop μ-loop
 returns-5 c = (running-ends (c .before .loop .inv) (step-none _ _ _ _ _ (c .loop-test .left)), c .before .loop .inv .low)
