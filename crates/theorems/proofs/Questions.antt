@@ -1,7 +1,7 @@
 -- What the check and the questions answer, and exactly when.
 --     tested             three tests met in order: the first that fails decides
 --     check-accepted, check-refused, accepted-or-refused    the check's answer is the verdict's
---     limit-exactly, limit-place, limit-passed    15 comes first
+--     limit-exactly, limit-place    15 comes first
 --     ByChannel, by-channel    on an accepted file a question that names a channel answers 20, 21, or what is asked for
 --     BySample, by-sample      one that names a sample answers 20, 21, 22, or what is asked for
 --     attributes-answered, channel-answered, sample-answered, place-answered, samples-answered    so each question
@@ -20,10 +20,10 @@ use Rattle.octets.specs.Pick.{pick}
 use Rattle.heads.specs.declared.Refusal.{Refusal}
 use Rattle.heads.specs.Refusals.{longFile, noFrame, noChannel, noSample}
 use Rattle.heads.specs.Answer.{Answer, answered, refusedAs, mapAnswer}
-use Rattle.items.specs.Walk.{refusal, itemsOf}
+use Rattle.items.specs.Walk.{refusal}
 use Rattle.layout.specs.Frame.{Frame, samplesOf, placeOf}
 use Rattle.standing.specs.Standing.{octetsLimit}
-use Rattle.pass.specs.Verdict.{firstState, Verdict, accepted, refused, interpret, verdict, checkedAs, checkOf}
+use Rattle.pass.specs.Verdict.{Verdict, accepted, refused, verdict, checkedAs, checkOf}
 use Rattle.reader.proofs.Never.{only-limit}
 use Rattle.reader.proofs.Order.{sample-both}
 use Rattle.pass.specs.Scan.{zeroFrame, viewOf}
@@ -128,10 +128,6 @@ accepted-or-refused s = by (verdict s) refl
 limit-first : (s : List ℕ) → octetsLimit < length s → verdict s ≡ refused (refusal longFile 0)
 unfolding verdict
 limit-first s h = rw (lt-ltb octetsLimit (length s) h)
-
-pub limit-passed : (s : List ℕ) → length s ≤ octetsLimit → verdict s ≡ interpret s firstState (itemsOf s)
-unfolding verdict
-limit-passed s h = rw (le-ltb octetsLimit (length s) h)
 
 pub limit-exactly : (s : List ℕ) → (checkOf s ≡ refusedAs longFile 0) ↔ (octetsLimit < length s)
 limit-exactly s =

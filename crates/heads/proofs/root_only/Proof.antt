@@ -18,56 +18,19 @@ returns-3 c = simp (ne-eqb _ 1 (c .before .before .if1 .left), ne-eqb _ 5 (c .be
 
 returns-4 : tie.Need-returns-4
 unfolding rootOnly
-returns-4 c =
-    let at-if2 = c .before .before in
-    let at-if1 = at-if2 .before in
-    simp (ne-eqb _ 1 (at-if1 .if1 .left), ne-eqb _ 5 (at-if2 .if2 .left), ne-eqb _ 6 (c .before .if3 .left), eq-eqb _ 7 (c .if4 .taken))
+returns-4 c = simp (ne-eqb _ 1 (c .before .before .before .if1 .left), ne-eqb _ 5 (c .before .before .if2 .left), ne-eqb _ 6 (c .before .if3 .left), eq-eqb _ 7 (c .if4 .taken))
 
 returns-5 : tie.Need-returns-5
 unfolding rootOnly
-returns-5 c =
-    let at-if3 = c .before .before in
-    let at-if2 = at-if3 .before in
-    let at-if1 = at-if2 .before in
-    simp (
-      ne-eqb _ 1 (at-if1 .if1 .left),
-      ne-eqb _ 5 (at-if2 .if2 .left),
-      ne-eqb _ 6 (at-if3 .if3 .left),
-      ne-eqb _ 7 (c .before .if4 .left),
-      eq-eqb _ 14 (c .if5 .taken),
-    )
+returns-5 c = simp (ne-eqb _ 1 (c .before .before .before .before .if1 .left), ne-eqb _ 5 (c .before .before .before .if2 .left), ne-eqb _ 6 (c .before .before .if3 .left), ne-eqb _ 7 (c .before .if4 .left), eq-eqb _ 14 (c .if5 .taken))
 
 returns-6 : tie.Need-returns-6
 unfolding rootOnly
-returns-6 c =
-    let at-if4 = c .before .before in
-    let at-if3 = at-if4 .before in
-    let at-if2 = at-if3 .before in
-    let at-if1 = at-if2 .before in
-    simp (
-      ne-eqb _ 1 (at-if1 .if1 .left),
-      ne-eqb _ 5 (at-if2 .if2 .left),
-      ne-eqb _ 6 (at-if3 .if3 .left),
-      ne-eqb _ 7 (at-if4 .if4 .left),
-      ne-eqb _ 14 (c .before .if5 .left),
-      eq-eqb _ 30 (c .if6 .taken),
-    )
+returns-6 c = simp (ne-eqb _ 1 (c .before .before .before .before .before .if1 .left), ne-eqb _ 5 (c .before .before .before .before .if2 .left), ne-eqb _ 6 (c .before .before .before .if3 .left), ne-eqb _ 7 (c .before .before .if4 .left), ne-eqb _ 14 (c .before .if5 .left), eq-eqb _ 30 (c .if6 .taken))
 
 returns-7 : tie.Need-returns-7
 unfolding rootOnly
-returns-7 c =
-    let at-if4 = c .before .before in
-    let at-if3 = at-if4 .before in
-    let at-if2 = at-if3 .before in
-    let at-if1 = at-if2 .before in
-    simp (
-      ne-eqb _ 1 (at-if1 .if1 .left),
-      ne-eqb _ 5 (at-if2 .if2 .left),
-      ne-eqb _ 6 (at-if3 .if3 .left),
-      ne-eqb _ 7 (at-if4 .if4 .left),
-      ne-eqb _ 14 (c .before .if5 .left),
-      ne-eqb _ 30 (c .if6 .left),
-    )
+returns-7 c = simp (ne-eqb _ 1 (c .before .before .before .before .before .if1 .left), ne-eqb _ 5 (c .before .before .before .before .if2 .left), ne-eqb _ 6 (c .before .before .before .if3 .left), ne-eqb _ 7 (c .before .before .if4 .left), ne-eqb _ 14 (c .before .if5 .left), ne-eqb _ 30 (c .if6 .left))
 
 pub root-only-spec : {M : Type 1} → statement M
 root-only-spec =

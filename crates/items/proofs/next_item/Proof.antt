@@ -1,12 +1,39 @@
 -- By the octets that are left at the cursor and by the head of the item there; the item lies in the file, so that no place overflows.
-use mathlib.Core.Path.{_∙_}
+use mathlib.Core.Path.{_≡_, _∙_}
+use mathlib.Core.List.{List}
+use Prim.Native.Nat.{ℕ, _+_, _≤_}
 use native.Mathlib.Omega.{arith}
-use Rattle.items.specs.Walk.{itemOf}
+use lib.ListN.{length}
+use Rattle.heads.specs.declared.Head.{Head}
+use Rattle.items.specs.Walk.{itemOf, nextOf}
 use Rattle.heads.proofs.Heads.{head-found}
 use Rattle.items.proofs.Walks.{next-none, next-head, extent-found}
 use borrow.Author.Needs.{needs}
 use Rattle.items.proofs.next_item.Statement.{statement}
 use Rattle.items.proofs.next_item.Tie as tie
+
+-- Behind the head: the octets that it was read from, the cursor, and where the item stands.
+abbrev left-there : tie.After-item-head → List ℕ
+left-there c = c .before .before .before .rest .result .now
+
+abbrev at-start : tie.After-item-head → tie.Start
+at-start c = c .before .before .before .before .before .before
+
+-- The octets that are left lie in the file.
+there : (c : tie.After-item-head) → at-start c .args .c .at + length (left-there c) ≤ length (at-start c .args .s .now)
+there c =
+    let at-if1 = c .before .before in
+    let at-rest = at-if1 .before in
+    extent-found _ _ (at-rest .before .stands-in .result) _ (at-rest .rest .ensures) (at-if1 .if1 .left)
+
+-- What stands at the cursor, by the head.
+by-head : (c : tie.After-item-head) (h : Head) → c .item-head .result ≡ h
+    → itemOf (at-start c .args .c .at) (c .before .before .before .before .stands-in .result) h ≡ nextOf (at-start c .args .s .now) (at-start c .args .c)
+by-head c h e =
+    let at-if1 = c .before .before in
+    let at-rest = at-if1 .before in
+    next-head _ _ _ _ (at-rest .before .stands-in .ensures) (at-rest .rest .ensures) (at-if1 .if1 .left) _ _ h (c .before .is-inside .ensures)
+    (c .item-head .ensures) e
 
 stands-in-requires : tie.Need-stands-in-requires
 stands-in-requires c κs = search needs
@@ -31,121 +58,52 @@ enum-known-tag c = search needs
 
 primitive-item-requires : tie.Need-primitive-item-requires
 primitive-item-requires c κs =
-    let at-item-head = c .before .before .before in
-    let at-if1 = at-item-head .before .before in
-    let at-rest = at-if1 .before in
-    let at-stands-in = at-rest .before in
-    let at-start = at-stands-in .before .before in
-    omega (
-      arith,
-      head-found _ _ (at-item-head .item-head .ensures) (c .before .tag .given .1),
-      extent-found (at-start .args .s .now) (at-start .args .c .at) (at-stands-in .stands-in .result) _ (at-rest .rest .ensures) (at-if1 .if1 .left),
-    )
+    let head = c .before .before .before in
+    omega (arith, head-found _ _ (head .item-head .ensures) (c .before .tag .given .1), there head)
 
 enum-known-channel : tie.Need-enum-known-channel
 enum-known-channel c = search needs
 
 add-t21 : tie.Need-add-t21
 add-t21 c =
-    let at-item-head = c .before .before .before in
-    let at-if1 = at-item-head .before .before in
-    let at-rest = at-if1 .before in
-    let at-stands-in = at-rest .before in
-    let at-start = at-stands-in .before .before in
-    omega (
-      arith,
-      head-found _ _ (at-item-head .item-head .ensures) (c .before .channel .given .1),
-      extent-found (at-start .args .s .now) (at-start .args .c .at) (at-stands-in .stands-in .result) _ (at-rest .rest .ensures) (at-if1 .if1 .left),
-    )
+    let head = c .before .before .before in
+    omega (arith, head-found _ _ (head .item-head .ensures) (c .before .channel .given .1), there head)
 
 add-t22 : tie.Need-add-t22
 add-t22 c =
-    let at-item-head = c .before .before .before in
-    let at-if1 = at-item-head .before .before in
-    let at-rest = at-if1 .before in
-    let at-stands-in = at-rest .before in
-    let at-start = at-stands-in .before .before in
-    omega (
-      arith,
-      head-found _ _ (at-item-head .item-head .ensures) (c .before .channel .given .1),
-      extent-found (at-start .args .s .now) (at-start .args .c .at) (at-stands-in .stands-in .result) _ (at-rest .rest .ensures) (at-if1 .if1 .left),
-    )
+    let head = c .before .before .before in
+    omega (arith, head-found _ _ (head .item-head .ensures) (c .before .channel .given .1), there head)
 
 add-t23 : tie.Need-add-t23
 add-t23 c =
-    let at-item-head = c .before .before .before in
-    let at-if1 = at-item-head .before .before in
-    let at-rest = at-if1 .before in
-    let at-stands-in = at-rest .before in
-    let at-start = at-stands-in .before .before in
-    omega (
-      arith,
-      head-found _ _ (at-item-head .item-head .ensures) (c .before .channel .given .1),
-      extent-found (at-start .args .s .now) (at-start .args .c .at) (at-stands-in .stands-in .result) _ (at-rest .rest .ensures) (at-if1 .if1 .left),
-    )
+    let head = c .before .before .before in
+    omega (arith, head-found _ _ (head .item-head .ensures) (c .before .channel .given .1), there head)
 
 enum-known-channel-2 : tie.Need-enum-known-channel-2
 enum-known-channel-2 c = search needs
 
 add-t27 : tie.Need-add-t27
 add-t27 c =
-    let at-item-head = c .before .before .before in
-    let at-if1 = at-item-head .before .before in
-    let at-rest = at-if1 .before in
-    let at-stands-in = at-rest .before in
-    let at-start = at-stands-in .before .before in
-    omega (
-      arith,
-      head-found _ _ (at-item-head .item-head .ensures) (c .before .channel2 .given .1),
-      extent-found (at-start .args .s .now) (at-start .args .c .at) (at-stands-in .stands-in .result) _ (at-rest .rest .ensures) (at-if1 .if1 .left),
-    )
+    let head = c .before .before .before in
+    omega (arith, head-found _ _ (head .item-head .ensures) (c .before .channel2 .given .1), there head)
 
 enum-known-number : tie.Need-enum-known-number
 enum-known-number c = search needs
 
 returns-2 : tie.Need-returns-2
-returns-2 c =
-    let at-tag = c .before .before in
-    let at-item-head = at-tag .before .before in
-    let at-is-inside = at-item-head .before in
-    let at-if1 = at-is-inside .before in
-    let at-rest = at-if1 .before in
-    let at-stands-in = at-rest .before in
-    c .primitive-item .ensures ∙ next-head _ _ _ _ (at-stands-in .stands-in .ensures) (at-rest .rest .ensures) (at-if1 .if1 .left) _ _ _
-    (at-is-inside .is-inside .ensures) (at-item-head .item-head .ensures) (at-tag .tag .given .1)
+returns-2 c = c .primitive-item .ensures ∙ by-head (c .before .before .before .before) _ (c .before .before .tag .given .1)
 
 returns-3 : tie.Need-returns-3
 unfolding itemOf
-returns-3 c =
-    let at-item-head = c .before .before .before in
-    let at-is-inside = at-item-head .before in
-    let at-if1 = at-is-inside .before in
-    let at-rest = at-if1 .before in
-    let at-stands-in = at-rest .before in
-    next-head _ _ _ _ (at-stands-in .stands-in .ensures) (at-rest .rest .ensures) (at-if1 .if1 .left) _ _ _ (at-is-inside .is-inside .ensures)
-    (at-item-head .item-head .ensures) (c .before .channel .given .1)
+returns-3 c = by-head (c .before .before .before) _ (c .before .channel .given .1)
 
 returns-4 : tie.Need-returns-4
 unfolding itemOf
-returns-4 c =
-    let at-item-head = c .before .before .before in
-    let at-is-inside = at-item-head .before in
-    let at-if1 = at-is-inside .before in
-    let at-rest = at-if1 .before in
-    let at-stands-in = at-rest .before in
-    next-head _ _ _ _ (at-stands-in .stands-in .ensures) (at-rest .rest .ensures) (at-if1 .if1 .left) _ _ _ (at-is-inside .is-inside .ensures)
-    (at-item-head .item-head .ensures) (c .before .channel2 .given .1)
+returns-4 c = by-head (c .before .before .before) _ (c .before .channel2 .given .1)
 
 returns-5 : tie.Need-returns-5
 unfolding itemOf
-returns-5 c =
-    let at-item-head = c .before .before .before in
-    let at-is-inside = at-item-head .before in
-    let at-if1 = at-is-inside .before in
-    let at-rest = at-if1 .before in
-    let at-stands-in = at-rest .before in
-    next-head _ _ _ _ (at-stands-in .stands-in .ensures) (at-rest .rest .ensures) (at-if1 .if1 .left) _ _ _ (at-is-inside .is-inside .ensures)
-    (at-item-head .item-head .ensures) (c .before .number .given .1)
+returns-5 c = by-head (c .before .before .before) _ (c .before .number .given .1)
 
 pub next-item-spec : {M : Type 1} → statement M
 next-item-spec =
