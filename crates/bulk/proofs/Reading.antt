@@ -11,6 +11,7 @@ use native.Mathlib.Nat.{zero-mul, zero-add, add-mul, mod-lt, div-add-mod', mul-a
 use native.Mathlib.Omega.{arith}
 use lib.ListN.{length, getD}
 use lib.Seq.{sets}
+use Rattle.standing.specs.Standing.{octetsLimit}
 use Rattle.stores.proofs.Stores.{sets-front}
 use Rattle.heads.specs.declared.Refusal.{Refusal}
 use Rattle.heads.specs.Answer.{Answer, answered, refusedAs, refusedBy, leftBy}
@@ -55,7 +56,7 @@ module _ {s : List ℕ} {frame channel : ℕ} {v : View} (l : Located s frame ch
       let c = offset-inside {cs = frameIn l .channels} {S = frameIn l .sequences} {c = channel} {n = n} (record { channel = l .channelIs; number = k }) in
       rw (place-is l n, settings-seen l) (omega (arith, a .fits, a .inside, c))
 
-  pub file-small : length s < 2147483648
+  pub file-small : length s ≤ octetsLimit
   file-small = omega (arith, accepted-small s (l .frames) (l .verdictIs))
 
   -- A sequence is no longer than the file, and holds the channel's block.

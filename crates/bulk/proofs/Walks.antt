@@ -17,6 +17,7 @@ use native.Mathlib.Numerals.{add-one}
 use native.Mathlib.Omega.{arith}
 use lib.ListN.{length, set, length-set}
 use lib.Seq.{sets, length-sets}
+use Rattle.standing.specs.Standing.{octetsLimit}
 use Rattle.stores.proofs.Stores.{sets-append}
 use Rattle.bulk.specs.Samples.{bitsFrom}
 use Rattle.bulk.specs.Walked.{bitsHere, spaced, blocked, Wide, Within, InBlocks}
@@ -56,8 +57,8 @@ stores-join out u v p f e = rw (f, ← e) (sets-append u v out p)
 module _ (little : Bool) (w : ℕ) (s : List ℕ) (step : ℕ) where
   -- `left` samples from q on are still to be stored from p on, and give the buffer that is wanted.
   pub record Running (from n : ℕ) (out₀ : List ℕ) (at : ℕ) (out : List ℕ) (q p left : ℕ) : Type 0 where
-    pub small : length s < 2147483648
-    pub apart : step < 2147483648
+    pub small : length s ≤ octetsLimit
+    pub apart : step ≤ octetsLimit
     pub near : q ≤ length s + step
     pub each : (j : ℕ) → j < left → q + j * step + w ≤ length s
     pub room : p + left ≤ length out
@@ -131,8 +132,8 @@ next-block start b g w j h =
 module _ (little : Bool) (w : ℕ) (s : List ℕ) (b g : ℕ) where
   -- The samples from sample r of the block at `start` on are still to be stored from p on, and give the buffer that is wanted.
   pub record Blocking (from first n : ℕ) (out₀ out : List ℕ) (start r p : ℕ) : Type 0 where
-    pub small : length s < 2147483648
-    pub apart : g < 2147483648
+    pub small : length s ≤ octetsLimit
+    pub apart : g ≤ octetsLimit
     pub low : r < b
     pub near : start ≤ length s + g
     pub done : p ≤ n

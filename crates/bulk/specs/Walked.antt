@@ -5,6 +5,7 @@ use mathlib.Core.List.{List, [], _∷_}
 use mathlib.Core.Bool.{Bool}
 use Prim.Native.Nat.{ℕ, zero, suc, _+_, _*_, _/_, _%_, _≤_, _<_}
 use lib.ListN.{take, drop}
+use Rattle.standing.specs.Standing.{octetsLimit}
 use Rattle.octets.specs.Number.{numberOf}
 
 -- The bits of the sample of w octets that lies at p.
@@ -26,15 +27,15 @@ Wide w = (w ≡ 1) ⊎ ((w ≡ 2) ⊎ ((w ≡ 4) ⊎ (w ≡ 8)))
 
 -- n samples of w octets, each `step` octets after the one before it, lie within `size` octets.
 pub record Within (size from step n w : ℕ) : Type 0 where
-  pub small : size < 2147483648
-  pub apart : step < 2147483648
+  pub small : size ≤ octetsLimit
+  pub apart : step ≤ octetsLimit
   pub starts : from ≤ size
   pub each : (j : ℕ) → j < n → from + j * step + w ≤ size
 
 -- So do n samples from sample r of the first block on, and a block ends before the next begins.
 pub record InBlocks (size start r b g w n : ℕ) : Type 0 where
-  pub small : size < 2147483648
-  pub apart : g < 2147483648
+  pub small : size ≤ octetsLimit
+  pub apart : g ≤ octetsLimit
   pub low : r < b
   pub block : b * w ≤ g
   pub starts : start + r * w ≤ size

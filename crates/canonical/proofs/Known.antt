@@ -108,10 +108,10 @@ abbrev pub group : ℕ → List ℕ → List ℕ
 group k u = 0x3F ∷ (channelOctets k ++ (shortest (length u) ++ u))
 
 -- What stands ahead of a group's items.
-abbrev pub ahead : ℕ → ℕ → ℕ
-ahead k n = length (channelOctets k) + length (shortest n) + 1
+abbrev pub headOctets : ℕ → ℕ → ℕ
+headOctets k n = length (channelOctets k) + length (shortest n) + 1
 
-pub group-known : (k n : ℕ) (rest : List ℕ) → k < 16384 → n < 2 ^ 32 → n ≤ length rest → headOf false (0x3F ∷ (channelOctets k ++ (shortest n ++ rest))) ≡ Definite k (ahead k n) n
+pub group-known : (k n : ℕ) (rest : List ℕ) → k < 16384 → n < 2 ^ 32 → n ≤ length rest → headOf false (0x3F ∷ (channelOctets k ++ (shortest n ++ rest))) ≡ Definite k (headOctets k n) n
 unfolding headOf unknownContext groupHead groupLength
 group-known k n rest b h l =
     let j = length (shortest n) in
@@ -170,16 +170,16 @@ module _ (s : List ℕ) (short : length s ≤ octetsLimit) (at k : ℕ) (small :
   items-short : length u < 2 ^ 32
   items-short = omega (arith, simp length-append at (part-inside s at (group k u) post e))
 
-  pub next-group : nextOf s (cursor at Root) ≡ Found (Item.Group at k) (cursor (at + ahead k (length u)) (Within.Definite k (at + ahead k (length u) + length u)))
+  pub next-group : nextOf s (cursor at Root) ≡ Found (Item.Group at k) (cursor (at + headOctets k (length u)) (Within.Definite k (at + headOctets k (length u) + length u)))
   unfolding nextOf nextIn itemOf
   next-group = rw (e ∙ group-ahead k u post, group-known k (length u) (u ++ post) small items-short (value-behind u post))
 
-  pub inside-first : Inside s (at + ahead k (length u)) (at + ahead k (length u) + length u) u post
+  pub inside-first : Inside s (at + headOctets k (length u)) (at + headOctets k (length u) + length u) u post
   inside-first =
       let c = channelOctets k in
       let n = shortest (length u) in
       record {
-        rest = rw (← drop-drop (ahead k (length u)) at s, e ∙ group-ahead k u post, add-one, drop-append-add c (n ++ (u ++ post)) (length n)) (drop-append-seam n (u ++ post));
+        rest = rw (← drop-drop (headOctets k (length u)) at s, e ∙ group-ahead k u post, add-one, drop-append-add c (n ++ (u ++ post)) (length n)) (drop-append-seam n (u ++ post));
         stop = refl;
       }
 

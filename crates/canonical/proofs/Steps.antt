@@ -32,7 +32,7 @@ use Rattle.effects.specs.Effects.{effectOf, plainEffect, rootEffect, memberEffe
 use Rattle.standing.specs.Standing.{octetsLimit}
 use Rattle.pass.specs.Verdict.{State, state, Verdict, accepted, goes, oneChanged, carried, placeAt, afterItem, interpret}
 use Rattle.groups.specs.Item.{itemOctets}
-use Rattle.canonical.proofs.Known.{usual, group, startAt, ahead, Inside, rest-known, value-known, next-plain, next-group, inside-first, next-member, member-rest, inside-next, next-left}
+use Rattle.canonical.proofs.Known.{usual, group, startAt, headOctets, Inside, rest-known, value-known, next-plain, next-group, inside-first, next-member, member-rest, inside-next, next-left}
 
 -- The verdict on the items from a cursor on.
 abbrev pub from : List ℕ → State → Cursor → Verdict
@@ -165,6 +165,6 @@ module _ (s : List ℕ) (short : length s ≤ octetsLimit) where
         let n : st .counted ≡ 0 → ⊥ = λ z. omega arith in
         let same = ap (λ (t : List Settings). state st t fs) (sym (set-getD table k zeroSettings)) in
         let u = definitionsOctets ps in
-        let a = members-led (at + ahead k (length u)) (at + ahead k (length u) + length u) ps post c (inside-first s short at k small u post e) d in
+        let a = members-led (at + headOctets k (length u)) (at + headOctets k (length u) + length u) ps post c (inside-first s short at k small u post e) d in
         let h = goes-on s (state st table fs) (cursor at Root) (withChannel st table fs k c) _ _ (next-group s short at k small u post e) (simp (ne-eqb (st .counted) 0 n, lt-ltb k (st .counted) below) (ap goes same)) in
         record { place = a .place; rest = a .rest; same = h ∙ a .same }

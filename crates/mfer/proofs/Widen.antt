@@ -1,7 +1,7 @@
--- Numbers as `i64`. A signed number of a narrower type is read from its bits there and written at 64, and both leave it as it is; so does
--- the lower half of the bits.
+-- Numbers as `i64`: a signed number of a narrower type fits, and one of the lower half of the bits is itself. (That widening leaves a number as it
+-- is stands in groups/proofs/Signed.antt.)
 -- Assumes nothing.
-use mathlib.Core.Path.{_≡_, sym, ap, subst, _∙_}
+use mathlib.Core.Path.{_≡_, sym, subst}
 use Prim.Native.Nat.{ℕ, _^_, _<_}
 use lib.Dec.{T, leb}
 use lib.IntN.{ℤ, pos}
@@ -12,9 +12,6 @@ use mir.Facts.{sfits-widen, toZ-ofZ, toZ-pos}
 module _ {w : Width} {z : ℤ} (narrower : T (leb (hbits w) (hbits w64))) (fits : SFits w z) where
   pub widens : SFits w64 (toZ w (ofZ w z))
   widens = subst (SFits w64) (sym (toZ-ofZ fits)) (sfits-widen narrower fits)
-
-  pub widened : toZ w64 (ofZ w64 (toZ w (ofZ w z))) ≡ z
-  widened = ap (λ (y : ℤ). toZ w64 (ofZ w64 y)) (toZ-ofZ fits) ∙ toZ-ofZ {w = w64} (sfits-widen narrower fits)
 
 pub plain : (n : ℕ) → n < 2 ^ 63 → toZ w64 n ≡ pos n
 plain n h = toZ-pos w64 h

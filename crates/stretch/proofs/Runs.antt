@@ -25,7 +25,7 @@ use Rattle.definitions.specs.declared.Tagged.{Tagged}
 use Rattle.definitions.specs.declared.Settled.{Settled}
 use Rattle.definitions.specs.Define.{tagged, defined, settledAs}
 use Rattle.stretch.specs.declared.Stretch.{Stretch}
-use Rattle.stretch.specs.Stretch.{leaves, ends, steppedOver, leftBy, stepBy, stepOf, stretch, onward, runFrom, runOf, stretchOf}
+use Rattle.stretch.specs.Stretch.{leaves, ends, steppedOver, leavesBy, stepBy, stepOf, stretch, onward, runFrom, runOf, stretchOf}
 
 module _ (little : Bool) (base held : Settings) (u : List ℕ) (at : ℕ) where
   long : length (drop at u) ≡ length u - at
@@ -107,9 +107,9 @@ module _ {little : Bool} {base held₀ : Settings} {u : List ℕ} {held : Settin
 
 module _ (little : Bool) (base held : Settings) (tag : ℕ) (v : List ℕ) {t : Tagged} (e : t ≡ tagged tag) where
   -- A definition, whose value is kept as w.
-  pub leaves-defined : {a : Attribute} {w : List ℕ} {y : Settled} → t ≡ Tagged.Defines a → w ≡ v → y ≡ settledAs held (defined a little base w) → stepBy little base held tag v (tagged tag) ≡ leftBy y
+  pub leaves-defined : {a : Attribute} {w : List ℕ} {y : Settled} → t ≡ Tagged.Defines a → w ≡ v → y ≡ settledAs held (defined a little base w) → stepBy little base held tag v (tagged tag) ≡ leavesBy y
   unfolding stepBy
-  leaves-defined {a = a} f h g = ap (stepBy little base held tag v) (sym e ∙ f) ∙ ap (λ (x : List ℕ). leftBy (settledAs held (defined a little base x))) (sym h) ∙ ap leftBy (sym g)
+  leaves-defined {a = a} f h g = ap (stepBy little base held tag v) (sym e ∙ f) ∙ ap (λ (x : List ℕ). leavesBy (settledAs held (defined a little base x))) (sym h) ∙ ap leavesBy (sym g)
 
   -- Another item that the stretch may hold, or not.
   pub leaves-same : t ≡ Tagged.Other → steppedOver tag ≡ true → stepBy little base held tag v (tagged tag) ≡ leaves held

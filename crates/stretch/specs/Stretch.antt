@@ -31,13 +31,13 @@ pub data Step : Type 0 where
   leaves : Settings → Step
   ends : Step
 
-unfoldable pub leftBy : Settled → Step
-leftBy (Settled.Record x) = leaves x
-leftBy (Settled.Refused number) = ends
+unfoldable pub leavesBy : Settled → Step
+leavesBy (Settled.Record x) = leaves x
+leavesBy (Settled.Refused number) = ends
 
 -- A definition is carried out; one that is refused ends the stretch.
 unfoldable pub stepBy : Bool → Settings → Settings → ℕ → List ℕ → Tagged → Step
-stepBy little base held tag v (Tagged.Defines a) = leftBy (settledAs held (defined a little base v))
+stepBy little base held tag v (Tagged.Defines a) = leavesBy (settledAs held (defined a little base v))
 stepBy little base held tag v Tagged.Other = pick (steppedOver tag) (leaves held) ends
 
 -- The item at the front of u. It belongs to the stretch where its length takes one octet, below 128, and its value is all there.

@@ -37,7 +37,7 @@ use Rattle.theorems.specs.Rows.{lengthOctets, lengthIn, valueIn, itemRow
 use Rattle.theorems.specs.Refusing.{around, ahead, DueAt, Refusing, overLimit, stops}
 use Rattle.pass.specs.Reached.{Reached, begin, behind}
 use Rattle.theorems.proofs.Due.{first, due-exactly, otherwise, first-append, due-numbered}
-use Rattle.theorems.proofs.HeadRows.{ReadPrimitive, ReadGroup, Reads, headRows, head-reads}
+use Rattle.theorems.proofs.HeadRows.{ReadPrimitive, ReadGroup, HeadRead, headRows, head-reads}
 use Rattle.theorems.proofs.FrameRows.{stopped}
 use Rattle.theorems.proofs.ValueRows.{bodyRows, mark-first, group-first, plain-first, member-first}
 
@@ -99,7 +99,7 @@ module _ (s : List ℕ) (x : State) where
           let z : tag ≡ 0 = sym (p .same-tag) ∙ eqb-true t 0 (both-split (eqb t 0) (eqb len 0) m .0) in
           rw (rows-behind inside (p .free), i, z) (mark-first s x at u)
 
-    item-first : (w : Within) → extent s at w ≡ tag ∷ u → (h : Head) → Reads (first (headRows x at (isInside w) tag u)) at (isInside w) tag u h → answer (itemOf at w h) ≡ first (itemRows x at (isInside w) tag u)
+    item-first : (w : Within) → extent s at w ≡ tag ∷ u → (h : Head) → HeadRead (first (headRows x at (isInside w) tag u)) at (isInside w) tag u h → answer (itemOf at w h) ≡ first (itemRows x at (isInside w) tag u)
     unfolding itemOf placeAt
     item-first w e (Head.Refused n) p = rw (rows-split (isInside w), p)
     item-first w e (Head.Definite channel start len) p = group-found (isInside w) channel p

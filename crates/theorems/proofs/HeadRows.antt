@@ -135,33 +135,33 @@ pub record ReadGroup (found : Option Refusal) (tag : ℕ) (u : List ℕ) (channe
   pub same-channel : channel ≡ channelNamed u
 
 -- The same, or refused with what the rows give.
-abbrev pub Reads : Option Refusal → ℕ → Bool → ℕ → List ℕ → Head → Type 0
-Reads found at inside tag u (Head.Primitive t start len) = ReadPrimitive found inside tag u t start len
-Reads found at inside tag u (Head.Definite channel start len) = ReadGroup found tag u channel
-Reads found at inside tag u (Head.Open channel start) = ReadGroup found tag u channel
-Reads found at inside tag u (Head.Refused n) = found ≡ some (refusal n at)
+abbrev pub HeadRead : Option Refusal → ℕ → Bool → ℕ → List ℕ → Head → Type 0
+HeadRead found at inside tag u (Head.Primitive t start len) = ReadPrimitive found inside tag u t start len
+HeadRead found at inside tag u (Head.Definite channel start len) = ReadGroup found tag u channel
+HeadRead found at inside tag u (Head.Open channel start) = ReadGroup found tag u channel
+HeadRead found at inside tag u (Head.Refused n) = found ≡ some (refusal n at)
 
 module _ (at : ℕ) (inside : Bool) (tag : ℕ) (u : List ℕ) where
-  primitive-reads : both inside (rootOnly tag) ≡ false → isGroup tag ≡ false → (l : Length) → LengthBy u l → Reads (lengthAnswer at false (length u) l) at inside tag u (primitiveHead tag (length u) l)
+  primitive-reads : both inside (rootOnly tag) ≡ false → isGroup tag ≡ false → (l : Length) → LengthBy u l → HeadRead (lengthAnswer at false (length u) l) at inside tag u (primitiveHead tag (length u) l)
   unfolding primitiveHead
   primitive-reads b g (Length.Known n octets) p =
-      pick-cases (Reads (lengthAnswer at false (length u) (Length.Known n octets)) at inside tag u) (ltb (length u - octets) n) (λ t. rw t)
+      pick-cases (HeadRead (lengthAnswer at false (length u) (Length.Known n octets)) at inside tag u) (ltb (length u - octets) n) (λ t. rw t)
       (λ t. let f = ltb-false (length u - octets) n t in
       record { free = rw t; allowed = b; primitive = g; same-tag = refl; same-start = omega arith; same-length = p .1; fits = omega arith })
   primitive-reads b g (Length.Open octets) p = refl
   primitive-reads b g Length.PastEnd p = refl
   primitive-reads b g Length.Bad p = refl
 
-  group-length-reads : isGroup tag ≡ true → (channel k rest : ℕ) → channel ≡ channelNamed u → (l : Length) → Reads (lengthAnswer at true rest l) at inside tag u (groupLength channel k rest l)
+  group-length-reads : isGroup tag ≡ true → (channel k rest : ℕ) → channel ≡ channelNamed u → (l : Length) → HeadRead (lengthAnswer at true rest l) at inside tag u (groupLength channel k rest l)
   unfolding groupLength
   group-length-reads g channel k rest e (Length.Known n octets) =
-      pick-cases (Reads (lengthAnswer at true rest (Length.Known n octets)) at inside tag u) (ltb (rest - octets) n) (λ t. rw t)
+      pick-cases (HeadRead (lengthAnswer at true rest (Length.Known n octets)) at inside tag u) (ltb (rest - octets) n) (λ t. rw t)
       (λ t. record { free = rw t; group = g; same-channel = e })
   group-length-reads g channel k rest e (Length.Open octets) = record { free = refl; group = g; same-channel = e }
   group-length-reads g channel k rest e Length.PastEnd = refl
   group-length-reads g channel k rest e Length.Bad = refl
 
-  group-reads : isGroup tag ≡ true → (c : Channel) → ChannelBy 4 0 0 u c → Reads (first (row longChannel at (longNumber u) ∷ row pastEnd at (numberPast u) ∷ lengthRows at true (drop (numberOctets u) u))) at inside tag u (groupHead u c)
+  group-reads : isGroup tag ≡ true → (c : Channel) → ChannelBy 4 0 0 u c → HeadRead (first (row longChannel at (longNumber u) ∷ row pastEnd at (numberPast u) ∷ lengthRows at true (drop (numberOctets u) u))) at inside tag u (groupHead u c)
   unfolding groupHead
   group-reads g (Channel.Number channel k) c =
       let w = drop (numberOctets u) u in
@@ -184,10 +184,10 @@ barred-same tag = rw (either-false (isGroup tag))
 abbrev pub headRows : State → ℕ → Bool → ℕ → List ℕ → List Row
 headRows x at inside tag u = take 6 (itemRows x at inside tag u)
 
-pub head-reads : (x : State) (at : ℕ) (inside : Bool) (tag : ℕ) (u : List ℕ) → Reads (first (headRows x at inside tag u)) at inside tag u (headOf inside (tag ∷ u))
+pub head-reads : (x : State) (at : ℕ) (inside : Bool) (tag : ℕ) (u : List ℕ) → HeadRead (first (headRows x at inside tag u)) at inside tag u (headOf inside (tag ∷ u))
 unfolding headOf itemRows unknownContext isUnknown
 head-reads x at inside tag u =
-    let P : Head → Type 0 = Reads (first (headRows x at inside tag u)) at inside tag u in
+    let P : Head → Type 0 = HeadRead (first (headRows x at inside tag u)) at inside tag u in
     pick-cases P (unknownContext tag) (λ e. rw e)
     (λ e. pick-cases P (both inside (rootOnly tag)) (λ b. rw (e, barred-same tag, b))
     (λ b. pick-cases P (isGroup tag)

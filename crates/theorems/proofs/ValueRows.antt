@@ -145,26 +145,26 @@ line-law P (l ∷ ls) tag e o =
     (λ t. line-law P ls tag (e .1) (λ n. o (apart-more tag l ls t n)))
 
 module _ (s : List ℕ) (x : State) (at : ℕ) (v : List ℕ) where
-  abbrev asked : Effect → Option Refusal
-  asked e = stopped at (carried s x e)
+  abbrev carriedOut : Effect → Option Refusal
+  carriedOut e = stopped at (carried s x e)
 
   abbrev answer : Entry → Option Refusal
   answer l = lineAnswer at l (x .standing .little) v
 
   -- A tag goes the way of a entry, outside a group and inside one.
   record Takes (tag : ℕ) (l : Entry) : Type 0 where
-    plain : (start : ℕ) → asked (plainEffect (x .standing) tag start v (tagged tag)) ≡ answer l
-    member : rootOnly tag ≡ false → (channel : ℕ) → asked (memberEffect (x .standing) channel v (tagged tag)) ≡ answer l
+    plain : (start : ℕ) → carriedOut (plainEffect (x .standing) tag start v (tagged tag)) ≡ answer l
+    member : rootOnly tag ≡ false → (channel : ℕ) → carriedOut (memberEffect (x .standing) channel v (tagged tag)) ≡ answer l
 
   -- An attribute of a channel, as a definition outside a group or inside one carries it.
   module _ (a : Attribute) (l : Entry) (tag : tagged (l .tag) ≡ Tagged.Defines a) (lengths : Lengths a l) (values : Values a l) where
-    defined-line : (f : Defined → Effect) → ((n : ℕ) → asked (f (Defined.Refused n)) ≡ some (refusal n at)) → ((c : Change) → asked (f (Defined.Changed c)) ≡ none) → (base : Settings) → asked (f (defined a (x .standing .little) base v)) ≡ answer l
+    defined-line : (f : Defined → Effect) → ((n : ℕ) → carriedOut (f (Defined.Refused n)) ≡ some (refusal n at)) → ((c : Change) → carriedOut (f (Defined.Changed c)) ≡ none) → (base : Settings) → carriedOut (f (defined a (x .standing .little) base v)) ≡ answer l
     unfolding defined
     defined-line f stops leads base =
         let little = x .standing .little in
         let c = changeOf a little v in
         rw (pick-not (inRange c) (Defined.Changed c) (Defined.Refused unfitValue))
-        (line-choice at l little v (λ d. asked (f d)) (Defined.Refused unfitLength) (Defined.Refused unfitValue) (stops unfitLength) (stops unfitValue)
+        (line-choice at l little v (λ d. carriedOut (f d)) (Defined.Refused unfitLength) (Defined.Refused unfitValue) (stops unfitLength) (stops unfitValue)
         (not (lengthFits a (length v))) (not (inRange c)) (Defined.Changed (standingIn a base)) (Defined.Changed c) (leads (standingIn a base)) (leads c)
         (lengths (length v) ∙ sym (not-not (lengthFits a (length v))))
         (λ t. values little v (not-false (lengthFits a (length v)) t) ∙ sym (not-not (inRange c))))
@@ -178,15 +178,15 @@ module _ (s : List ℕ) (x : State) (at : ℕ) (v : List ℕ) where
         }
 
   -- A tag that stands only outside groups.
-  root-takes : (l : Entry) → rootOnly (l .tag) ≡ true → ((start : ℕ) → asked (plainEffect (x .standing) (l .tag) start v (tagged (l .tag))) ≡ answer l) → Takes (l .tag) l
+  root-takes : (l : Entry) → rootOnly (l .tag) ≡ true → ((start : ℕ) → carriedOut (plainEffect (x .standing) (l .tag) start v (tagged (l .tag))) ≡ answer l) → Takes (l .tag) l
   root-takes l r e = record { plain = e; member = λ f channel. let z : _≡_ {A = ℕ} 0 1 = cc in let w : ⊥ = omega arith in absurd w }
 
-  root-choice : (l : Entry) (t b : Bool) (e f : Effect) → asked e ≡ none → asked f ≡ none → l .lengths (length v) ≡ not t → (t ≡ false → l .values (x .standing .little) v ≡ not b)
-      → asked (pick t (Effect.Refused unfitLength) (pick (eqb (length v) 0) e (pick b (Effect.Refused unfitValue) f))) ≡ answer l
+  root-choice : (l : Entry) (t b : Bool) (e f : Effect) → carriedOut e ≡ none → carriedOut f ≡ none → l .lengths (length v) ≡ not t → (t ≡ false → l .values (x .standing .little) v ≡ not b)
+      → carriedOut (pick t (Effect.Refused unfitLength) (pick (eqb (length v) 0) e (pick b (Effect.Refused unfitValue) f))) ≡ answer l
   unfolding carried
-  root-choice l = line-choice at l (x .standing .little) v asked (Effect.Refused unfitLength) (Effect.Refused unfitValue) refl refl
+  root-choice l = line-choice at l (x .standing .little) v carriedOut (Effect.Refused unfitLength) (Effect.Refused unfitValue) refl refl
 
-  order-line : asked (orderEffect v) ≡ answer (entryOf 0x01)
+  order-line : carriedOut (orderEffect v) ≡ answer (entryOf 0x01)
   unfolding orderEffect entryIn carried
   order-line =
       root-choice (entryOf 0x01) (ltb 1 (length v)) (ltb 1 (getD v 0 0)) (Effect.Order false) (Effect.Order (eqb (getD v 0 0) 1)) refl refl
@@ -201,20 +201,20 @@ module _ (s : List ℕ) (x : State) (at : ℕ) (v : List ℕ) where
   whole : ltb 4 (length v) ≡ false → numberOf (x .standing .little) v ≡ number
   whole t = rw (take-all 4 v (ltb-false 4 (length v) t))
 
-  count-line : asked (countEffect (x .standing .little) v) ≡ answer (entryOf 0x05)
+  count-line : carriedOut (countEffect (x .standing .little) v) ≡ answer (entryOf 0x05)
   unfolding countEffect entryIn carried
   count-line =
       rw (pick-either (eqb number 0) (ltb channelLimit number) (Effect.Refused unfitValue) (Effect.Count number))
       (root-choice (entryOf 0x05) (ltb 4 (length v)) (either (eqb number 0) (ltb channelLimit number)) (Effect.Count 0) (Effect.Count number) refl refl
       up-to-four (λ t. rw (whole t, one-not number, leb-not number channelLimit) (both-nots (eqb number 0) (ltb channelLimit number))))
 
-  sequences-line : asked (sequencesEffect (x .standing .little) v) ≡ answer (entryOf 0x06)
+  sequences-line : carriedOut (sequencesEffect (x .standing .little) v) ≡ answer (entryOf 0x06)
   unfolding sequencesEffect entryIn carried
   sequences-line =
       root-choice (entryOf 0x06) (ltb 4 (length v)) (eqb number 0) (Effect.Sequences 0) (Effect.Sequences number) refl refl
       up-to-four (λ t. rw (whole t, one-not number))
 
-  start-line : asked (startEffect (x .standing .little) (x .standing .continued) v) ≡ answer (entryOf 0x07)
+  start-line : carriedOut (startEffect (x .standing .little) (x .standing .continued) v) ≡ answer (entryOf 0x07)
   unfolding startEffect entryIn carried
   start-line =
       root-choice (entryOf 0x07) (ltb 4 (length v)) false (Effect.Start (x .standing .continued)) (Effect.Start (signedOf (x .standing .little) (take 4 v))) refl refl

@@ -4,7 +4,8 @@ use mathlib.Core.List.{[], _∷_}
 use mir.Syntax.{w8, w32, w64}
 use mir.Facts.{toZ-ofZ}
 use Rattle.mfer.specs.Answers.{numbersOf}
-use Rattle.mfer.proofs.Widen.{widens, widened, plain}
+use Rattle.groups.proofs.Signed.{widened}
+use Rattle.mfer.proofs.Widen.{widens, plain}
 use Rattle.mfer.proofs.numbers_of.Statement.{statement}
 use Rattle.mfer.proofs.numbers_of.Tie as tie
 

@@ -5,7 +5,7 @@ use native.Mathlib.Omega.{arith}
 use borrow.Author.Needs.{needs}
 use borrow.Author.Tests.{not-true, not-false}
 use lib.ListN.{length}
-use Rattle.stretch.specs.Stretch.{leftBy}
+use Rattle.stretch.specs.Stretch.{leavesBy}
 use Rattle.stretch.proofs.Runs.{Running, step-none, step-long, step-past, step-here, running-first, running-ends, running-goes, leaves-defined, leaves-same, leaves-nothing}
 use Rattle.stretch.proofs.run.Statement.{statement}
 use Rattle.stretch.proofs.run.Tie as tie
@@ -82,7 +82,7 @@ loop-less : tie.Need-loop-less Inv-loop μ-loop
 loop-less c = search needs
 
 loop-again : tie.Need-loop-again Inv-loop μ-loop
-unfolding leftBy
+unfolding leavesBy
 loop-again c =
     let at-settle = c .before .before .before in
     let at-part = at-settle .before in
@@ -94,14 +94,14 @@ loop-again c =
     let at-loop = at-loop-test .before in
     running-goes (at-loop .loop .inv) refl (at-loop-test .loop-test .taken) (at-if2 .if2 .left)
     (step-here _ _ _ _ _ refl (at-loop-test .loop-test .taken) (at-if1 .if1 .left) (at-if2 .if2 .left) ∙ leaves-defined _ _ _ _ _
-    (at-attribute-of .attribute-of .ensures) (at-a .a .given .1) (at-part .part .ensures) (at-settle .settle .ensures) ∙ ap leftBy
+    (at-attribute-of .attribute-of .ensures) (at-a .a .given .1) (at-part .part .ensures) (at-settle .settle .ensures) ∙ ap leavesBy
     (c .before .x .given .1))
 
 enum-told : tie.Need-enum-told Inv-loop μ-loop
 enum-told c = search needs
 
 returns-3 : tie.Need-returns-3 Inv-loop μ-loop
-unfolding leftBy
+unfolding leavesBy
 returns-3 c =
     let at-settle = c .before .before in
     let at-part = at-settle .before in
@@ -111,7 +111,7 @@ returns-3 c =
     let at-if1 = at-if2 .before in
     let at-loop-test = at-if1 .before .before .before in
     let at-loop = at-loop-test .before in (
-      running-ends (at-loop .loop .inv) (step-here _ _ _ _ _ refl (at-loop-test .loop-test .taken) (at-if1 .if1 .left) (at-if2 .if2 .left) ∙ leaves-defined _ _ _ _ _ (at-attribute-of .attribute-of .ensures) (at-a .a .given .1) (at-part .part .ensures) (at-settle .settle .ensures) ∙ ap leftBy (c .enum-told .given .1)),
+      running-ends (at-loop .loop .inv) (step-here _ _ _ _ _ refl (at-loop-test .loop-test .taken) (at-if1 .if1 .left) (at-if2 .if2 .left) ∙ leaves-defined _ _ _ _ _ (at-attribute-of .attribute-of .ensures) (at-a .a .given .1) (at-part .part .ensures) (at-settle .settle .ensures) ∙ ap leavesBy (c .enum-told .given .1)),
       at-loop .loop .inv .low,
     )
 
