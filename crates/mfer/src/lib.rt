@@ -134,7 +134,7 @@ fn whole_of(v: Value) -> i64
     }
 }
 
-// A sample: its place in the file, its kind (0 whole, 1 status, 2 single, 3 double, 4 not a number, 5 null), its number where it is
+// A sample: its place in the file, its kind (0 whole, 1 status, 2 single, 3 double, 4 not-a-number, 5 null), its number where it is
 // whole, and its bits as the file has them.
 #[no_mangle]
 pub extern "C" fn mfer_sample(

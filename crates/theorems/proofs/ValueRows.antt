@@ -1,5 +1,5 @@
 -- An item whose head is read is refused by the first of the rows behind those of the head. A tag of the table goes the way of its entry: each entry is
--- looked at once, outside a group and inside one, and a tag without a entry is stepped over.
+-- looked at once, outside a group and inside one, and a tag without an entry is stepped over.
 --     line-choice     a length, then a value, as every definition tests them
 --     lines-take      every entry of the table
 --     plain-first, member-first, group-first, mark-first    every kind of item
@@ -71,7 +71,7 @@ width-same (suc (suc (suc n))) =
 
 -- ---- a definition
 
--- 6 or 7 at a place, by two tests; and what a entry gives there.
+-- 6 or 7 at a place, by two tests; and what an entry gives there.
 abbrev sixOrSeven : ℕ → Bool → Bool → Option Refusal
 sixOrSeven at unfit bad = pick unfit (some (refusal unfitLength at)) (pick bad (some (refusal unfitValue at)) none)
 
@@ -151,7 +151,7 @@ module _ (s : List ℕ) (x : State) (at : ℕ) (v : List ℕ) where
   abbrev answer : Entry → Option Refusal
   answer l = lineAnswer at l (x .standing .little) v
 
-  -- A tag goes the way of a entry, outside a group and inside one.
+  -- A tag goes the way of an entry, outside a group and inside one.
   record Takes (tag : ℕ) (l : Entry) : Type 0 where
     plain : (start : ℕ) → carriedOut (plainEffect (x .standing) tag start v (tagged tag)) ≡ answer l
     member : rootOnly tag ≡ false → (channel : ℕ) → carriedOut (memberEffect (x .standing) channel v (tagged tag)) ≡ answer l

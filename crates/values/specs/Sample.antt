@@ -24,7 +24,7 @@ pub record Said : Type 0 where
   pub whole : ℤ
   pub bits : ℕ
 
--- The six kinds, numbered in this order.
+-- The six kinds, numbered in the order whole, status, single, double, not-a-number, null.
 abbrev pub wholeSaid : ℤ → Said
 wholeSaid z = record { kind = 0; whole = z; bits = 0 }
 

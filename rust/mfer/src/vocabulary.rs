@@ -92,6 +92,17 @@ fn of_kind(kind: u32) -> Value {
     Sample::of(&sampled).value
 }
 
+/// The definition of a value that begins so, parentheses aside: what stands on both sides of its `=`.
+fn defined_as(begins: &str) -> (&'static str, &'static str) {
+    let begins = |line: &&str| {
+        let line = line.replace(['(', ')'], "");
+        line.strip_prefix(begins)
+            .is_some_and(|rest| rest.starts_with(' ') && !rest.starts_with(" :"))
+    };
+    let line = VALUES.lines().find(begins).expect("a definition");
+    line.split_once(" = ").expect("a definition")
+}
+
 #[test]
 fn kinds_have_one_vocabulary() {
     let kind = |(name, number, words): Entry| {
@@ -100,10 +111,9 @@ fn kinds_have_one_vocabulary() {
         let variant = variant.split('(').next().expect("a name");
         assert_eq!(name, upper(variant));
         assert!(words.starts_with(&format!("{}: ", value.kind())), "{words}");
-        let case = format!("kindOf {variant} ");
-        let case = |line: &&str| line.replace('(', "").starts_with(&case);
-        let case = VALUES.lines().find(case).expect(variant);
-        assert!(case.ends_with(&format!(" = {number}")), "{case}");
+        let (_, said) = defined_as(&format!("valueSays {variant}"));
+        let (_, record) = defined_as(said.split(' ').next().expect("a name"));
+        assert!(record.contains(&format!("kind = {number};")), "{record}");
         value.kind()
     };
     let kinds = defined("/* Kinds of values. */\n").into_iter().map(kind);
