@@ -50,8 +50,8 @@
  * WHAT IS PROVED
  *
  * Of each function, for any octets and any numbers: it returns, and its result, its outputs and its
- * buffer afterwards are what crates/mfer/specs/Answers.antt defines. docs/TRUST.md says what that
- * rests on.
+ * buffer afterwards are what its contract in crates/mfer/src/lib.rt defines. docs/SPECIFICATION.md
+ * lists the definitions, docs/TRUST.md says what that rests on.
  *
  * EXAMPLE
  *
