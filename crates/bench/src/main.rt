@@ -8,7 +8,8 @@ use libc::STDOUT_FILENO;
 // The octets of a file on the bench at most.
 const LIMIT: usize = 60_000;
 
-fn say_line(line: &[u8; 64], n: usize) {
+// A buffer's length is known by its type here, so that part of it can be lent.
+fn say_line(line: &[u8; line::BUFFER], n: usize) {
     io::write_all(STDOUT_FILENO, octets::part(line, 0, n));
 }
 
@@ -20,7 +21,7 @@ fn main() {
         io::write_all(STDOUT_FILENO, b"too long\n");
         return;
     }
-    let mut line = [0u8; 64];
+    let mut line = [0u8; line::BUFFER];
     let k = line::put_line(reader::check(&buf[..n]), &mut line);
     say_line(&line, k);
 }

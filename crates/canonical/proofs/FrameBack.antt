@@ -42,9 +42,9 @@ use Rattle.canonical.proofs.Steps.{Led, led-then, plain-led, group-led,
 use Rattle.canonical.proofs.Effects.{definitions, item-picked, items-are, changes-are, define-all, standing, count-is, sequences-is, start-is}
 use Rattle.canonical.proofs.Recordings.{frameOf, all-agree, sequence-some, sequences-back, waveform-long}
 
-group-is : (k : ℕ) (c : Settings) → groupOctets k c ≡ group k (definitionsOctets (definitions c))
+group-octets-are : (k : ℕ) (c : Settings) → groupOctets k c ≡ group k (definitionsOctets (definitions c))
 unfolding groupOctets
-group-is k c = ap (group k) (items-are c)
+group-octets-are k c = ap (group k) (items-are c)
 
 -- The value of 06.
 abbrev sequencesValue : ℕ → List ℕ
@@ -103,7 +103,7 @@ module _ (s : List ℕ) (short : length s ≤ octetsLimit) (fs : List Frame) whe
   groups-led counted sequences start continued k (c ∷ cs) table at post g e h l m =
       let st = standing counted sequences start continued in
       let u = groupsOctets (suc k) cs ++ post in
-      let f : drop at s ≡ group k (definitionsOctets (definitions c)) ++ u = e ∙ append-assoc (groupOctets k c) (groupsOctets (suc k) cs) post ∙ ap (λ (x : List ℕ). x ++ u) (group-is k c) in
+      let f : drop at s ≡ group k (definitionsOctets (definitions c)) ++ u = e ∙ append-assoc (groupOctets k c) (groupsOctets (suc k) cs) post ∙ ap (λ (x : List ℕ). x ++ u) (group-octets-are k c) in
       let a = group-led s short st k refl (omega arith) table (omega arith) fs at (definitions c) u (omega arith) f (define-all c (g .0)) in
       let b : Led s (state st table fs) (cursor at Root) (state st (set table k c) fs) u = rw changes-are at a in
       led-then b (λ p q. groups-led counted sequences start continued (suc k) cs (set table k c) p post (g .1) q (omega arith) l (rw length-set m))

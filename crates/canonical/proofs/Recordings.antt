@@ -98,13 +98,13 @@ reported-is c g =
     let n : c .offset .width ≡ 0 → ⊥ = λ z. omega (arith, width-good (c .kind) (g .kind) .some, g .offsetWidth) in
     simp (ne-eqb (c .offset .width) 0 n)
 
-all-reported : (cs : List Settings) → AllReported cs → map reported cs ≡ cs
-all-reported [] g = refl
-all-reported (c ∷ cs) g = ap₂ _∷_ (reported-is c (g .0)) (all-reported cs (g .1))
+reported-again : (cs : List Settings) → AllReported cs → map reported cs ≡ cs
+reported-again [] g = refl
+reported-again (c ∷ cs) g = ap₂ _∷_ (reported-is c (g .0)) (reported-again cs (g .1))
 
 pub recorded-back : (r : Recorded) → GoodRecorded r → (place : ℕ) → recordedFrame (frameOf r place) ≡ r
 unfolding recordedFrame
 recorded-back r good place =
-    let cs = all-reported (r .channels) (good .channels) in
+    let cs = reported-again (r .channels) (good .channels) in
     let samples = tabulate-is [] (length (r .channels)) (λ c. tabulate (samplesOf c (frameOf r place)) (sampleBits (frameOf r place) c)) (r .samples) (good .counted) (channel-back r good place) in
     λ i. record { start = r .start; sequences = r .sequences; channels = cs i; samples = samples i }

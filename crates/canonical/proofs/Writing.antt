@@ -193,31 +193,31 @@ writing-first table c st r et ec es p =
     }
 
 module _ {s d : List ℕ} {table : List Settings} {c : Cursor} {st : Standing} {frames at : ℕ} {e : List ℕ} (p : Writing s d table c st frames at e) where
-  abbrev here : State
-  here = state st table (p .met)
+  abbrev writing-state : State
+  writing-state = state st table (p .met)
 
   short : length s ≤ octetsLimit
   short = accepted-small s (framesIn (verdict s)) (p .is)
 
-  left : interpret s here (itemsFrom s c) ≡ accepted (framesIn (verdict s))
+  left : interpret s writing-state (itemsFrom s c) ≡ accepted (framesIn (verdict s))
   left = reached-verdict s short (p .reached) ∙ p .is
 
   -- An item that gives no frame.
-  pub writing-goes : {n : Next} {i : Item} {d' : Cursor} {table' : List Settings} {st' : Standing} → n ≡ nextOf s c → n ≡ Found i d' → carried s here (effectOf s st i) ≡ goes (state st' table' (p .met)) → Writing s d table' d' st' frames at e
+  pub writing-goes : {n : Next} {i : Item} {d' : Cursor} {table' : List Settings} {st' : Standing} → n ≡ nextOf s c → n ≡ Found i d' → carried s writing-state (effectOf s st i) ≡ goes (state st' table' (p .met)) → Writing s d table' d' st' frames at e
   writing-goes a b g = record { is = p .is; some = p .some; room = p .room; met = p .met; reached = behind (p .reached) (sym a ∙ b) g; count = p .count; put = p .put }
 
   -- The end.
   pub written-end : {n : Next} {o : List ℕ} {k : ℕ} → n ≡ nextOf s c → n ≡ End → Put o 0 (0x01 ∷ 0x01 ∷ 0x00 ∷ []) k d → Put o 0 (canonicalOf s) at e
   unfolding canonicalOf
   written-end a b q =
-      let v : accepted (p .met) ≡ accepted (framesIn (verdict s)) = sym (interpret-finished s here) ∙ ap (interpret s here) (sym (items-end s c (sym a ∙ b))) ∙ left in
+      let v : accepted (p .met) ≡ accepted (framesIn (verdict s)) = sym (interpret-finished s writing-state) ∙ ap (interpret s writing-state) (sym (items-end s c (sym a ∙ b))) ∙ left in
       let f : p .met ≡ framesIn (verdict s) = cc in
       put-as (ap (λ (fs : List Frame). (0x01 ∷ 0x01 ∷ 0x00 ∷ []) ++ writtenSoFar fs) f ∙ so-far-all (framesIn (verdict s)) (p .some)) (put-then {u = 0x01 ∷ 0x01 ∷ 0x00 ∷ []} (record { next = refl; stored = q .stored }) (p .put))
 
   -- An accepted file has no fault of form.
   pub never-fault : {n : Next} (r : Refusal) → n ≡ nextOf s c → n ≡ Next.Refused r → ⊥
   never-fault r a b =
-      let v : refused r ≡ accepted (framesIn (verdict s)) = sym (interpret-fault s here r) ∙ ap (interpret s here) (sym (items-refused s c r (sym a ∙ b))) ∙ left in
+      let v : refused r ≡ accepted (framesIn (verdict s)) = sym (interpret-fault s writing-state r) ∙ ap (interpret s writing-state) (sym (items-refused s c r (sym a ∙ b))) ∙ left in
       let z : _≡_ {A = ℕ} 0 1 = cc in
       omega arith
 
@@ -228,9 +228,9 @@ module _ {s d : List ℕ} {table : List Settings} {c : Cursor} {st : Standing} {
   written-done (Next.Refused r) h a q = absurd (never-fault r a refl)
 
   -- Nor has it a refused item.
-  pub never-refuses : {n : Next} {i : Item} {d' : Cursor} (k : ℕ) → n ≡ nextOf s c → n ≡ Found i d' → carried s here (effectOf s st i) ≡ refuses k → ⊥
+  pub never-refuses : {n : Next} {i : Item} {d' : Cursor} (k : ℕ) → n ≡ nextOf s c → n ≡ Found i d' → carried s writing-state (effectOf s st i) ≡ refuses k → ⊥
   never-refuses {i = i} {d' = d'} k a b g =
-      let v : refused (refusal k (placeAt i)) ≡ accepted (framesIn (verdict s)) = sym (interpret-refuses s here i (itemsFrom s d') k g) ∙ ap (interpret s here) (sym (items-found s c i d' (sym a ∙ b))) ∙ left in
+      let v : refused (refusal k (placeAt i)) ≡ accepted (framesIn (verdict s)) = sym (interpret-refuses s writing-state i (itemsFrom s d') k g) ∙ ap (interpret s writing-state) (sym (items-found s c i d' (sym a ∙ b))) ∙ left in
       let z : _≡_ {A = ℕ} 0 1 = cc in
       omega arith
 
@@ -249,46 +249,46 @@ module _ {s d : List ℕ} {table : List Settings} {c : Cursor} {st : Standing} {
       (en : n ≡ nextOf s c) (fn : n ≡ Found i d')
       (ee : f ≡ effectOf s st i) (fe : f ≡ Effect.Frame start len)
       (er : r ≡ framedBy frames st (l .agree) (l .octets) len) (fr : r ≡ Taken sequences x) where
-    abbrev there : Frame
-    there = frameAt s (state st table (p .met)) start len sequences
+    abbrev frame-there : Frame
+    frame-there = frameAt s (state st table (p .met)) start len sequences
 
     abbrev all : List Frame
     all = framesIn (verdict s)
 
-    taken : carried s (state st table (p .met)) (effectOf s st i) ≡ goes (state x table (p .met ++ (there ∷ [])))
+    taken : carried s (state st table (p .met)) (effectOf s st i) ≡ goes (state x table (p .met ++ (frame-there ∷ [])))
     unfolding withFrame
     taken = framed-carried i start len ee fe er fr
 
-    reached-after : Reached s (state x table (p .met ++ (there ∷ []))) d'
+    reached-after : Reached s (state x table (p .met ++ (frame-there ∷ []))) d'
     reached-after = behind (p .reached) (sym en ∙ fn) taken
 
-    same-after : interpret s (state x table (p .met ++ (there ∷ []))) (itemsFrom s d') ≡ accepted all
+    same-after : interpret s (state x table (p .met ++ (frame-there ∷ []))) (itemsFrom s d') ≡ accepted all
     same-after = reached-verdict s (short p) reached-after ∙ p .is
 
-    grown : (rest : List Frame) × (all ≡ (p .met ++ (there ∷ [])) ++ rest)
-    grown = frames-grow s (state x table (p .met ++ (there ∷ []))) d' all same-after
+    grown : (rest : List Frame) × (all ≡ (p .met ++ (frame-there ∷ [])) ++ rest)
+    grown = frames-grow s (state x table (p .met ++ (frame-there ∷ []))) d' all same-after
 
-    split : all ≡ p .met ++ there ∷ (grown .0)
-    split = grown .1 ∙ append-assoc (p .met) (there ∷ []) (grown .0)
+    split : all ≡ p .met ++ frame-there ∷ (grown .0)
+    split = grown .1 ∙ append-assoc (p .met) (frame-there ∷ []) (grown .0)
 
-    sized : sizes all ≡ sizes (p .met) + (sizeOf there + sizes (grown .0))
+    sized : sizes all ≡ sizes (p .met) + (sizeOf frame-there + sizes (grown .0))
     unfolding sizes
-    sized = ap sizes split ∙ sizes-split (p .met) (there ∷ (grown .0))
+    sized = ap sizes split ∙ sizes-split (p .met) (frame-there ∷ (grown .0))
 
-    lies : Lies s there
+    lies : Lies s frame-there
     lies =
-        let k : length all ≡ length (p .met) + suc (length (grown .0)) = ap length split ∙ length-append (p .met) (there ∷ (grown .0)) in
+        let k : length all ≡ length (p .met) + suc (length (grown .0)) = ap length split ∙ length-append (p .met) (frame-there ∷ (grown .0)) in
         let h : length (p .met) < length all = omega arith in
-        subst (Lies s) (ap (λ (fs : List Frame). getD fs (length (p .met)) zeroFrame) split ∙ getD-append-seam (p .met) there (grown .0) zeroFrame) (accepted-lies s all (p .is) (length (p .met)) h)
+        subst (Lies s) (ap (λ (fs : List Frame). getD fs (length (p .met)) zeroFrame) split ∙ getD-append-seam (p .met) frame-there (grown .0) zeroFrame) (accepted-lies s all (p .is) (length (p .met)) h)
 
-    same-there : take count table ≡ there .channels
+    same-there : take count table ≡ frame-there .channels
     same-there = ap (λ (k : ℕ). take k table) ec
 
-    octets-there : samplesOctets (take count table) sequences ≡ samplesOctets (there .channels) sequences
+    octets-there : samplesOctets (take count table) sequences ≡ samplesOctets (frame-there .channels) sequences
     octets-there = ap (λ (cs : List Settings). samplesOctets cs sequences) same-there
 
-    pub frame-few : frames < framesLimit
-    frame-few = taken-few (short p) (p .reached) (p .count) 0 l counted i (sym fe ∙ ee) er fr
+    pub writing-few : frames < framesLimit
+    writing-few = taken-few (short p) (p .reached) (p .count) 0 l counted i (sym fe ∙ ee) er fr
 
     pub frame-root : x .root ≡ st .root
     frame-root = taken-root (short p) (p .reached) (p .count) 0 l counted i (sym fe ∙ ee) er fr
@@ -303,27 +303,27 @@ module _ {s d : List ℕ} {table : List Settings} {c : Cursor} {st : Standing} {
     frame-room : at + frameSize sequences (groupsSize 0 (take count table)) (samplesOctets (take count table) sequences) ≤ length e
     unfolding sizeOf
     frame-room =
-        let g : frameSize sequences (groupsSize 0 (take count table)) (samplesOctets (take count table) sequences) ≡ sizeOf there = ap (λ (cs : List Settings). frameSize sequences (groupsSize 0 cs) (samplesOctets cs sequences)) same-there in
+        let g : frameSize sequences (groupsSize 0 (take count table)) (samplesOctets (take count table) sequences) ≡ sizeOf frame-there = ap (λ (cs : List Settings). frameSize sequences (groupsSize 0 cs) (samplesOctets cs sequences)) same-there in
         omega (arith, p .room, sized, put-long (p .put), p .put .next, frames-long (p .met))
 
     -- The frame written.
     pub writing-frame : {w : List ℕ} {at' : ℕ} {e' : List ℕ} → ((k : ℕ) → getD s k 0 < 256) → w ≡ valueAt s start len → Putting e at (frameGiven (narrowed (st .start)) (st .little) sequences (take count table) w) at' e' → Writing s d table d' x (frames + 1) at' e'
     writing-frame {w} {at'} {e'} o ew q =
-        let v : length w ≡ length (there .waveform) = ap length ew in
+        let v : length w ≡ length (frame-there .waveform) = ap length ew in
         let held : samplesOctets (take count table) sequences ≤ length w = omega (arith, octets-there, lies .fits) in
         let few : samplesOctets (take count table) sequences ≤ octetsLimit = omega (arith, octets-there, lies .fits, lies .inside, accepted-small s all (p .is)) in
-        let k : frameParts (narrowed (st .start)) sequences (take count table) (samplesTurned (st .little) (take count table) sequences w) ≡ frameOctets (recordedFrame there) =
+        let k : frameParts (narrowed (st .start)) sequences (take count table) (samplesTurned (st .little) (take count table) sequences w) ≡ frameOctets (recordedFrame frame-there) =
         (λ i. frameParts (narrow-is (st .start) start-small i) sequences (same-there i) (samplesTurned (st .little) (same-there i) sequences (ew i)))
-        ∙ ap (frameParts (there .start) sequences (there .channels)) (samples-are s there lies (take-octets len (drop start s) (drop-octets start s o)))
-        ∙ sym (frame-is there) in
+        ∙ ap (frameParts (frame-there .start) sequences (frame-there .channels)) (samples-are s frame-there lies (take-octets len (drop start s) (drop-octets start s o)))
+        ∙ sym (frame-is frame-there) in
         record {
           is = p .is;
           some = p .some;
           room = p .room;
-          met = p .met ++ (there ∷ []);
+          met = p .met ++ (frame-there ∷ []);
           reached = reached-after;
           count = simp length-append (omega (arith, p .count));
-          put = put-as (so-far-more (p .met) there) (put-then (p .put) (put-as k (frame-put (narrowed (st .start)) (st .little) sequences (take count table) w held few frame-room q)));
+          put = put-as (so-far-more (p .met) frame-there) (put-then (p .put) (put-as k (frame-put (narrowed (st .start)) (st .little) sequences (take count table) w held few frame-room q)));
         }
 
 -- ---- the pass over the records
@@ -367,7 +367,7 @@ module _ {s d : List ℕ} {table : List Settings} {own : ℕ} {c : Cursor} {st :
         (ee : f ≡ effectOf s st i) (fe : f ≡ Effect.Frame start len)
         (er : r ≡ framedBy frames st (l .agree) (l .octets) len) (fr : r ≡ Taken sequences x) where
       pub going-few : frames < framesLimit
-      going-few = frame-few (p .pass) count l ec laid en fn ee fe er fr
+      going-few = writing-few (p .pass) count l ec laid en fn ee fe er fr
 
       pub going-start : SFits w32 (readWide (st .start))
       going-start = frame-start (p .pass) count l ec laid en fn ee fe er fr
@@ -381,15 +381,15 @@ module _ {s d : List ℕ} {table : List Settings} {own : ℕ} {c : Cursor} {st :
 
 module _ (s d : List ℕ) (q : Asked) (r : Scan) (e : r ≡ scanOf q s) where
   -- The answer, and the buffer afterwards.
-  abbrev Told : Answer ℕ → List ℕ → Type 0
-  Told a left = (a ≡ writtenOf s d) × (left ≡ leftOf s d)
+  abbrev WrittenAs : Answer ℕ → List ℕ → Type 0
+  WrittenAs a left = (a ≡ writtenOf s d) × (left ≡ leftOf s d)
 
-  told : (x : Answer (List ℕ)) → x ≡ outputIn d (verdict s) → Told (mapAnswer length x) (leftBy x d)
+  told : (x : Answer (List ℕ)) → x ≡ outputIn d (verdict s) → WrittenAs (mapAnswer length x) (leftBy x d)
   unfolding writtenOf leftOf
   told x u = (ap (mapAnswer length) u, ap (λ (y : Answer (List ℕ)). leftBy y d) u)
 
   -- The file's own refusal.
-  pub written-refused : (x : Refusal) → r .checked ≡ Checked.Refused x → Told (refusedBy x) d
+  pub written-refused : (x : Refusal) → r .checked ≡ Checked.Refused x → WrittenAs (refusedBy x) d
   unfolding leftBy outputIn scanOf scannedIn
   written-refused x h = told (refusedBy x) (by (verdict s) refl)
     where
@@ -421,11 +421,11 @@ module _ (s d : List ℕ) (q : Asked) (r : Scan) (e : r ≡ scanOf q s) where
             let o : ⊥ = omega arith in
             absurd o
 
-    told-taken : (x : Answer (List ℕ)) → x ≡ outputIn d (accepted (framesIn (verdict s))) → Told (mapAnswer length x) (leftBy x d)
+    told-taken : (x : Answer (List ℕ)) → x ≡ outputIn d (accepted (framesIn (verdict s))) → WrittenAs (mapAnswer length x) (leftBy x d)
     told-taken x u = told x (u ∙ ap (outputIn d) (sym (taken-is .0)))
 
     -- No frames: the empty file.
-    pub written-none : n ≡ 0 → Told (answered 0) d
+    pub written-none : n ≡ 0 → WrittenAs (answered 0) d
     unfolding leftBy outputIn fits
     written-none z =
         let c = canonical-none (framesIn (verdict s)) (sym (taken-is .1) ∙ z) in
@@ -436,7 +436,7 @@ module _ (s d : List ℕ) (q : Asked) (r : Scan) (e : r ≡ scanOf q s) where
       long-is = canonical-long (framesIn (verdict s)) (λ z. some (taken-is .1 ∙ z)) ∙ omega (arith, taken-is .2)
 
       -- It does not fit.
-      pub written-short : fits (canonicalOf s) d ≡ false → Told (refusedAs noRoom 0) d
+      pub written-short : fits (canonicalOf s) d ≡ false → WrittenAs (refusedAs noRoom 0) d
       unfolding leftBy outputIn canonicalOf
       written-short f = told-taken (refusedAs noRoom 0) (rw f)
 
@@ -452,7 +452,7 @@ module _ (s d : List ℕ) (q : Asked) (r : Scan) (e : r ≡ scanOf q s) where
       ready l = record { is = taken-is .0; some = λ z. some (taken-is .1 ∙ z); room = omega (arith, taken-is .2) }
 
       -- It fits, and is written.
-      pub written-whole : {k : ℕ} {f : List ℕ} → r .size + 3 ≤ octetsLimit → r .size + 3 ≤ length d → Put d 0 (canonicalOf s) k f → Told (answered k) f
+      pub written-whole : {k : ℕ} {f : List ℕ} → r .size + 3 ≤ octetsLimit → r .size + 3 ≤ length d → Put d 0 (canonicalOf s) k f → WrittenAs (answered k) f
       unfolding leftBy outputIn fits canonicalOf
       written-whole {k} {f} l m p =
           let c = canonical (recording (framesIn (verdict s))) in

@@ -19,7 +19,7 @@ use lib.Seq.{sets, drop-cons, drop-drop, getD-take, length-take-le}
 use Rattle.stores.specs.Storing.{Put, Putting, put-fits}
 use Rattle.runs.specs.Turned.{turned, turnedRun}
 use Rattle.stores.proofs.Stores.{sets-append, put-long}
-use Rattle.runs.proofs.Turned.{run-there, length-turned}
+use Rattle.runs.proofs.Turned.{run-turned, length-turned}
 use Rattle.values.specs.Sample.{widthOf}
 use Rattle.settings.specs.declared.Settings.{Settings}
 use Rattle.settings.specs.Settings.{channelLimit, zeroSettings}
@@ -164,7 +164,7 @@ unfolding blockOctets
 block-stored {e} {f} {next} {r} c v place x ev h p =
     let l = length-drop place x in
     let k : c .block * widthIn c ≤ length (drop place x) = omega arith in
-    subst (λ (u : List ℕ). Putting e next u r f) (ap (λ (w : ℕ). turnedRun w (c .block) (drop place x)) ev ∙ run-there (widthIn c) (c .block) (drop place x) k) p
+    subst (λ (u : List ℕ). Putting e next u r f) (ap (λ (w : ℕ). turnedRun w (c .block) (drop place x)) ev ∙ run-turned (widthIn c) (c .block) (drop place x) k) p
 
 -- ---- the loops over a waveform that is turned round
 

@@ -4,7 +4,7 @@
 --     given-some, given-none    where the waveform holds the sequences, and where it does not
 --     frame-put       a frame that is given and fits is stored
 --     held-none, held-by    the test of that, by how many sequences fit in
---     Told, Held      the first records of a table, whose layout is known, and the test by it
+--     FirstRecords, SequencesHeld      the first records of a table, whose layout is known, and the test by it
 --     told-groups, not-held, held-few, parts-given, given-long, frame-asked    the same of these
 -- Assumes nothing.
 use mathlib.Core.Path.{_≡_, refl, sym, ap, subst, _∙_}
@@ -80,14 +80,14 @@ held-by sequences octets most n = by (leb sequences (most / octets)) refl
 -- ---- the first records of a table
 
 -- The first k records of a table are those of `count` channels, and l is their layout.
-pub record Told (table : List Settings) (count k : ℕ) (l : Layout) : Type 0 where
+pub record FirstRecords (table : List Settings) (count k : ℕ) (l : Layout) : Type 0 where
   pub full : length table ≡ channelLimit
   pub few : k ≡ min count channelLimit
   pub layout : l ≡ layoutOf 0 (take k table)
 
 -- The test of a waveform of some sequences.
-abbrev pub Held : ℕ → Layout → List ℕ → Bool → Type 0
-Held sequences l x t = leb (sequences * l .octets) (min (length x) octetsLimit) ≡ t
+abbrev pub SequencesHeld : ℕ → Layout → List ℕ → Bool → Type 0
+SequencesHeld sequences l x t = leb (sequences * l .octets) (min (length x) octetsLimit) ≡ t
 
 -- What `store_frame` asks for.
 abbrev Asked : List Settings → ℕ → ℕ → ℕ → List ℕ → ℕ → ℕ → Type 0
@@ -95,7 +95,7 @@ Asked table k sequences octets x at long =
     ((k ≤ channelLimit) × (octets ≡ samplesOctets (take k table) sequences))
     × ((octets ≤ length x) × (octets ≤ octetsLimit) × (at + frameSize sequences (groupsSize 0 (take k table)) octets ≤ long))
 
-module _ {table : List Settings} {count k : ℕ} {l : Layout} (t : Told table count k l) where
+module _ {table : List Settings} {count k : ℕ} {l : Layout} (t : FirstRecords table count k l) where
   first-same : take k table ≡ take count table
   first-same = ap (λ (n : ℕ). take n table) (t .few) ∙ take-few count table (t .full)
 
@@ -111,14 +111,14 @@ module _ {table : List Settings} {count k : ℕ} {l : Layout} (t : Told table co
   told-groups = omega (arith, groups-are, groups-few 0 (take k table), length-take-le k table (omega (arith, t .few, t .full)), t .few)
 
   module _ (sequences : ℕ) (x : List ℕ) where
-    held-first : {b : Bool} → Held sequences l x b → leb (samplesOctets (take count table) sequences) (min (length x) octetsLimit) ≡ b
+    held-first : {b : Bool} → SequencesHeld sequences l x b → leb (samplesOctets (take count table) sequences) (min (length x) octetsLimit) ≡ b
     held-first h = ap (λ (n : ℕ). leb (sequences * n) (min (length x) octetsLimit)) (sym (octets-are ∙ ap sequenceOctets first-same)) ∙ h
 
-    pub not-held : (start : ℤ) (little : Bool) (d : List ℕ) (at : ℕ) → Held sequences l x false → Putting d at (frameGiven start little sequences (take count table) x) at d
+    pub not-held : (start : ℤ) (little : Bool) (d : List ℕ) (at : ℕ) → SequencesHeld sequences l x false → Putting d at (frameGiven start little sequences (take count table) x) at d
     not-held start little d at h =
         subst (λ (v : List ℕ). Putting d at v at d) (sym (given-none start little sequences (take count table) x (held-first h))) (putting-none d at)
 
-    module _ (h : Held sequences l x true) where
+    module _ (h : SequencesHeld sequences l x true) where
       pub held-few : (sequences * l .octets ≤ length x) × (sequences * l .octets ≤ octetsLimit)
       held-few =
           let m = leb-true (sequences * l .octets) (min (length x) octetsLimit) h in

@@ -10,7 +10,7 @@ use native.Mathlib.Nat.{mul-assoc, mul-one, mul-div-cancel, min-le-left}
 use native.Mathlib.Omega.{arith}
 use lib.ListN.{length, take, length-take}
 use Rattle.runs.specs.Turned.{turnedRun}
-use Rattle.runs.proofs.Turned.{turned-one, run-there, length-turned}
+use Rattle.runs.proofs.Turned.{turned-one, run-turned, length-turned}
 use Rattle.settings.specs.declared.Settings.{Settings}
 use Rattle.layout.specs.Frame.{samplesOctets}
 use Rattle.laid.specs.Turned.{Even, turnedAll, sequenceSamples}
@@ -33,13 +33,13 @@ module _ (cs : List Settings) (sequences : ℕ) (x : List ℕ) (n : ℕ) (e : n 
     samples-even l =
         let k : n ≡ sequences * sequenceSamples cs * v = e ∙ rw (octets-even v cs h) (sym (mul-assoc sequences (sequenceSamples cs) v)) in
         let m : sequences * sequenceSamples cs * v ≤ length x = omega arith in
-        ap (λ (j : ℕ). turnedRun v j x) samples-count ∙ run-there v (sequences * sequenceSamples cs) x m ∙ sym (turned-even v cs sequences x h)
+        ap (λ (j : ℕ). turnedRun v j x) samples-count ∙ run-turned v (sequences * sequenceSamples cs) x m ∙ sym (turned-even v cs sequences x h)
 
     pub even-room : n ≤ length x → length (turnedRun v (n / v) x) ≡ n
     even-room l =
         let k : n ≡ sequences * sequenceSamples cs * v = e ∙ rw (octets-even v cs h) (sym (mul-assoc sequences (sequenceSamples cs) v)) in
         let m : sequences * sequenceSamples cs * v ≤ length x = omega arith in
-        ap (λ (j : ℕ). length (turnedRun v j x)) samples-count ∙ ap length (run-there v (sequences * sequenceSamples cs) x m) ∙ length-turned v (sequences * sequenceSamples cs) x m ∙ sym k
+        ap (λ (j : ℕ). length (turnedRun v j x)) samples-count ∙ ap length (run-turned v (sequences * sequenceSamples cs) x m) ∙ length-turned v (sequences * sequenceSamples cs) x m ∙ sym k
 
 -- A run that is no longer than asked for fits.
 pub taken-room : (n at : ℕ) (x d : List ℕ) → at + n ≤ length d → at + length (take n x) ≤ length d

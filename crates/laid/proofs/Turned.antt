@@ -28,15 +28,15 @@ turned-steps w (suc k) x = rw (turned-steps w k (drop w x))
 abbrev turnedFirst : Settings → List ℕ → List ℕ
 turnedFirst s y = reverse (take (widthIn s) y)
 
-sequence-steps : (cs : List Settings) (x : List ℕ) → stepsIn turnedFirst cs x ≡ turnedSequence cs x
+sequence-turned : (cs : List Settings) (x : List ℕ) → stepsIn turnedFirst cs x ≡ turnedSequence cs x
 unfolding turnedSequence
-sequence-steps [] x = refl
-sequence-steps (s ∷ cs) x = rw (turned-steps (widthIn s) (s .block) x, sequence-steps cs (drop (blockOctets s) x))
+sequence-turned [] x = refl
+sequence-turned (s ∷ cs) x = rw (turned-steps (widthIn s) (s .block) x, sequence-turned cs (drop (blockOctets s) x))
 
 all-steps : (cs : List Settings) (m : ℕ) (x : List ℕ) → steps (stepsIn turnedFirst cs) (sequenceOctets cs) m x ≡ turnedAll cs m x
 unfolding turnedAll
 all-steps cs zero x = refl
-all-steps cs (suc m) x = rw (sequence-steps cs x, all-steps cs m (drop (sequenceOctets cs) x))
+all-steps cs (suc m) x = rw (sequence-turned cs x, all-steps cs m (drop (sequenceOctets cs) x))
 
 pub laid-turned : (cs : List Settings) (S : ℕ) (x : List ℕ) → laid (λ c n. reverse (sampleOctets cs x c n)) cs S ≡ turnedAll cs S x
 laid-turned cs S x = laid-steps (λ c n. reverse (sampleOctets cs x c n)) turnedFirst cs S x (λ c n h. refl) ∙ all-steps cs S x

@@ -76,12 +76,13 @@ channelIn channel cs = getD cs channel zeroSettings
 unfoldable pub samplesOf : ℕ → Frame → ℕ
 samplesOf channel f = f .sequences * channelIn channel (f .channels) .block
 
--- Where sample n of a channel lies, from the waveform's first octet: (n div b) times G, plus the block octets of all lower channels, plus
--- (n mod b) times w.
+-- (n div b) times G, plus the block octets of all lower channels, plus (n mod b) times w.
+abbrev pub offsetBy : Settings → ℕ → ℕ → ℕ → ℕ
+offsetBy c octets below n = n / c .block * octets + below + n % c .block * widthIn c
+
+-- Where sample n of a channel lies, from the waveform's first octet.
 unfoldable pub offsetOf : List Settings → ℕ → ℕ → ℕ
-offsetOf cs channel n =
-    let c = channelIn channel cs in
-    n / c .block * sequenceOctets cs + octetsBelow channel cs + n % c .block * widthIn c
+offsetOf cs channel n = offsetBy (channelIn channel cs) (sequenceOctets cs) (octetsBelow channel cs) n
 
 -- A sample's place counts from the file's first octet.
 unfoldable pub placeOf : ℕ → ℕ → Frame → ℕ

@@ -9,6 +9,9 @@ ghost use Rattle.pass.specs.Verdict.{checkedSays};
 ghost use Rattle.line.specs.Line.{decimalOf, Lined};
 use pass::Checked;
 
+// The octets of a buffer that holds any line.
+pub const BUFFER: usize = 64;
+
 // Stores a text from `at` on, where it fits, and answers the place after it.
 fn put_text(out: &mut [u8], at: usize, text: &[u8]) -> usize
     ensures { λ r. ⌜ Putting (now (out .entry)) at (now (text .entry)) r (now (out .exit)) ⌝ }
@@ -26,7 +29,7 @@ fn put_decimal(out: &mut [u8], at: usize, n: u64) -> usize
 }
 
 // Puts the line of an answer at the start of out, and answers how many octets it has.
-pub fn put_line(checked: Checked, out: &mut [u8; 64]) -> usize
+pub fn put_line(checked: Checked, out: &mut [u8; BUFFER]) -> usize
     ensures { λ r. ⌜ Lined (checkedSays checked) (now (out .entry)) r (now (out .exit)) ⌝ }
 {
     match checked {

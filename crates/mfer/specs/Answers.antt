@@ -71,9 +71,12 @@ bitPairOf a = a .settings .offset .bits ∷ a .settings .null .bits ∷ []
 abbrev pub attributesValues : List ℤ → List ℕ → AttributesOut
 attributesValues numbers bits = record { numbers = numbers; bits = bits }
 
+abbrev pub zeroAttributes : AttributesOut
+zeroAttributes = attributesValues (replicate 15 (pos 0)) (replicate 2 0)
+
 -- The attributes, and no place.
 abbrev pub attributesOut : Answer Attributes → Outputs AttributesOut
-attributesOut a = handedOut (λ x. 0) (λ x. attributesValues (numbersOf x) (bitPairOf x)) (attributesValues (replicate 15 (pos 0)) (replicate 2 0)) a
+attributesOut a = handedOut (λ x. 0) (λ x. attributesValues (numbersOf x) (bitPairOf x)) zeroAttributes a
 
 -- ---- mfer_sample
 
@@ -85,6 +88,9 @@ pub record SampleOut : Type 0 where
 abbrev pub sampleValues : ℕ → ℤ → ℕ → SampleOut
 sampleValues kind whole bits = record { kind = kind; whole = whole; bits = bits }
 
+abbrev pub zeroSample : SampleOut
+zeroSample = sampleValues 0 (pos 0) 0
+
 -- A sample, and its place.
 abbrev pub sampleOut : Answer FoundSample → Outputs SampleOut
-sampleOut a = handedOut (λ x. x .place) (λ x. sampleValues (x .value .kind) (x .value .whole) (x .bits)) (sampleValues 0 (pos 0) 0) a
+sampleOut a = handedOut (λ x. x .place) (λ x. sampleValues (x .value .kind) (x .value .whole) (x .bits)) zeroSample a

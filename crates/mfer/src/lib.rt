@@ -67,7 +67,7 @@ fn numbers_of(a: Attributes) -> [i64; 15]
 }
 
 // The bits of the offset and of null.
-fn bits_of(a: Attributes) -> [u64; 2]
+fn bit_pair_of(a: Attributes) -> [u64; 2]
     ensures { λ r. ⌜ r ≡ bitPairOf a ⌝ }
 {
     let c = a.settings;
@@ -93,7 +93,7 @@ pub extern "C" fn mfer_attributes(
     match reader::describe(file, frame, channel) {
         Described::Attributes(a) => {
             *numbers = numbers_of(a);
-            *bits = bits_of(a);
+            *bits = bit_pair_of(a);
             *place = 0;
             0
         }

@@ -27,9 +27,9 @@ use Rattle.framing.specs.Framing.{channelsOf}
 use Rattle.pass.specs.Verdict.{State, firstState, oneChanged, frameChannels}
 use Rattle.pass.specs.Reached.{Reached}
 use Rattle.pass.proofs.Keeps.{reached-keeps}
-use Rattle.pass.proofs.Steps.{Step, passes, stands, resets, changes, sets, frames, meaning-steps}
+use Rattle.pass.proofs.Steps.{ItemStep, passes, stands, resets, changes, sets, frames, meaning-steps}
 use Rattle.pass.proofs.Every.{Every, every-take}
-use Rattle.pass.proofs.Tables.{Each, Table, table-step, table-first}
+use Rattle.pass.proofs.Tables.{EachAttribute, Table, table-step, table-first}
 
 -- ---- a record in its ranges
 
@@ -45,20 +45,20 @@ width-some = width-cases (λ (w : ℕ). 0 < w) (lit< tt) (lit< tt) (lit< tt) (li
 abbrev InRange : Change → Type 0
 InRange c = inRange c ≡ true
 
-default-ranged : Each InRange defaultSettings
+default-ranged : EachAttribute InRange defaultSettings
 default-ranged =
     record { block = refl; class = refl; lead = refl; kind = refl; interval = refl; resolution = refl; offset = refl; null = refl }
 
-block-some : (c : Settings) → Each InRange c → 0 < blockOctets c
+block-octets-some : (c : Settings) → EachAttribute InRange c → 0 < blockOctets c
 unfolding blockOctets
-block-some c e =
+block-octets-some c e =
     let b = both-split (leb 1 (c .block)) (leb (c .block) blockLimit) (e .block) in
     mul-pos (leb-true 1 (c .block) (b .0)) (width-some (c .kind) (leb-true (c .kind) lastKind (e .kind)))
 
-sequence-some : (cs : List Settings) → Every (Each InRange) cs → 0 < length cs → 0 < sequenceOctets cs
+sequence-octets-some : (cs : List Settings) → Every (EachAttribute InRange) cs → 0 < length cs → 0 < sequenceOctets cs
 unfolding sequenceOctets
-sequence-some [] e h = h
-sequence-some (c ∷ cs) e h = omega (arith, block-some c (e .0))
+sequence-octets-some [] e h = h
+sequence-octets-some (c ∷ cs) e h = omega (arith, block-octets-some c (e .0))
 
 -- ---- what every item keeps
 
@@ -78,7 +78,7 @@ module _ (s : List ℕ) where
         ranged = table-first InRange s default-ranged (λ a little start len g z r. r);
       }
 
-  numbers-step : (x : State) (i : Item) (y : State) → Bounded x → Step s x i y → (y .standing .counted ≤ channelLimit) × (length (y .channels) ≡ channelLimit) × (length (y .frames) ≤ framesLimit)
+  numbers-step : (x : State) (i : Item) (y : State) → Bounded x → ItemStep s x i y → (y .standing .counted ≤ channelLimit) × (length (y .channels) ≡ channelLimit) × (length (y .frames) ≤ framesLimit)
   unfolding allApplied oneChanged
   numbers-step x i _ b passes = (b .counted, b .full, b .few)
   numbers-step x i _ b (stands y h r) = (rw h (b .counted), b .full, b .few)
@@ -87,7 +87,7 @@ module _ (s : List ℕ) where
   numbers-step x i _ b (sets channel ch e) = (b .counted, length-set (x .channels) channel _ ∙ b .full, b .few)
   numbers-step x i _ b (frames start long n y w t) = (rw (t .after) (b .counted), b .full, rw length-append (omega (arith, t .few)))
 
-  pub bounded-step : (x : State) (i : Item) (y : State) → Bounded x → Step s x i y → Bounded y
+  pub bounded-step : (x : State) (i : Item) (y : State) → Bounded x → ItemStep s x i y → Bounded y
   bounded-step x i y b t =
       let k = numbers-step x i y b t in
       record { counted = k .0; full = k .1; few = k .2; ranged = table-step InRange s default-ranged (λ a little start len g z r. r) x i y (b .ranged) t }
@@ -114,4 +114,4 @@ module _ (x : State) (b : Bounded x) where
 
   pub octets-some : 0 < sequenceOctets (frameChannels x)
   octets-some =
-      sequence-some (frameChannels x) (every-take (Each InRange) (channelsOf (x .standing .counted)) (x .channels) (b .ranged .table)) (frame-channels .0)
+      sequence-octets-some (frameChannels x) (every-take (EachAttribute InRange) (channelsOf (x .standing .counted)) (x .channels) (b .ranged .table)) (frame-channels .0)

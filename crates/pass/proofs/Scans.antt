@@ -82,10 +82,10 @@ scanning-first s q table c st h et ec es =
     }
 
 module _ {s : List ℕ} {q : Asked} {table : List Settings} {c : Cursor} {st : Standing} {m : Met} (p : Scanning s q table c st m) where
-  abbrev here : State
-  here = state st table (p .met)
+  abbrev scanned-state : State
+  scanned-state = state st table (p .met)
 
-  bounds : Bounded here
+  bounds : Bounded scanned-state
   bounds = reached-bounded s (p .reached)
 
   pub scanning-counted : st .counted ≤ channelLimit
@@ -99,28 +99,28 @@ module _ {s : List ℕ} {q : Asked} {table : List Settings} {c : Cursor} {st : S
   scanning-on r =
       record { long = p .long; met = p .met; reached = r; count = p .count; kept = p .kept; sized = p .sized; room = p .room }
 
-  left : interpret s here (itemsFrom s c) ≡ verdict s
+  left : interpret s scanned-state (itemsFrom s c) ≡ verdict s
   left = reached-verdict s (p .long) (p .reached)
 
   -- The end.
   pub scanned-end : {n : Next} → n ≡ nextOf s c → n ≡ End → metScan m ≡ scanOf q s
   unfolding scanOf scannedIn interpret
   scanned-end e f =
-      let v : accepted (p .met) ≡ verdict s = ap (interpret s here) (sym (items-end s c (sym e ∙ f))) ∙ left in
+      let v : accepted (p .met) ≡ verdict s = ap (interpret s scanned-state) (sym (items-end s c (sym e ∙ f))) ∙ left in
       (λ k. record { checked = Checked.Frames (p .count k); found = p .kept k; size = p .sized k }) ∙ ap (scannedIn q) v
 
   -- A fault of form.
   pub scanned-fault : {n : Next} (r : Refusal) → n ≡ nextOf s c → n ≡ Next.Refused r → refusedScan r ≡ scanOf q s
   unfolding scanOf scannedIn interpret
   scanned-fault r e f =
-      ap (scannedIn q) (ap (interpret s here) (sym (items-refused s c r (sym e ∙ f))) ∙ left)
+      ap (scannedIn q) (ap (interpret s scanned-state) (sym (items-refused s c r (sym e ∙ f))) ∙ left)
 
   -- A refused item.
-  pub scanned-refuses : {n : Next} {i : Item} {d : Cursor} (k place : ℕ) → n ≡ nextOf s c → n ≡ FoundItem i d → place ≡ placeAt i → carried s here (effectOf s st i) ≡ refuses k → refusedScan (refusal k place) ≡ scanOf q s
+  pub scanned-refuses : {n : Next} {i : Item} {d : Cursor} (k place : ℕ) → n ≡ nextOf s c → n ≡ FoundItem i d → place ≡ placeAt i → carried s scanned-state (effectOf s st i) ≡ refuses k → refusedScan (refusal k place) ≡ scanOf q s
   unfolding scanOf scannedIn
   scanned-refuses {i = i} {d = d} k place e f ep g =
       ap (λ (x : ℕ). scannedIn q (refused (refusal k x))) ep
-      ∙ ap (scannedIn q) (sym (interpret-refuses s here i (itemsFrom s d) k g) ∙ ap (interpret s here) (sym (items-found s c i d (sym e ∙ f))) ∙ left)
+      ∙ ap (scannedIn q) (sym (interpret-refuses s scanned-state i (itemsFrom s d) k g) ∙ ap (interpret s scanned-state) (sym (items-found s c i d (sym e ∙ f))) ∙ left)
 
 -- ---- a frame
 
@@ -169,29 +169,29 @@ channel-seen channel count table h l =
 -- What is known of a frame where the file's items lead: l is the layout of its channels.
 module _ {s : List ℕ} {table : List Settings} {c : Cursor} {st : Standing} {met : List Frame} (long : length s ≤ octetsLimit) (reached : Reached s (state st table met) c)
     {frames : ℕ} (counts : frames ≡ length met) (channel : ℕ) (l : Layout) (el : l ≡ layoutOf channel (take (channelsOf (st .counted)) table)) where
-  abbrev there : State
-  there = state st table met
+  abbrev framed-state : State
+  framed-state = state st table met
 
   abbrev count : ℕ
   count = channelsOf (st .counted)
 
-  bounded : Bounded there
+  bounded : Bounded framed-state
   bounded = reached-bounded s reached
 
   octets-here : 0 < l .octets
   unfolding layoutOf
-  octets-here = rw el (octets-some there bounded)
+  octets-here = rw el (octets-some framed-state bounded)
 
   -- A file's frame, of which `frame_of` answers document 01's rule.
   framed-here : (i : Item) (start len : ℕ) → Effect.Frame start len ≡ effectOf s st i → framedBy frames st (l .agree) (l .octets) len ≡ framedAs frames st (l .agree) (l .octets) len
   framed-here i start len a = framed-same frames st (l .agree) (l .octets) len octets-here (omega (arith, waveform-short s (waveform-found s st i a refl)))
 
   -- What the frame's waveform gives, as the pass computes it.
-  pub frame-carried : (i : Item) (start len : ℕ) {r f : Framed} → Effect.Frame start len ≡ effectOf s st i → r ≡ framedBy frames st (l .agree) (l .octets) len → r ≡ f → carried s there (effectOf s st i) ≡ withFrame s there start len f
+  pub frame-carried : (i : Item) (start len : ℕ) {r f : Framed} → Effect.Frame start len ≡ effectOf s st i → r ≡ framedBy frames st (l .agree) (l .octets) len → r ≡ f → carried s framed-state (effectOf s st i) ≡ withFrame s framed-state start len f
   unfolding carried layoutOf
   frame-carried i start len a u v =
-      ap (carried s there) (sym a)
-      ∙ ap (withFrame s there start len) (sym (rw (el, counts) at (u ∙ framed-here i start len a)) ∙ v)
+      ap (carried s framed-state) (sym a)
+      ∙ ap (withFrame s framed-state start len) (sym (rw (el, counts) at (u ∙ framed-here i start len a)) ∙ v)
 
   count-few : count ≤ channelLimit
   count-few = channels-between (st .counted) (bounded .counted) .1
@@ -233,7 +233,7 @@ module _ {s : List ℕ} {q : Asked} {table : List Settings} {c : Cursor} {st : S
       let count = channelsOf (st .counted) in
       let few = count-few (p .long) (p .reached) (p .count) (q .channel) l el in
       let all = counts-there (p .long) (p .reached) (p .count) (q .channel) l el in
-      let g = frameAt s (here p) start len sequences in
+      let g = frameAt s (scanned-state p) start len sequences in
       let seen = ev ∙ channel-seen (q .channel) count table few (bounds p .full) in
       let vw : viewMet (q .channel) st sequences start l v ≡ viewOf (q .channel) g =
       λ k. record { start = st .start; channels = sym all k; sequences = sequences; little = st .little; place = start; octets = el k .octets; below = el k .below; settings = seen k } in
@@ -356,25 +356,25 @@ module _ {own : ℕ} {table : List Settings} (k : Records own table) where
     spoken = state st (shownBy st own table) fs
 
     -- What an item does, where what stands after it and the records then are known.
-    abbrev Does : Standing → ℕ → List Settings → Type 0
-    Does st' own' table' = carried s spoken (effectOf s st i) ≡ goes (state st' (shownBy st' own' table') fs)
+    abbrev CarriedTo : Standing → ℕ → List Settings → Type 0
+    CarriedTo st' own' table' = carried s spoken (effectOf s st i) ≡ goes (state st' (shownBy st' own' table') fs)
 
-    does-as : {st' st'' : Standing} (own' : ℕ) (table' : List Settings) → st'' ≡ st' → Does st' own' table' → Does st'' own' table'
+    does-as : {st' st'' : Standing} (own' : ℕ) (table' : List Settings) → st'' ≡ st' → CarriedTo st' own' table' → CarriedTo st'' own' table'
     does-as own' table' q d = d ∙ (λ j. goes (state (sym q j) (shownBy (sym q j) own' table') fs))
 
-    pub does-nothing : e ≡ Effect.Pass → Does st own table
+    pub does-nothing : e ≡ Effect.Pass → CarriedTo st own table
     unfolding carried
     does-nothing b = carried-by s spoken i a b
 
     -- Only what stands changes.
-    pub does-stands : (ks : List ℕ) → Plain ks → T (not (hasKey ks 2)) ⊎ (own ≡ 0) → {st' : Standing} → OneOf ks (tagOf the-type e) → st' ≡ standingAfter st e → Does st' own table
+    pub does-stands : (ks : List ℕ) → Plain ks → T (not (hasKey ks 2)) ⊎ (own ≡ 0) → {st' : Standing} → OneOf ks (tagOf the-type e) → st' ≡ standingAfter st e → CarriedTo st' own table
     does-stands ks h u b q = does-as own table q (carried-by s spoken i a refl ∙ stands-carried ks h s st fs own table u e b)
 
-    pub does-count : {n : ℕ} {st' : Standing} → e ≡ Effect.Count n → st' ≡ standingAfter st e → Does st' 0 table
+    pub does-count : {n : ℕ} {st' : Standing} → e ≡ Effect.Count n → st' ≡ standingAfter st e → CarriedTo st' 0 table
     unfolding carried
     does-count {n = n} b q = does-as 0 table (q ∙ ap (standingAfter st) b) (carried-by s spoken i a b ∙ ap (λ (t : List Settings). goes (state (standingAfter st (Effect.Count n)) t fs)) (sym (shown-none channelLimit (st .root) table)))
 
-    pub does-all : {c : Change} {st' : Standing} {table' : List Settings} → e ≡ Effect.All c → st' ≡ standingAfter st (Effect.All c) → table' ≡ mapped (applied c) own table → Does st' own table'
+    pub does-all : {c : Change} {st' : Standing} {table' : List Settings} → e ≡ Effect.All c → st' ≡ standingAfter st (Effect.All c) → table' ≡ mapped (applied c) own table → CarriedTo st' own table'
     unfolding carried allApplied
     does-all {c = c} {table' = table'} b q m =
         does-as own table' q
@@ -382,7 +382,7 @@ module _ {own : ℕ} {table : List Settings} (k : Records own table) where
         ∙ ap (λ (t : List Settings). goes (state (standingAfter st (Effect.All c)) t fs)) (sym (shown-map (applied c) channelLimit (st .root) own table (k .full) (k .low)))
         ∙ ap (λ (u : List Settings). goes (state (standingAfter st (Effect.All c)) (shown channelLimit (applied c (st .root)) own u) fs)) (sym m))
 
-    pub does-one : {channel : ℕ} {c : Change} {v : Settings} → e ≡ Effect.One channel c → channel < own → v ≡ applied c (getD table channel zeroSettings) → Does st own (set table channel v)
+    pub does-one : {channel : ℕ} {c : Change} {v : Settings} → e ≡ Effect.One channel c → channel < own → v ≡ applied c (getD table channel zeroSettings) → CarriedTo st own (set table channel v)
     unfolding carried oneChanged
     does-one {channel = channel} {c = c} {v = v} b h q =
         carried-by s spoken i a b
@@ -392,7 +392,7 @@ module _ {own : ℕ} {table : List Settings} (k : Records own table) where
         ∙ shown-set channelLimit (st .root) own table channel own-low v h)
 
     -- A channel that has no record.
-    pub does-outside : {channel : ℕ} {c : Change} → e ≡ Effect.One channel c → channelLimit ≤ channel → Does st own table
+    pub does-outside : {channel : ℕ} {c : Change} → e ≡ Effect.One channel c → channelLimit ≤ channel → CarriedTo st own table
     unfolding carried oneChanged
     does-outside {channel = channel} {c = c} b h =
         carried-by s spoken i a b

@@ -39,16 +39,16 @@ use Rattle.pass.proofs.Keeps.{meaning}
 -- ---- definitions
 
 -- The changes that a definition in the file s can ask for, where it goes back to `base` at length 0.
-pub data Definition (s : List ℕ) (base : Settings) : Change → Type 0 where
-  back : (a : Attribute) → Definition s base (standingIn a base)
+pub data DefinedChange (s : List ℕ) (base : Settings) : Change → Type 0 where
+  back : (a : Attribute) → DefinedChange s base (standingIn a base)
   new : (a : Attribute) (little : Bool) (start len : ℕ)
       → lengthFits a (length (valueAt s start len)) ≡ true
       → (length (valueAt s start len) ≡ 0 → ⊥)
       → inRange (changeOf a little (valueAt s start len)) ≡ true
-      → Definition s base (changeOf a little (valueAt s start len))
+      → DefinedChange s base (changeOf a little (valueAt s start len))
 
 abbrev Gives : List ℕ → Settings → Defined → Type 0
-Gives s base (Defined.Changed c) = Definition s base c
+Gives s base (Defined.Changed c) = DefinedChange s base c
 Gives s base (Defined.Refused n) = n < longFile
 
 defined-gives : (s : List ℕ) (base : Settings) (a : Attribute) (little : Bool) (start len : ℕ) → Gives s base (defined a little base (valueAt s start len))
@@ -81,8 +81,8 @@ Asks s st i (Effect.Order little) = Unit {0}
 Asks s st i (Effect.Count n) = n ≤ channelLimit
 Asks s st i (Effect.Sequences n) = Unit {0}
 Asks s st i (Effect.Start z) = Unit {0}
-Asks s st i (Effect.All c) = Definition s defaultSettings c
-Asks s st i (Effect.One channel c) = Definition s (st .root) c
+Asks s st i (Effect.All c) = DefinedChange s defaultSettings c
+Asks s st i (Effect.One channel c) = DefinedChange s (st .root) c
 Asks s st i (Effect.Frame start long) = Waveform s i start long
 Asks s st i (Effect.Refused n) = n < longFile
 
@@ -186,15 +186,15 @@ pub record TakenBy (frames : ℕ) (st : Standing) (agree : Bool) (octets long n 
   pub fits : n * octets ≤ long
   pub after : y ≡ withContinued (pointerAfter st n) st
 
-abbrev Framing : ℕ → Standing → Bool → ℕ → ℕ → Framed → Type 0
-Framing frames st agree octets long (Framed.Taken n y) = TakenBy frames st agree octets long n y
-Framing frames st agree octets long (Framed.Refused k) = k < longFile
+abbrev FramedGives : ℕ → Standing → Bool → ℕ → ℕ → Framed → Type 0
+FramedGives frames st agree octets long (Framed.Taken n y) = TakenBy frames st agree octets long n y
+FramedGives frames st agree octets long (Framed.Refused k) = k < longFile
 
-framed-gives : (frames : ℕ) (st : Standing) (agree : Bool) (octets long : ℕ) → Framing frames st agree octets long (framedAs frames st agree octets long)
+framed-gives : (frames : ℕ) (st : Standing) (agree : Bool) (octets long : ℕ) → FramedGives frames st agree octets long (framedAs frames st agree octets long)
 unfolding framedAs
 framed-gives frames st agree octets long =
     let n = sequencesOf (st .sequences) long octets in
-    let P : Framed → Type 0 = Framing frames st agree octets long in
+    let P : Framed → Type 0 = FramedGives frames st agree octets long in
     pick-cases P (leb framesLimit frames) (λ _. omega arith)
     (λ k. pick-cases P (not agree) (λ _. omega arith)
     (λ a. pick-cases P (not (pointerFits (st .start))) (λ _. omega arith)
@@ -208,26 +208,26 @@ framed-gives frames st agree octets long =
     }))))
 
 pub taken-found : (frames : ℕ) (st : Standing) (agree : Bool) (octets long : ℕ) {r : Framed} {n : ℕ} {y : Standing} → r ≡ framedAs frames st agree octets long → r ≡ Framed.Taken n y → TakenBy frames st agree octets long n y
-taken-found frames st agree octets long p q = subst (Framing frames st agree octets long) (sym p ∙ q) (framed-gives frames st agree octets long)
+taken-found frames st agree octets long p q = subst (FramedGives frames st agree octets long) (sym p ∙ q) (framed-gives frames st agree octets long)
 
 -- ---- items
 
 -- What an item may do.
-pub data Step (s : List ℕ) (x : State) (i : Item) : State → Type 0 where
-  passes : Step s x i x
-  stands : (y : Standing) → y .counted ≡ x .standing .counted → y .root ≡ x .standing .root → Step s x i (state y (x .channels) (x .frames))
+pub data ItemStep (s : List ℕ) (x : State) (i : Item) : State → Type 0 where
+  passes : ItemStep s x i x
+  stands : (y : Standing) → y .counted ≡ x .standing .counted → y .root ≡ x .standing .root → ItemStep s x i (state y (x .channels) (x .frames))
   resets : (y : Standing) → y .counted ≤ channelLimit → y .root ≡ x .standing .root
-      → Step s x i (state y (replicate channelLimit (y .root)) (x .frames))
-  changes : (c : Change) → Definition s defaultSettings c
-      → Step s x i (state (withRoot (applied c (x .standing .root)) (x .standing)) (allApplied c (x .channels)) (x .frames))
-  sets : (channel : ℕ) (c : Change) → Definition s (x .standing .root) c
-      → Step s x i (state (x .standing) (oneChanged channel (applied c) (x .channels)) (x .frames))
+      → ItemStep s x i (state y (replicate channelLimit (y .root)) (x .frames))
+  changes : (c : Change) → DefinedChange s defaultSettings c
+      → ItemStep s x i (state (withRoot (applied c (x .standing .root)) (x .standing)) (allApplied c (x .channels)) (x .frames))
+  sets : (channel : ℕ) (c : Change) → DefinedChange s (x .standing .root) c
+      → ItemStep s x i (state (x .standing) (oneChanged channel (applied c) (x .channels)) (x .frames))
   frames : (start long n : ℕ) (y : Standing) → Waveform s i start long
       → TakenBy (length (x .frames)) (x .standing) (allAgree (frameChannels x)) (sequenceOctets (frameChannels x)) long n y
-      → Step s x i (state y (x .channels) (x .frames ++ (frameAt s x start long n ∷ [])))
+      → ItemStep s x i (state y (x .channels) (x .frames ++ (frameAt s x start long n ∷ [])))
 
 -- The frames met stay the first ones.
-pub step-grown : (s : List ℕ) (x : State) (i : Item) (y : State) → Step s x i y → (rest : List Frame) × (y .frames ≡ x .frames ++ rest)
+pub step-grown : (s : List ℕ) (x : State) (i : Item) (y : State) → ItemStep s x i y → (rest : List Frame) × (y .frames ≡ x .frames ++ rest)
 step-grown s x i _ passes = ([], sym (append-nil (x .frames)))
 step-grown s x i _ (stands y h r) = ([], sym (append-nil (x .frames)))
 step-grown s x i _ (resets y h r) = ([], sym (append-nil (x .frames)))
@@ -237,11 +237,11 @@ step-grown s x i _ (frames start long n y w t) = (frameAt s x start long n ∷ [
 
 -- No item is refused by 15.
 abbrev Steps : List ℕ → State → Item → Outcome → Type 0
-Steps s x i (goes y) = Step s x i y
+Steps s x i (goes y) = ItemStep s x i y
 Steps s x i (refuses n) = n < longFile
 
 frame-steps : (s : List ℕ) (x : State) (i : Item) (start long : ℕ) (r : Framed) → Waveform s i start long
-    → Framing (length (x .frames)) (x .standing) (allAgree (frameChannels x)) (sequenceOctets (frameChannels x)) long r
+    → FramedGives (length (x .frames)) (x .standing) (allAgree (frameChannels x)) (sequenceOctets (frameChannels x)) long r
     → Steps s x i (withFrame s x start long r)
 unfolding withFrame
 frame-steps s x i start long (Framed.Taken n y) w f = frames start long n y w f
@@ -264,7 +264,7 @@ module _ (s : List ℕ) (x : State) (i : Item) where
   steps : Steps s x i (meaning s x i)
   steps = carried-steps s x i (effectOf s (x .standing) i) (effect-asks s (x .standing) i)
 
-  pub meaning-steps : (y : State) → meaning s x i ≡ goes y → Step s x i y
+  pub meaning-steps : (y : State) → meaning s x i ≡ goes y → ItemStep s x i y
   meaning-steps y e = subst (Steps s x i) e steps
 
   pub meaning-refused : (n : ℕ) → meaning s x i ≡ refuses n → n < longFile

@@ -41,7 +41,7 @@ use Rattle.effects.specs.declared.Effect.{Effect}
 use Rattle.effects.specs.Effects.{valueAt, allEffect, oneEffect, rootEffect, plainEffect, memberEffect, groupEffect, effectOf}
 use Rattle.stretch.specs.declared.Stretch.{Stretch}
 use Rattle.stretch.specs.Stretch.{Step, leaves, ends, steppedOver, stepOf, stretch, onward, runFrom, runOf, stretchOf}
-use Rattle.stretch.proofs.Leads.{Led, itemIn, step-led, next-short, value-ahead, extent-later}
+use Rattle.stretch.proofs.Leads.{InStretch, itemIn, step-led, next-short, value-ahead, extent-later}
 use Rattle.pass.specs.Verdict.{State, state, goes, oneChanged, carried}
 use Rattle.pass.specs.Reached.{Reached, behind}
 use Rattle.pass.specs.Passing.{openedBy, beginsAt}
@@ -51,7 +51,7 @@ module _ (s : List ℕ) (w : Within) (little : Bool) (base : Settings) (X : Sett
     (defines : (held : Settings) (at tag n : ℕ) (a : Attribute) (c : Change) → tagged tag ≡ Tagged.Defines a → defined a little base (valueAt s (at + 2) n) ≡ Defined.Changed c → meaning s (X held) (itemIn w at tag n) ≡ goes (X (applied c held)))
     (passes : (held : Settings) (at tag n : ℕ) → tagged tag ≡ Tagged.Other → rootOnly tag ≡ false → meaning s (X held) (itemIn w at tag n) ≡ goes (X held)) where
   -- One item.
-  one-law : (at : ℕ) (held x : Settings) → Led little base held (extent s at w) x → Reached s (X held) (cursor at w) → Reached s (X x) (cursor (at + 2 + getD (extent s at w) 1 0) w)
+  one-law : (at : ℕ) (held x : Settings) → InStretch little base held (extent s at w) x → Reached s (X held) (cursor at w) → Reached s (X x) (cursor (at + 2 + getD (extent s at w) 1 0) w)
   one-law at held x p r = behind r (next-short s at w (p .ordinary) (p .long) (p .short)) (⊎-elim by-definition by-nothing (p .does))
     where
       tag : ℕ
@@ -67,10 +67,10 @@ module _ (s : List ℕ) (w : Within) (little : Bool) (base : Settings) (X : Sett
       by-nothing q = passes held at tag n (q .0) (p .ordinary .anywhere) ∙ ap (λ (y : Settings). goes (X y)) (sym (q .1))
 
   -- From the place before a stretch the file's items lead behind it.
-  abbrev Leads : ℕ → ℕ → Settings → Stretch → Type 0
-  Leads from taken held t = Reached s (X held) (cursor (from + taken) w) → Reached s (X (t .settings)) (cursor (from + t .at) w)
+  abbrev LeadsBehind : ℕ → ℕ → Settings → Stretch → Type 0
+  LeadsBehind from taken held t = Reached s (X held) (cursor (from + taken) w) → Reached s (X (t .settings)) (cursor (from + t .at) w)
 
-  run-law : (turns from taken : ℕ) (held : Settings) → Leads from taken held (runFrom turns little base taken held (extent s (from + taken) w))
+  run-law : (turns from taken : ℕ) (held : Settings) → LeadsBehind from taken held (runFrom turns little base taken held (extent s (from + taken) w))
   unfolding runFrom onward
   run-law zero from taken held r = r
   run-law (suc turns) from taken held r = by (λ y. run-law turns from (taken + k) y) (stepOf little base held u) refl r
@@ -81,11 +81,11 @@ module _ (s : List ℕ) (w : Within) (little : Bool) (base : Settings) (X : Sett
       k : ℕ
       k = 2 + getD u 1 0
 
-      by : ((y : Settings) → Leads from (taken + k) y (runFrom turns little base (taken + k) y (extent s (from + (taken + k)) w))) → (x : Step) → stepOf little base held u ≡ x → Leads from taken held (onward (λ y. runFrom turns little base (taken + k) y (drop k u)) (stretch taken held) x)
+      by : ((y : Settings) → LeadsBehind from (taken + k) y (runFrom turns little base (taken + k) y (extent s (from + (taken + k)) w))) → (x : Step) → stepOf little base held u ≡ x → LeadsBehind from taken held (onward (λ y. runFrom turns little base (taken + k) y (drop k u)) (stretch taken held) x)
       by more ends e r = r
       by more (leaves y) e r =
           let q : from + taken + 2 + getD u 1 0 ≡ from + (taken + k) = omega arith in
-          subst (λ (v : List ℕ). Leads from (taken + k) y (runFrom turns little base (taken + k) y v))
+          subst (λ (v : List ℕ). LeadsBehind from (taken + k) y (runFrom turns little base (taken + k) y v))
           (ap (λ (j : ℕ). extent s j w) (sym (add-assoc from taken k)) ∙ sym (extent-later s (from + taken) w k))
           (more y)
           (subst (λ (j : ℕ). Reached s (X y) (cursor j w)) q (one-law (from + taken) held y (step-led little base held u e) r))

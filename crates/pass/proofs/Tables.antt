@@ -18,10 +18,10 @@ use Rattle.definitions.specs.Define.{lengthFits, changeOf, standingIn, inRange}
 use Rattle.effects.specs.Effects.{valueAt}
 use Rattle.pass.specs.Verdict.{State, firstState, oneChanged}
 use Rattle.pass.proofs.Every.{Every, every-replicate, every-changed, every-map}
-use Rattle.pass.proofs.Steps.{Definition, back, new, Step, passes, stands, resets, changes, sets, frames}
+use Rattle.pass.proofs.Steps.{DefinedChange, back, new, ItemStep, passes, stands, resets, changes, sets, frames}
 
 -- P holds of each attribute of a record.
-pub record Each (P : Change → Type 0) (c : Settings) : Type 0 where
+pub record EachAttribute (P : Change → Type 0) (c : Settings) : Type 0 where
   pub block : P (Change.Block (c .block))
   pub class : P (Change.Class (c .class))
   pub lead : P (Change.Lead (c .lead))
@@ -32,7 +32,7 @@ pub record Each (P : Change → Type 0) (c : Settings) : Type 0 where
   pub null : P (Change.Null (c .null))
 
 module _ (P : Change → Type 0) where
-  each-at : (a : Attribute) (c : Settings) → Each P c → P (standingIn a c)
+  each-at : (a : Attribute) (c : Settings) → EachAttribute P c → P (standingIn a c)
   each-at Attribute.Block c e = e .block
   each-at Attribute.Class c e = e .class
   each-at Attribute.Lead c e = e .lead
@@ -42,7 +42,7 @@ module _ (P : Change → Type 0) where
   each-at Attribute.Offset c e = e .offset
   each-at Attribute.Null c e = e .null
 
-  applied-each : (ch : Change) (c : Settings) → P ch → Each P c → Each P (applied ch c)
+  applied-each : (ch : Change) (c : Settings) → P ch → EachAttribute P c → EachAttribute P (applied ch c)
   applied-each (Change.Block n) c p e = search needs
   applied-each (Change.Class n) c p e = search needs
   applied-each (Change.Lead n) c p e = search needs
@@ -54,34 +54,34 @@ module _ (P : Change → Type 0) where
 
   -- P holds of the root settings and of the table.
   pub record Table (x : State) : Type 0 where
-    pub root : Each P (x .standing .root)
-    pub table : Every (Each P) (x .channels)
+    pub root : EachAttribute P (x .standing .root)
+    pub table : Every (EachAttribute P) (x .channels)
 
-  module _ (s : List ℕ) (default : Each P defaultSettings)
+  module _ (s : List ℕ) (default : EachAttribute P defaultSettings)
       (fresh : (a : Attribute) (little : Bool) (start len : ℕ)
       → lengthFits a (length (valueAt s start len)) ≡ true
       → (length (valueAt s start len) ≡ 0 → ⊥)
       → inRange (changeOf a little (valueAt s start len)) ≡ true
       → P (changeOf a little (valueAt s start len))) where
-    definition-each : (base : Settings) (ch : Change) → Each P base → Definition s base ch → P ch
+    definition-each : (base : Settings) (ch : Change) → EachAttribute P base → DefinedChange s base ch → P ch
     definition-each base _ e (back a) = each-at a base e
     definition-each base _ e (new a little start len f z r) = fresh a little start len f z r
 
-    pub table-step : (x : State) (i : Item) (y : State) → Table x → Step s x i y → Table y
+    pub table-step : (x : State) (i : Item) (y : State) → Table x → ItemStep s x i y → Table y
     unfolding allApplied oneChanged
     table-step x i _ t passes = t
     table-step x i _ t (stands y h r) = record { root = rw r (t .root); table = t .table }
-    table-step x i _ t (resets y h r) = record { root = rw r (t .root); table = every-replicate (Each P) channelLimit (y .root) (rw r (t .root)) }
+    table-step x i _ t (resets y h r) = record { root = rw r (t .root); table = every-replicate (EachAttribute P) channelLimit (y .root) (rw r (t .root)) }
     table-step x i _ t (changes ch g) =
         let p = definition-each defaultSettings ch default g in
         record {
           root = applied-each ch (x .standing .root) p (t .root);
-          table = every-map (Each P) (Each P) (applied ch) (λ c. applied-each ch c p) (x .channels) (t .table);
+          table = every-map (EachAttribute P) (EachAttribute P) (applied ch) (λ c. applied-each ch c p) (x .channels) (t .table);
         }
     table-step x i _ t (sets channel ch g) =
         let p = definition-each (x .standing .root) ch (t .root) g in
-        record { root = t .root; table = every-changed (Each P) (applied ch) (λ c. applied-each ch c p) (x .channels) channel zeroSettings (t .table) }
+        record { root = t .root; table = every-changed (EachAttribute P) (applied ch) (λ c. applied-each ch c p) (x .channels) channel zeroSettings (t .table) }
     table-step x i _ t (frames start long n y w f) = record { root = rw (f .after) (t .root); table = t .table }
 
     pub table-first : Table firstState
-    table-first = record { root = default; table = every-replicate (Each P) channelLimit defaultSettings default }
+    table-first = record { root = default; table = every-replicate (EachAttribute P) channelLimit defaultSettings default }

@@ -23,7 +23,7 @@ use Rattle.octets.specs.Number.{numberOf, Read}
 use Rattle.octets.proofs.Laws.{part-read}
 use Rattle.values.specs.Sample.{Said, widthOf, valueOf}
 use Rattle.values.proofs.Laws.{width-le}
-use Rattle.layout.specs.Frame.{Frame, channelIn, samplesOf, offsetOf, placeOf}
+use Rattle.layout.specs.Frame.{Frame, reported, channelIn, samplesOf, offsetOf, placeOf}
 use Rattle.reader.specs.declared.Attributes.{Attributes}
 use Rattle.reader.specs.declared.LookedUp.{LookedUp}
 use Rattle.reader.specs.declared.Placed.{Placed}
@@ -38,7 +38,7 @@ use Rattle.pass.specs.declared.Checked.{Checked}
 use Rattle.pass.specs.declared.Scan.{Scan}
 use Rattle.pass.specs.Verdict.{Verdict, accepted, refused, verdict, checkedSays, checkedAs, checkOf}
 use Rattle.pass.specs.Scan.{zeroFrame, viewOf, foundIn, scannedIn, scanOf}
-use Rattle.reader.specs.Answer.{foundSample, lookedUpSays, FoundPlace, foundPlace, placedSays, asked, seenOf, attributesIn, attributesSeen, attributesOf, placedOf, sampleIn, sampleOf, placeSeen}
+use Rattle.reader.specs.Answer.{foundSample, lookedUpSays, FoundPlace, foundPlace, placedSays, asked, seenOf, attributesWith, attributesIn, attributesOf, placedOf, sampleIn, sampleOf, placeSeen}
 use Rattle.reader.proofs.Order.{asked-both, sample-both, asked-found, sample-found, sample-refused}
 use Rattle.reader.proofs.Ordered.{accepted-lies, accepted-small}
 use Rattle.reader.proofs.There.{bits-there}
@@ -179,8 +179,12 @@ located s frame channel w e f =
     (λ number place q. let z : _≡_ {A = ℕ} 0 1 = cc in let a : ⊥ = omega arith in absurd a) frame channel _ (λ g. answered (viewOf channel g)) (verdict s)
     (λ fs v i c q. record { frames = fs; verdictIs = v; frameIn = i; channelIs = c; view = (cc) }) (ap lookedUpSays (sym f) ∙ e)
 
+-- The attributes of a channel that is seen.
+abbrev pub attributesSeen : View → Attributes
+attributesSeen v = attributesWith (v .start) (v .channels) (v .sequences) (reported (v .settings))
+
 view-attributes : (channel : ℕ) (f : Frame) → channel < length (f .channels) → attributesSeen (viewOf channel f) ≡ attributesIn channel f
-unfolding attributesSeen viewOf attributesIn
+unfolding viewOf attributesIn
 view-attributes channel f h = simp (lt-ltb channel (length (f .channels)) h)
 
 -- The attributes are those of the channel that is seen.

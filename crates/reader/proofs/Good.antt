@@ -35,9 +35,9 @@ use Rattle.framing.specs.Framing.{channelsOf}
 use Rattle.pass.specs.Verdict.{State, firstState, frameChannels, frameAt, accepted, verdict}
 use Rattle.pass.specs.Scan.{zeroFrame}
 use Rattle.pass.proofs.Keeps.{Keeps, accepted-by, accepted-kept}
-use Rattle.pass.proofs.Steps.{Waveform, waveform-short, TakenBy, Step, passes, stands, resets, changes, sets, frames, meaning-steps}
+use Rattle.pass.proofs.Steps.{Waveform, waveform-short, TakenBy, ItemStep, passes, stands, resets, changes, sets, frames, meaning-steps}
 use Rattle.pass.proofs.Every.{Every, every-at, every-snoc, every-take, every-imp}
-use Rattle.pass.proofs.Tables.{Each, Table, table-step, table-first}
+use Rattle.pass.proofs.Tables.{EachAttribute, Table, table-step, table-first}
 use Rattle.pass.proofs.Bounds.{both-split, Bounded, bounded-first, bounded-step, octets-some}
 
 -- A unit up to the last one, an exponent of one octet, and a mantissa from 1 on that fits four.
@@ -85,7 +85,7 @@ GoodChange (Change.Resolution x) = GoodScale lastResolutionUnit x
 GoodChange (Change.Offset x) = GoodBits x
 GoodChange (Change.Null x) = GoodBits x
 
-settings-good : (c : Settings) → Each GoodChange c → GoodSettings c
+settings-good : (c : Settings) → EachAttribute GoodChange c → GoodSettings c
 settings-good c e =
     record {
       blockLow = e .block .0;
@@ -101,7 +101,7 @@ settings-good c e =
       nullWidth = e .null .1;
     }
 
-default-good : Each GoodChange defaultSettings
+default-good : EachAttribute GoodChange defaultSettings
 default-good =
     record {
       block = omega arith;
@@ -211,13 +211,13 @@ module _ (s : List ℕ) (octets : (i : ℕ) → getD s i 0 < 256) where
     frame-good x i start long n y p w f =
         let few : n ≤ n * sequenceOctets (frameChannels x) = le-mul-of-pos-right n (octets-some x (p .bounded)) in
         record {
-          channels = every-imp (Each GoodChange) GoodSettings settings-good (frameChannels x) (every-take (Each GoodChange) (channelsOf (x .standing .counted)) (x .channels) (p .table .table));
+          channels = every-imp (EachAttribute GoodChange) GoodSettings settings-good (frameChannels x) (every-take (EachAttribute GoodChange) (channelsOf (x .standing .counted)) (x .channels) (p .table .table));
           agree = f .agrees;
           sequences = omega (arith, f .fits, waveform-short s w);
           octets = value-octets start long;
         }
 
-    frames-step : (x : State) (i : Item) (y : State) → Ranged x → Step s x i y → Every GoodFrame (y .frames)
+    frames-step : (x : State) (i : Item) (y : State) → Ranged x → ItemStep s x i y → Every GoodFrame (y .frames)
     frames-step x i _ p passes = p .frames
     frames-step x i _ p (stands y h r) = p .frames
     frames-step x i _ p (resets y h r) = p .frames

@@ -25,7 +25,7 @@ use Rattle.framing.specs.Framing.{pointerFits}
 use Rattle.pass.specs.Verdict.{State, state, firstState, frameChannels, frameAt, accepted, verdict}
 use Rattle.pass.specs.Scan.{zeroFrame}
 use Rattle.pass.proofs.Keeps.{Kept, Keeps, firstCursor, accepted-by, accepted-kept}
-use Rattle.pass.proofs.Steps.{Waveform, TakenBy, Step, passes, stands, resets, changes, sets, frames, meaning-steps}
+use Rattle.pass.proofs.Steps.{Waveform, TakenBy, ItemStep, passes, stands, resets, changes, sets, frames, meaning-steps}
 use Rattle.pass.proofs.Every.{Every, every-at, every-snoc, every-imp}
 use Rattle.pass.proofs.Bounds.{Bounded, bounded-first, bounded-step, frame-channels}
 
@@ -121,7 +121,7 @@ module _ (s : List ℕ) where
       let e = value-long s start (w .len) long (omega (arith, l .2, f .inside)) (w .counts) in
       (l .1, omega (arith, l .2))
 
-  lying-step : (x : State) (c : Cursor) (i : Item) (d : Cursor) (y : State) → Lying s x c → FoundAt (length s) (c .at) i d → Bounded y → Step s x i y → Lying s y d
+  lying-step : (x : State) (c : Cursor) (i : Item) (d : Cursor) (y : State) → Lying s x c → FoundAt (length s) (c .at) i d → Bounded y → ItemStep s x i y → Lying s y d
   lying-step x c i d _ p f b passes = moved s x c d p b (f .later)
   lying-step x c i d _ p f b (stands y h r) = moved s x c d p b (f .later)
   lying-step x c i d _ p f b (resets y h r) = moved s x c d p b (f .later)

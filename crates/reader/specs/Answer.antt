@@ -1,7 +1,7 @@
 -- The questions (document 01, "Frames and samples" and "What comes back when it is no"): the attributes of a channel in a frame, and the
 -- place, bits and value of a sample.
 use mathlib.Core.List.{List}
-use Prim.Native.Nat.{ℕ, _+_, _*_, _/_, _%_}
+use Prim.Native.Nat.{ℕ, _+_}
 use lib.Dec.{ltb}
 use lib.IntN.{ℤ}
 use lib.ListN.{length, getD}
@@ -10,7 +10,7 @@ use Rattle.values.specs.Sample.{Said, valueSays, valueOf}
 use Rattle.heads.specs.Refusals.{noFrame, noChannel, noSample}
 use Rattle.heads.specs.Answer.{Answer, answered, refusedAs, refusedBy}
 use Rattle.settings.specs.declared.Settings.{Settings}
-use Rattle.layout.specs.Frame.{Frame, widthIn, reported, channelIn, samplesOf, placeOf}
+use Rattle.layout.specs.Frame.{Frame, reported, channelIn, samplesOf, offsetBy, placeOf}
 use Rattle.laid.specs.Laid.{sampleBits}
 use Rattle.pass.specs.declared.View.{View}
 use Rattle.reader.specs.declared.Attributes.{Attributes}
@@ -78,13 +78,13 @@ askedSample answer frame channel n v =
 
 -- ---- attributes
 
--- Start pointer, channels and sequences of a frame, and the settings of one of its channels, as they are reported.
+-- Start pointer, channels and sequences of a frame, and the settings of one of its channels.
 abbrev pub attributesWith : ℤ → ℕ → ℕ → Settings → Attributes
-attributesWith start channels sequences c = record { start = start; channels = channels; sequences = sequences; settings = reported c }
+attributesWith start channels sequences c = record { start = start; channels = channels; sequences = sequences; settings = c }
 
--- The attributes of a channel in a frame.
+-- The attributes of a channel in a frame: its settings as they are reported.
 unfoldable pub attributesIn : ℕ → Frame → Attributes
-attributesIn channel f = attributesWith (f .start) (length (f .channels)) (f .sequences) (channelIn channel (f .channels))
+attributesIn channel f = attributesWith (f .start) (length (f .channels)) (f .sequences) (reported (channelIn channel (f .channels)))
 
 -- The attributes of a channel in a frame of a file.
 unfoldable pub attributesOf : List ℕ → ℕ → ℕ → Answer Attributes
@@ -113,12 +113,6 @@ seenOf s frame channel = asked (λ f. answered (viewOf channel f)) frame channel
 unfoldable pub placedOf : List ℕ → ℕ → ℕ → ℕ → Answer FoundPlace
 placedOf s frame channel n = askedSample (λ f. foundPlace (placeOf channel n f) (viewOf channel f)) frame channel n (verdict s)
 
--- The attributes of a channel that is seen.
-unfoldable pub attributesSeen : View → Attributes
-attributesSeen v = attributesWith (v .start) (v .channels) (v .sequences) (v .settings)
-
 -- The place of a sample of a channel that is seen.
 unfoldable pub placeSeen : View → ℕ → ℕ
-placeSeen v n =
-    let c = v .settings in
-    v .place + (n / c .block * v .octets + v .below + n % c .block * widthIn c)
+placeSeen v n = v .place + offsetBy (v .settings) (v .octets) (v .below) n

@@ -6,8 +6,9 @@
 // Read first: in crate pass specs/Verdict.antt (the file), then specs/Answer.antt (the questions).
 ghost use mathlib.Core.Path.{_≡_};
 ghost use Prim.Native.Nat.{_^_, _<_};
+ghost use Rattle.layout.specs.Frame.{reported};
 ghost use Rattle.pass.specs.Verdict.{checkedSays, checkOf};
-ghost use Rattle.reader.specs.Answer.{describedSays, sampledSays, lookedUpSays, placedSays, attributesSeen, attributesOf, placeSeen, placedOf, sampleOf, seenOf};
+ghost use Rattle.reader.specs.Answer.{describedSays, sampledSays, lookedUpSays, placedSays, attributesWith, attributesOf, placeSeen, placedOf, sampleOf, seenOf};
 use heads::Refusal;
 use pass::Asked;
 use pass::Checked;
@@ -100,7 +101,7 @@ pub fn look_up(s: &[u8], frame: u32, channel: u32) -> LookedUp
 
 // The attributes of the channel that is seen.
 fn attributes_seen(v: View) -> Attributes
-    ensures { λ r. ⌜ r ≡ attributesSeen v ⌝ }
+    ensures { λ r. ⌜ r ≡ attributesWith (v .start) (v .channels) (v .sequences) (reported (v .settings)) ⌝ }
 {
     let settings = layout::reported(v.settings);
     Attributes {

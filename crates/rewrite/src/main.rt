@@ -19,12 +19,13 @@ fn say_octets(out: &[u8], n: usize) {
     io::write_all(STDOUT_FILENO, octets::part(out, 0, n));
 }
 
-fn say_line(line: &[u8; 64], n: usize) {
+// A buffer's length is known by its type here, so that part of it can be lent.
+fn say_line(line: &[u8; line::BUFFER], n: usize) {
     say_octets(line, n);
 }
 
 fn say_refused(x: Refusal) {
-    let mut line = [0u8; 64];
+    let mut line = [0u8; line::BUFFER];
     let k = line::put_line(Checked::Refused(x), &mut line);
     say_line(&line, k);
 }

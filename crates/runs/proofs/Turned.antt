@@ -48,9 +48,9 @@ length-turned w (suc n) xs h =
     (omega arith)
 
 -- Where the samples are there, the run is them, and else it is empty.
-pub run-there : (w n : ℕ) (xs : List ℕ) → n * w ≤ length xs → turnedRun w n xs ≡ turned w n xs
+pub run-turned : (w n : ℕ) (xs : List ℕ) → n * w ≤ length xs → turnedRun w n xs ≡ turned w n xs
 unfolding turnedRun
-run-there w n xs h = simp le-leb
+run-turned w n xs h = simp le-leb
 
 pub run-missing : (w n : ℕ) (xs : List ℕ) → length xs < n * w → turnedRun w n xs ≡ []
 unfolding turnedRun

@@ -95,14 +95,14 @@ Does little base held tag v x =
     ⊎ ((tagged tag ≡ Tagged.Other) × (x ≡ held))
 
 -- An item that belongs to a stretch.
-pub record Led (little : Bool) (base held : Settings) (u : List ℕ) (x : Settings) : Type 0 where
+pub record InStretch (little : Bool) (base held : Settings) (u : List ℕ) (x : Settings) : Type 0 where
   pub long : 2 + getD u 1 0 ≤ length u
   pub short : getD u 1 0 ≤ 127
   pub ordinary : Ordinary (getD u 0 0)
   pub does : Does little base held (getD u 0 0) (take (getD u 1 0) (drop 2 u)) x
 
 abbrev Leads : Bool → Settings → Settings → List ℕ → Step → Type 0
-Leads little base held u (leaves x) = Led little base held u x
+Leads little base held u (leaves x) = InStretch little base held u x
 Leads little base held u ends = Unit {0}
 
 module _ (little : Bool) (base held : Settings) (u : List ℕ) (l : 2 + getD u 1 0 ≤ length u) (h : getD u 1 0 ≤ 127) where
@@ -138,7 +138,7 @@ step-leads little base held u =
     let r = ltb-false (length u - 2) (getD u 1 0) c in
     leads-by little base held u (omega arith) q (tagged (getD u 0 0)) refl)))
 
-pub step-led : (little : Bool) (base held : Settings) (u : List ℕ) {x : Settings} → stepOf little base held u ≡ leaves x → Led little base held u x
+pub step-led : (little : Bool) (base held : Settings) (u : List ℕ) {x : Settings} → stepOf little base held u ≡ leaves x → InStretch little base held u x
 step-led little base held u e = subst (Leads little base held u) e (step-leads little base held u)
 
 -- ---- the item in the file

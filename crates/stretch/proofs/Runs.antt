@@ -1,6 +1,6 @@
 -- Laws of a run of items.
 --     step-none, -long, -past, -here    the item at a place of u, by its octets
---     Running                           the loop's invariant: what is left of u gives the stretch
+--     RunningStretch                           the loop's invariant: what is left of u gives the stretch
 --     running-first, -ends, -goes       at the front; where the stretch ends; after an item
 --     leaves-defined, -same, -nothing   what an item leaves, by its tag
 --     ends-within, run-ahead            the place where it ends is a place; the run ahead of a cursor
@@ -64,13 +64,13 @@ module _ (little : Bool) (base held : Settings) (u : List ℕ) (at : ℕ) where
 -- ---- the loop
 
 -- What is known before the item at a place.
-pub record Running (little : Bool) (base held₀ : Settings) (u : List ℕ) (held : Settings) (at : ℕ) : Type 0 where
+pub record RunningStretch (little : Bool) (base held₀ : Settings) (u : List ℕ) (held : Settings) (at : ℕ) : Type 0 where
   pub low : at ≤ length u
   pub turns : ℕ
   pub enough : length u - at ≤ turns
   pub same : runFrom turns little base at held (drop at u) ≡ runOf little base held₀ u
 
-pub running-first : (little : Bool) (base held : Settings) (u : List ℕ) → Running little base held u held 0
+pub running-first : (little : Bool) (base held : Settings) (u : List ℕ) → RunningStretch little base held u held 0
 unfolding runOf
 running-first little base held u = record { low = omega arith; turns = length u; enough = omega arith; same = refl }
 
@@ -83,17 +83,17 @@ run-goes : (turns : ℕ) (little : Bool) (base : Settings) (at : ℕ) (held x : 
 unfolding runFrom onward
 run-goes turns little base at held x u e = rw e refl
 
-module _ {little : Bool} {base held₀ : Settings} {u : List ℕ} {held : Settings} {at : ℕ} (p : Running little base held₀ u held at) where
+module _ {little : Bool} {base held₀ : Settings} {u : List ℕ} {held : Settings} {at : ℕ} (p : RunningStretch little base held₀ u held at) where
   pub running-ends : stepOf little base held (drop at u) ≡ ends → stretch at held ≡ runOf little base held₀ u
   running-ends e = sym (run-ends (p .turns) little base at held (drop at u) e) ∙ p .same
 
-  pub running-goes : {n : ℕ} {x : Settings} → n ≡ getD u (at + 1) 0 → at + 1 < length u → n ≤ length u - at - 2 → stepOf little base held (drop at u) ≡ leaves x → Running little base held₀ u x (at + 2 + n)
+  pub running-goes : {n : ℕ} {x : Settings} → n ≡ getD u (at + 1) 0 → at + 1 < length u → n ≤ length u - at - 2 → stepOf little base held (drop at u) ≡ leaves x → RunningStretch little base held₀ u x (at + 2 + n)
   running-goes {n = n} {x = x} e h k s = go (p .turns) (p .enough) (p .same)
     where
       behind : at + (2 + getD (drop at u) 1 0) ≡ at + 2 + n
       behind = ap (λ (m : ℕ). at + (2 + m)) (length-there little base held u at ∙ sym e) ∙ sym (add-assoc at 2 n)
 
-      go : (turns : ℕ) → length u - at ≤ turns → runFrom turns little base at held (drop at u) ≡ runOf little base held₀ u → Running little base held₀ u x (at + 2 + n)
+      go : (turns : ℕ) → length u - at ≤ turns → runFrom turns little base at held (drop at u) ≡ runOf little base held₀ u → RunningStretch little base held₀ u x (at + 2 + n)
       go zero m q = let z : ⊥ = omega arith in absurd z
       go (suc turns) m q =
           record {

@@ -37,7 +37,7 @@ use Rattle.theorems.proofs.Told.{RecordingTold, ToldSame, recording-tol
 -- given exactly when its condition holds and none ahead of it in that paper's order does, with the place in the file; a refusal changes no
 -- octet of the output buffer."
 pub record DemandOne (s : List ℕ) : Type 0 where
-  -- 15 comes first: exactly when the file is too long, and always at place 0.
+  -- 15 comes first: exactly when the file is too long, and always at place 0. `refusals` says it too; here it stands without the tables.
   pub limit : (checkOf s ≡ refusedAs longFile 0) ↔ (octetsLimit < length s)
   pub limitPlace : (place : ℕ) → checkOf s ≡ refusedAs longFile place → place ≡ 0
   -- 1 to 15, and where: exactly as the tables of document 01 say (specs/). 15 comes first, then the first refused item in file order decides.
@@ -85,7 +85,8 @@ demand-one s =
 pub record DemandTwo (s : List ℕ) : Type 0 where
   -- The check counts the frames of the verdict.
   pub count : (n : ℕ) → (checkOf s ≡ answered n) ↔ ((fs : List Frame) × (verdict s ≡ accepted fs) × (length fs ≡ n))
-  -- The attributes, the start pointer among them, and the place and value of a sample are those of its frame.
+  -- The attributes, the start pointer among them, and the place and value of a sample are those of its frame: what `attributes` of
+  -- demand 1 and `inside` of demand 3 say of a name that the file has, again because this demand asks for it.
   pub attributes : (fs : List Frame) → verdict s ≡ accepted fs → (i c : ℕ) → i < length fs → c < length (frameNumber fs i .channels) → attributesOf s i c ≡ answered (attributesIn c (frameNumber fs i))
   pub sample : (fs : List Frame) → verdict s ≡ accepted fs → (a : NamedSample s) → InWaveform s fs a
   -- What the check and the questions answer is the recording: frame by frame the attributes of each channel and the bits of each sample.

@@ -10,8 +10,7 @@ use mathlib.Core.Path.{_≡_, refl, sym, ap, _∙_}
 use mathlib.Core.Logic.{_↔_}
 use mathlib.Core.List.{List}
 use native.Mathlib.Omega.{arith}
-use lib.IntN.{pos}
-use lib.ListN.{length, replicate}
+use lib.ListN.{length}
 use Rattle.heads.specs.declared.Refusal.{Refusal}
 use Rattle.heads.specs.Answer.{Answer, answered, refusedAs, refusedBy, mapAnswer, leftBy}
 use Rattle.pass.specs.Verdict.{Verdict, refused, verdict, checkedAs, checkOf}
@@ -19,7 +18,7 @@ use Rattle.reader.specs.Answer.{attributesOf, sampleOf, seenOf, placedOf}
 use Rattle.reader.proofs.Order.{asked-refused}
 use Rattle.canonical.specs.Write.{outputIn, writtenOf, leftOf, Wrote}
 use Rattle.bulk.specs.Samples.{readOf}
-use Rattle.mfer.specs.Answers.{Outputs, outputs, handedOut, countOut, CanonicalOut, attributesValues, attributesOut, sampleValues, sampleOut}
+use Rattle.mfer.specs.Answers.{Outputs, outputs, handedOut, countOut, CanonicalOut, zeroAttributes, attributesOut, zeroSample, sampleOut}
 
 -- ---- a refused file
 
@@ -62,8 +61,8 @@ handed-exactly {A} {B} place values zeros (refusedAs m p) number at h =
 -- The five functions for C.
 pub record HandedOut (s : List ℕ) : Type 0 where
   pub check : HandedExactly (countOut (checkOf s)) 0 (checkOf s)
-  pub attributes : (i c : ℕ) → HandedExactly (attributesOut (attributesOf s i c)) (attributesValues (replicate 15 (pos 0)) (replicate 2 0)) (attributesOf s i c)
-  pub sample : (i c n : ℕ) → HandedExactly (sampleOut (sampleOf s i c n)) (sampleValues 0 (pos 0) 0) (sampleOf s i c n)
+  pub attributes : (i c : ℕ) → HandedExactly (attributesOut (attributesOf s i c)) zeroAttributes (attributesOf s i c)
+  pub sample : (i c n : ℕ) → HandedExactly (sampleOut (sampleOf s i c n)) zeroSample (sampleOf s i c n)
   pub samples : (i c n room : ℕ) → HandedExactly (countOut (mapAnswer length (readOf s i c n room))) 0 (mapAnswer length (readOf s i c n room))
   pub canonical : (d : List ℕ) → HandedExactly (countOut (writtenOf s d)) 0 (writtenOf s d)
 

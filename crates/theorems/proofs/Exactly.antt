@@ -33,10 +33,10 @@ use Rattle.effects.specs.Effects.{valueAt, effectOf}
 use Rattle.pass.specs.Verdict.{State, Outcome, goes, refuses, firstState, carried, placeAt, refused, interpret, verdict}
 use Rattle.pass.proofs.Keeps.{reached-same, meaning, firstCursor, items-first, interpret-refuses, interpret-fault, verdict-law}
 use Rattle.pass.proofs.Bounds.{both-split}
-use Rattle.theorems.specs.Rows.{lengthOctets, lengthIn, valueIn, itemRows, endRows, rowsAt}
+use Rattle.theorems.specs.Rows.{lengthField, lengthIn, valueIn, itemRows, endRows, rowsAt}
 use Rattle.theorems.specs.Refusing.{around, ahead, DueAt, Refusing, overLimit, stops}
 use Rattle.pass.specs.Reached.{Reached, begin, behind}
-use Rattle.theorems.proofs.Due.{first, due-exactly, otherwise, first-append, due-numbered}
+use Rattle.theorems.proofs.Due.{firstDue, due-exactly, otherwise, first-append, due-numbered}
 use Rattle.theorems.proofs.HeadRows.{ReadPrimitive, ReadGroup, HeadRead, headRows, head-reads}
 use Rattle.theorems.proofs.FrameRows.{stopped}
 use Rattle.theorems.proofs.ValueRows.{bodyRows, mark-first, group-first, plain-first, member-first}
@@ -53,53 +53,53 @@ ahead-front s at (Within.Open channel place) = ([], append-nil (drop at s))
 value-same : (s : List ℕ) (at : ℕ) (w : Within) (tag : ℕ) (u : List ℕ) → extent s at w ≡ tag ∷ u → (start len : ℕ) {t : ℕ} {inside : Bool} {found : Option Refusal} → ReadPrimitive found inside tag u t start len → valueAt s (at + start) len ≡ valueIn u
 value-same s at w tag u e start len p =
     let f = ahead-front s at w in
-    let d = length-drop (lengthOctets u) u in
+    let d = length-drop (lengthField u) u in
     rw (← drop-drop start at s, ← f .1, e, p .same-start, p .same-length)
-    (rw (drop-append-le (lengthOctets u) u (f .0) (omega arith)) (take-append-le (lengthIn u) (drop (lengthOctets u) u) (f .0) (omega arith)))
+    (rw (drop-append-le (lengthField u) u (f .0) (omega arith)) (take-append-le (lengthIn u) (drop (lengthField u) u) (f .0) (omega arith)))
 
 -- ---- what stands at a cursor
 
 module _ (s : List ℕ) (x : State) where
   -- What is refused at a cursor, by what stands there.
-  abbrev answer : Next → Option Refusal
-  answer (Next.Found i d) = stopped (placeAt i) (meaning s x i)
-  answer Next.End = none
-  answer (Next.Refused r) = some r
+  abbrev refusalBy : Next → Option Refusal
+  refusalBy (Next.Found i d) = stopped (placeAt i) (meaning s x i)
+  refusalBy Next.End = none
+  refusalBy (Next.Refused r) = some r
 
-  end-first : (w : Within) → answer (ended w) ≡ first (endRows w)
+  end-first : (w : Within) → refusalBy (ended w) ≡ firstDue (endRows w)
   end-first Within.Root = refl
   end-first (Within.Definite channel end) = refl
   end-first (Within.Open channel place) = refl
 
   module _ (at tag : ℕ) (u : List ℕ) where
     -- The rows of the head come first.
-    rows-split : (inside : Bool) → first (itemRows x at inside tag u) ≡ otherwise (first (headRows x at inside tag u)) (first (bodyRows x at inside tag u))
-    rows-split inside = ap first (sym (take-append-drop 6 (itemRows x at inside tag u))) ∙ first-append (headRows x at inside tag u) (bodyRows x at inside tag u)
+    rows-split : (inside : Bool) → firstDue (itemRows x at inside tag u) ≡ otherwise (firstDue (headRows x at inside tag u)) (firstDue (bodyRows x at inside tag u))
+    rows-split inside = ap firstDue (sym (take-append-drop 6 (itemRows x at inside tag u))) ∙ first-append (headRows x at inside tag u) (bodyRows x at inside tag u)
 
-    rows-behind : (inside : Bool) → first (headRows x at inside tag u) ≡ none → first (itemRows x at inside tag u) ≡ first (bodyRows x at inside tag u)
-    rows-behind inside n = rows-split inside ∙ ap (λ (o : Option Refusal). otherwise o (first (bodyRows x at inside tag u))) n
+    rows-behind : (inside : Bool) → firstDue (headRows x at inside tag u) ≡ none → firstDue (itemRows x at inside tag u) ≡ firstDue (bodyRows x at inside tag u)
+    rows-behind inside n = rows-split inside ∙ ap (λ (o : Option Refusal). otherwise o (firstDue (bodyRows x at inside tag u))) n
 
-    group-found : (inside : Bool) (channel : ℕ) → ReadGroup (first (headRows x at inside tag u)) tag u channel → stopped at (meaning s x (Item.Group at channel)) ≡ first (itemRows x at inside tag u)
+    group-found : (inside : Bool) (channel : ℕ) → ReadGroup (firstDue (headRows x at inside tag u)) tag u channel → stopped at (meaning s x (Item.Group at channel)) ≡ firstDue (itemRows x at inside tag u)
     unfolding effectOf
     group-found inside channel p = rw (rows-behind inside (p .free), p .same-channel) (group-first s x at u inside tag (p .group))
 
     -- An item that is read, whose value stands in the file.
-    module _ (inside : Bool) (t start len : ℕ) (p : ReadPrimitive (first (headRows x at inside tag u)) inside tag u t start len) (value : valueAt s (at + start) len ≡ valueIn u) where
-      plain-found : inside ≡ false → stopped at (meaning s x (Item.Plain at t (at + start) len)) ≡ first (itemRows x at inside tag u)
+    module _ (inside : Bool) (t start len : ℕ) (p : ReadPrimitive (firstDue (headRows x at inside tag u)) inside tag u t start len) (value : valueAt s (at + start) len ≡ valueIn u) where
+      plain-found : inside ≡ false → stopped at (meaning s x (Item.Plain at t (at + start) len)) ≡ firstDue (itemRows x at inside tag u)
       unfolding effectOf
       plain-found i = rw (rows-behind inside (p .free), value, p .same-tag, i) (plain-first s x at u (at + start) tag (p .primitive))
 
-      member-found : inside ≡ true → (channel : ℕ) → stopped at (meaning s x (Item.Member at channel t (at + start) len)) ≡ first (itemRows x at inside tag u)
+      member-found : inside ≡ true → (channel : ℕ) → stopped at (meaning s x (Item.Member at channel t (at + start) len)) ≡ firstDue (itemRows x at inside tag u)
       unfolding effectOf
       member-found i channel = rw (rows-behind inside (p .free), value, p .same-tag, i) (member-first s x at u channel tag (p .primitive) (rw i at (p .allowed)))
 
-      mark-found : inside ≡ true → endsOpen t len ≡ true → stopped at (meaning s x (Item.Mark at)) ≡ first (itemRows x at inside tag u)
+      mark-found : inside ≡ true → endsOpen t len ≡ true → stopped at (meaning s x (Item.Mark at)) ≡ firstDue (itemRows x at inside tag u)
       unfolding effectOf carried
       mark-found i m =
           let z : tag ≡ 0 = sym (p .same-tag) ∙ eqb-true t 0 (both-split (eqb t 0) (eqb len 0) m .0) in
           rw (rows-behind inside (p .free), i, z) (mark-first s x at u)
 
-    item-first : (w : Within) → extent s at w ≡ tag ∷ u → (h : Head) → HeadRead (first (headRows x at (isInside w) tag u)) at (isInside w) tag u h → answer (itemOf at w h) ≡ first (itemRows x at (isInside w) tag u)
+    item-first : (w : Within) → extent s at w ≡ tag ∷ u → (h : Head) → HeadRead (firstDue (headRows x at (isInside w) tag u)) at (isInside w) tag u h → refusalBy (itemOf at w h) ≡ firstDue (itemRows x at (isInside w) tag u)
     unfolding itemOf placeAt
     item-first w e (Head.Refused n) p = rw (rows-split (isInside w), p)
     item-first w e (Head.Definite channel start len) p = group-found (isInside w) channel p
@@ -110,16 +110,16 @@ module _ (s : List ℕ) (x : State) where
         member-found true t start len p (value-same s at (Within.Definite channel end) tag u e start len p) refl channel
     item-first (Within.Open channel place) e (Head.Primitive t start len) p =
         let value = value-same s at (Within.Open channel place) tag u e start len p in
-        pick-cases (λ (n : Next). answer n ≡ first (itemRows x at true tag u)) (endsOpen t len)
+        pick-cases (λ (n : Next). refusalBy n ≡ firstDue (itemRows x at true tag u)) (endsOpen t len)
         (λ m. mark-found true t start len p value refl m)
         (λ m. member-found true t start len p value refl channel)
 
   -- What is refused at a cursor is what the first row gives whose condition holds there.
-  cursor-first : (c : Cursor) → answer (nextOf s c) ≡ first (rowsAt x (c .at) (around c) (ahead s c))
+  cursor-first : (c : Cursor) → refusalBy (nextOf s c) ≡ firstDue (rowsAt x (c .at) (around c) (ahead s c))
   unfolding nextOf nextIn rowsAt
   cursor-first c = by (ahead s c) refl
     where
-      by : (u : List ℕ) → ahead s c ≡ u → answer (nextIn (c .at) (around c) u) ≡ first (rowsAt x (c .at) (around c) u)
+      by : (u : List ℕ) → ahead s c ≡ u → refusalBy (nextIn (c .at) (around c) u) ≡ firstDue (rowsAt x (c .at) (around c) u)
       by [] e = end-first (around c)
       by (tag ∷ u) e =
           let inside = isInside (around c) in
@@ -133,9 +133,9 @@ module _ (s : List ℕ) where
     state : State
     cursor : Cursor
     reached : Reached s state cursor
-    given : answer s state (nextOf s cursor) ≡ some r
+    given : refusalBy s state (nextOf s cursor) ≡ some r
 
-  stop-refused : (x : State) (c : Cursor) (r : Refusal) (n : Next) → nextOf s c ≡ n → answer s x n ≡ some r → interpret s x (itemsFrom s c) ≡ refused r
+  stop-refused : (x : State) (c : Cursor) (r : Refusal) (n : Next) → nextOf s c ≡ n → refusalBy s x n ≡ some r → interpret s x (itemsFrom s c) ≡ refused r
   stop-refused x c r (Next.Found i d) e a = ap (interpret s x) (items-found s c i d e) ∙ by (meaning s x i) refl a
     where
       by : (o : Outcome) → meaning s x i ≡ o → stopped (placeAt i) o ≡ some r → interpret s x (item i (itemsFrom s d)) ≡ refused r
@@ -154,7 +154,7 @@ module _ (s : List ℕ) where
       firstState firstCursor begin r e
 
   -- What is due at a cursor that is reached is what is refused there.
-  due-stops : (x : State) (c : Cursor) (r : Refusal) → DueAt s x c r ↔ (answer s x (nextOf s c) ≡ some r)
+  due-stops : (x : State) (c : Cursor) (r : Refusal) → DueAt s x c r ↔ (refusalBy s x (nextOf s c) ≡ some r)
   due-stops x c r =
       let e = cursor-first s x c in
       let d = due-exactly (rowsAt x (c .at) (around c) (ahead s c)) r in

@@ -18,7 +18,7 @@ use Rattle.framing.specs.Framing.{pointerFits, framedAs}
 use Rattle.effects.specs.declared.Effect.{Effect}
 use Rattle.pass.specs.Verdict.{State, Outcome, goes, refuses, frameChannels, withFrame, carried}
 use Rattle.theorems.specs.Rows.{valueIn, isShort, itemRows}
-use Rattle.theorems.proofs.Due.{first}
+use Rattle.theorems.proofs.Due.{firstDue}
 
 -- What an outcome gives at a place.
 abbrev pub stopped : ℕ → Outcome → Option Refusal
@@ -32,7 +32,7 @@ module _ (s : List ℕ) (x : State) (at start : ℕ) where
   framed-pick long false n r o e = e
 
   -- The rows of a waveform are those of an item behind the first ten.
-  pub frame-first : (u : List ℕ) → stopped at (carried s x (Effect.Frame start (length (valueIn u)))) ≡ first (drop 10 (itemRows x at false 0x1E u))
+  pub frame-first : (u : List ℕ) → stopped at (carried s x (Effect.Frame start (length (valueIn u)))) ≡ firstDue (drop 10 (itemRows x at false 0x1E u))
   unfolding carried framedAs withFrame itemRows
   frame-first u =
       let long = length (valueIn u) in

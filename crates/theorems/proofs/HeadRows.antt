@@ -25,17 +25,17 @@ use Rattle.heads.specs.Refusals.{lengthOctet, pastEnd, longChannel}
 use Rattle.heads.specs.Head.{channelOf, lengthOf, unknownContext, rootOnly, primitiveHead, groupLength, groupHead, headOf}
 use Rattle.items.specs.Walk.{refusal}
 use Rattle.pass.specs.Verdict.{State}
-use Rattle.theorems.specs.Rows.{Row, row, isGroup, marked, sevenFrom, numberOctets, channelNamed, lengthFirst, lengthOctets, lengthIn, isUnknown, isBarred, longNumber, numberPast, noLength, valuePast, itemRows}
-use Rattle.theorems.proofs.Due.{first}
+use Rattle.theorems.specs.Rows.{Row, row, isGroup, marked, sevenFrom, numberOctets, channelNamed, lengthFirst, lengthField, lengthIn, isUnknown, isBarred, longNumber, numberPast, noLength, valuePast, itemRows}
+use Rattle.theorems.proofs.Due.{firstDue}
 
 -- ---- the length field
 
 -- What the octets of a length field tell, by what is read of them.
 abbrev LengthBy : List ℕ → Length → Type 0
 LengthBy w (Length.Known n octets) =
-    (octets ≡ lengthOctets w) × (n ≡ lengthIn w) × (octets ≤ length w) × (lengthFirst w < 0x85) × (lengthFirst w ≡ 0x80 → ⊥)
+    (octets ≡ lengthField w) × (n ≡ lengthIn w) × (octets ≤ length w) × (lengthFirst w < 0x85) × (lengthFirst w ≡ 0x80 → ⊥)
 LengthBy w (Length.Open octets) = (lengthFirst w ≡ 0x80) × (0 < length w)
-LengthBy w Length.PastEnd = (length w < lengthOctets w) × (lengthFirst w < 0x85) × (lengthFirst w ≡ 0x80 → ⊥)
+LengthBy w Length.PastEnd = (length w < lengthField w) × (lengthFirst w < 0x85) × (lengthFirst w ≡ 0x80 → ⊥)
 LengthBy w Length.Bad = 0x85 ≤ lengthFirst w
 
 length-by : (w : List ℕ) → LengthBy w (lengthOf w)
@@ -78,19 +78,19 @@ open-none : (w : List ℕ) → lengthFirst w ≡ 0x80 → lengthIn w ≡ 0
 unfolding bigFrom
 open-none w e = rw e
 
-length-first : (at : ℕ) (group : Bool) (w : List ℕ) (l : Length) → LengthBy w l → first (lengthRows at group w) ≡ lengthAnswer at group (length w) l
+length-first : (at : ℕ) (group : Bool) (w : List ℕ) (l : Length) → LengthBy w l → firstDue (lengthRows at group w) ≡ lengthAnswer at group (length w) l
 length-first at group w (Length.Known n octets) p =
-    simp (lt-leb 0x85 (lengthFirst w) (p .3), ne-eqb (lengthFirst w) 0x80 (p .4), past-same (length w) (lengthOctets w) (lengthIn w) (omega arith), p .0, p .1)
+    simp (lt-leb 0x85 (lengthFirst w) (p .3), ne-eqb (lengthFirst w) 0x80 (p .4), past-same (length w) (lengthField w) (lengthIn w) (omega arith), p .0, p .1)
 length-first at group w (Length.Open octets) p =
     let none-said = open-none w (p .0) in
-    let fits : ltb (length w) (lengthOctets w + lengthIn w) ≡ false = le-ltb (length w) (lengthOctets w + lengthIn w) (omega arith) in
+    let fits : ltb (length w) (lengthField w + lengthIn w) ≡ false = le-ltb (length w) (lengthField w + lengthIn w) (omega arith) in
     simp (lt-leb 0x85 (lengthFirst w) (omega arith), eq-eqb (lengthFirst w) 0x80 (p .0), fits) (by group)
   where
     by : (g : Bool) → pick (not g) (some (refusal lengthOctet at)) none ≡ pick g none (some (refusal lengthOctet at))
     by true = refl
     by false = refl
 length-first at group w Length.PastEnd p =
-    simp (lt-leb 0x85 (lengthFirst w) (p .1), ne-eqb (lengthFirst w) 0x80 (p .2), lt-ltb (length w) (lengthOctets w + lengthIn w) (omega arith))
+    simp (lt-leb 0x85 (lengthFirst w) (p .1), ne-eqb (lengthFirst w) 0x80 (p .2), lt-ltb (length w) (lengthField w + lengthIn w) (omega arith))
 length-first at group w Length.Bad p = simp (le-leb 0x85 (lengthFirst w) p)
 
 -- ---- the channel number
@@ -102,11 +102,11 @@ ChannelBy k p acc u (Channel.Number n octets) =
 ChannelBy k p acc u Channel.PastEnd = (marked k u < k) × (marked k u ≡ length u)
 ChannelBy k p acc u Channel.TooLong = marked k u ≡ k
 
-channel-later : (k p acc b : ℕ) (u : List ℕ) → ltb b 128 ≡ false → (c : Channel) → ChannelBy k (p + 1) (acc * 128 + b % 128) u c → ChannelBy (suc k) p acc (b ∷ u) c
+channel-by-later : (k p acc b : ℕ) (u : List ℕ) → ltb b 128 ≡ false → (c : Channel) → ChannelBy k (p + 1) (acc * 128 + b % 128) u c → ChannelBy (suc k) p acc (b ∷ u) c
 unfolding marked sevenFrom
-channel-later k p acc b u e (Channel.Number n octets) c = simp e (omega arith, omega arith, omega arith, c .3)
-channel-later k p acc b u e Channel.PastEnd c = simp e (omega arith)
-channel-later k p acc b u e Channel.TooLong c = simp e (ap suc c)
+channel-by-later k p acc b u e (Channel.Number n octets) c = simp e (omega arith, omega arith, omega arith, c .3)
+channel-by-later k p acc b u e Channel.PastEnd c = simp e (omega arith)
+channel-by-later k p acc b u e Channel.TooLong c = simp e (ap suc c)
 
 channel-by : (k p acc : ℕ) (u : List ℕ) → ChannelBy k p acc u (channelOf k p acc u)
 unfolding channelOf marked sevenFrom
@@ -115,7 +115,7 @@ channel-by (suc k) p acc [] = (omega arith, refl)
 channel-by (suc k) p acc (b ∷ u) =
     pick-cases (ChannelBy (suc k) p acc (b ∷ u)) (ltb b 128)
     (λ e. simp e (omega arith, omega arith, omega arith, refl))
-    (λ e. channel-later k p acc b u e (channelOf k (p + 1) (acc * 128 + b % 128) u) (channel-by k (p + 1) (acc * 128 + b % 128) u))
+    (λ e. channel-by-later k p acc b u e (channelOf k (p + 1) (acc * 128 + b % 128) u) (channel-by k (p + 1) (acc * 128 + b % 128) u))
 
 -- ---- the head
 
@@ -125,7 +125,7 @@ pub record ReadPrimitive (found : Option Refusal) (inside : Bool) (tag : ℕ) (u
   pub allowed : both inside (rootOnly tag) ≡ false
   pub primitive : isGroup tag ≡ false
   pub same-tag : t ≡ tag
-  pub same-start : start ≡ suc (lengthOctets u)
+  pub same-start : start ≡ suc (lengthField u)
   pub same-length : len ≡ lengthIn u
   pub fits : start + len ≤ suc (length u)
 
@@ -161,7 +161,7 @@ module _ (at : ℕ) (inside : Bool) (tag : ℕ) (u : List ℕ) where
   group-length-reads g channel k rest e Length.PastEnd = refl
   group-length-reads g channel k rest e Length.Bad = refl
 
-  group-reads : isGroup tag ≡ true → (c : Channel) → ChannelBy 4 0 0 u c → HeadRead (first (row longChannel at (longNumber u) ∷ row pastEnd at (numberPast u) ∷ lengthRows at true (drop (numberOctets u) u))) at inside tag u (groupHead u c)
+  group-reads : isGroup tag ≡ true → (c : Channel) → ChannelBy 4 0 0 u c → HeadRead (firstDue (row longChannel at (longNumber u) ∷ row pastEnd at (numberPast u) ∷ lengthRows at true (drop (numberOctets u) u))) at inside tag u (groupHead u c)
   unfolding groupHead
   group-reads g (Channel.Number channel k) c =
       let w = drop (numberOctets u) u in
@@ -184,10 +184,10 @@ barred-same tag = rw (either-false (isGroup tag))
 abbrev pub headRows : State → ℕ → Bool → ℕ → List ℕ → List Row
 headRows x at inside tag u = take 6 (itemRows x at inside tag u)
 
-pub head-reads : (x : State) (at : ℕ) (inside : Bool) (tag : ℕ) (u : List ℕ) → HeadRead (first (headRows x at inside tag u)) at inside tag u (headOf inside (tag ∷ u))
+pub head-reads : (x : State) (at : ℕ) (inside : Bool) (tag : ℕ) (u : List ℕ) → HeadRead (firstDue (headRows x at inside tag u)) at inside tag u (headOf inside (tag ∷ u))
 unfolding headOf itemRows unknownContext isUnknown
 head-reads x at inside tag u =
-    let P : Head → Type 0 = HeadRead (first (headRows x at inside tag u)) at inside tag u in
+    let P : Head → Type 0 = HeadRead (firstDue (headRows x at inside tag u)) at inside tag u in
     pick-cases P (unknownContext tag) (λ e. rw e)
     (λ e. pick-cases P (both inside (rootOnly tag)) (λ b. rw (e, barred-same tag, b))
     (λ b. pick-cases P (isGroup tag)

@@ -35,7 +35,7 @@ use Rattle.pass.specs.Verdict.{State, carried}
 use Rattle.pass.proofs.Every.{Every}
 use Rattle.theorems.specs.Attributes.{Entry, entry, among, between, any, attributes, entryIn, entryOf}
 use Rattle.theorems.specs.Rows.{Row, isGroup, channelNamed, valueIn, uncounted, given, itemRows}
-use Rattle.theorems.proofs.Due.{first}
+use Rattle.theorems.proofs.Due.{firstDue}
 use Rattle.theorems.proofs.HeadRows.{either-false}
 use Rattle.theorems.proofs.FrameRows.{stopped, frame-first}
 
@@ -148,17 +148,17 @@ module _ (s : List ℕ) (x : State) (at : ℕ) (v : List ℕ) where
   abbrev carriedOut : Effect → Option Refusal
   carriedOut e = stopped at (carried s x e)
 
-  abbrev answer : Entry → Option Refusal
-  answer l = lineAnswer at l (x .standing .little) v
+  abbrev entryAnswer : Entry → Option Refusal
+  entryAnswer l = lineAnswer at l (x .standing .little) v
 
   -- A tag goes the way of an entry, outside a group and inside one.
   record Takes (tag : ℕ) (l : Entry) : Type 0 where
-    plain : (start : ℕ) → carriedOut (plainEffect (x .standing) tag start v (tagged tag)) ≡ answer l
-    member : rootOnly tag ≡ false → (channel : ℕ) → carriedOut (memberEffect (x .standing) channel v (tagged tag)) ≡ answer l
+    plain : (start : ℕ) → carriedOut (plainEffect (x .standing) tag start v (tagged tag)) ≡ entryAnswer l
+    member : rootOnly tag ≡ false → (channel : ℕ) → carriedOut (memberEffect (x .standing) channel v (tagged tag)) ≡ entryAnswer l
 
   -- An attribute of a channel, as a definition outside a group or inside one carries it.
   module _ (a : Attribute) (l : Entry) (tag : tagged (l .tag) ≡ Tagged.Defines a) (lengths : Lengths a l) (values : Values a l) where
-    defined-line : (f : Defined → Effect) → ((n : ℕ) → carriedOut (f (Defined.Refused n)) ≡ some (refusal n at)) → ((c : Change) → carriedOut (f (Defined.Changed c)) ≡ none) → (base : Settings) → carriedOut (f (defined a (x .standing .little) base v)) ≡ answer l
+    defined-line : (f : Defined → Effect) → ((n : ℕ) → carriedOut (f (Defined.Refused n)) ≡ some (refusal n at)) → ((c : Change) → carriedOut (f (Defined.Changed c)) ≡ none) → (base : Settings) → carriedOut (f (defined a (x .standing .little) base v)) ≡ entryAnswer l
     unfolding defined
     defined-line f stops leads base =
         let little = x .standing .little in
@@ -178,15 +178,15 @@ module _ (s : List ℕ) (x : State) (at : ℕ) (v : List ℕ) where
         }
 
   -- A tag that stands only outside groups.
-  root-takes : (l : Entry) → rootOnly (l .tag) ≡ true → ((start : ℕ) → carriedOut (plainEffect (x .standing) (l .tag) start v (tagged (l .tag))) ≡ answer l) → Takes (l .tag) l
+  root-takes : (l : Entry) → rootOnly (l .tag) ≡ true → ((start : ℕ) → carriedOut (plainEffect (x .standing) (l .tag) start v (tagged (l .tag))) ≡ entryAnswer l) → Takes (l .tag) l
   root-takes l r e = record { plain = e; member = λ f channel. let z : _≡_ {A = ℕ} 0 1 = cc in let w : ⊥ = omega arith in absurd w }
 
   root-choice : (l : Entry) (t b : Bool) (e f : Effect) → carriedOut e ≡ none → carriedOut f ≡ none → l .lengths (length v) ≡ not t → (t ≡ false → l .values (x .standing .little) v ≡ not b)
-      → carriedOut (pick t (Effect.Refused unfitLength) (pick (eqb (length v) 0) e (pick b (Effect.Refused unfitValue) f))) ≡ answer l
+      → carriedOut (pick t (Effect.Refused unfitLength) (pick (eqb (length v) 0) e (pick b (Effect.Refused unfitValue) f))) ≡ entryAnswer l
   unfolding carried
   root-choice l = line-choice at l (x .standing .little) v carriedOut (Effect.Refused unfitLength) (Effect.Refused unfitValue) refl refl
 
-  order-line : carriedOut (orderEffect v) ≡ answer (entryOf 0x01)
+  order-line : carriedOut (orderEffect v) ≡ entryAnswer (entryOf 0x01)
   unfolding orderEffect entryIn carried
   order-line =
       root-choice (entryOf 0x01) (ltb 1 (length v)) (ltb 1 (getD v 0 0)) (Effect.Order false) (Effect.Order (eqb (getD v 0 0) 1)) refl refl
@@ -201,20 +201,20 @@ module _ (s : List ℕ) (x : State) (at : ℕ) (v : List ℕ) where
   whole : ltb 4 (length v) ≡ false → numberOf (x .standing .little) v ≡ number
   whole t = rw (take-all 4 v (ltb-false 4 (length v) t))
 
-  count-line : carriedOut (countEffect (x .standing .little) v) ≡ answer (entryOf 0x05)
+  count-line : carriedOut (countEffect (x .standing .little) v) ≡ entryAnswer (entryOf 0x05)
   unfolding countEffect entryIn carried
   count-line =
       rw (pick-either (eqb number 0) (ltb channelLimit number) (Effect.Refused unfitValue) (Effect.Count number))
       (root-choice (entryOf 0x05) (ltb 4 (length v)) (either (eqb number 0) (ltb channelLimit number)) (Effect.Count 0) (Effect.Count number) refl refl
       up-to-four (λ t. rw (whole t, one-not number, leb-not number channelLimit) (both-nots (eqb number 0) (ltb channelLimit number))))
 
-  sequences-line : carriedOut (sequencesEffect (x .standing .little) v) ≡ answer (entryOf 0x06)
+  sequences-line : carriedOut (sequencesEffect (x .standing .little) v) ≡ entryAnswer (entryOf 0x06)
   unfolding sequencesEffect entryIn carried
   sequences-line =
       root-choice (entryOf 0x06) (ltb 4 (length v)) (eqb number 0) (Effect.Sequences 0) (Effect.Sequences number) refl refl
       up-to-four (λ t. rw (whole t, one-not number))
 
-  start-line : carriedOut (startEffect (x .standing .little) (x .standing .continued) v) ≡ answer (entryOf 0x07)
+  start-line : carriedOut (startEffect (x .standing .little) (x .standing .continued) v) ≡ entryAnswer (entryOf 0x07)
   unfolding startEffect entryIn carried
   start-line =
       root-choice (entryOf 0x07) (ltb 4 (length v)) false (Effect.Start (x .standing .continued)) (Effect.Start (signedOf (x .standing .little) (take 4 v))) refl refl
@@ -266,7 +266,7 @@ module _ (s : List ℕ) (x : State) (at : ℕ) (v : List ℕ) where
   other-takes tag n c w =
       let other : tagged tag ≡ Tagged.Other =
       simp (n 0x04 refl, n 0x08 refl, n 0x09 refl, n 0x0A refl, n 0x0B refl, n 0x0C refl, n 0x0D refl, n 0x12 refl) in
-      let none-due : answer (entry tag (λ n. true) any) ≡ none = rw (both-false (given v)) in
+      let none-due : entryAnswer (entry tag (λ n. true) any) ≡ none = rw (both-false (given v)) in
       record {
         plain = λ start. rw other (simp (n 0x01 refl, n 0x05 refl, n 0x06 refl, n 0x07 refl, c, w) (sym none-due));
         member = λ f channel. rw other (sym none-due);
@@ -282,11 +282,11 @@ abbrev pub bodyRows : State → ℕ → Bool → ℕ → List ℕ → List Row
 bodyRows x at inside tag u = drop 6 (itemRows x at inside tag u)
 
 module _ (s : List ℕ) (x : State) (at : ℕ) (u : List ℕ) where
-  pub mark-first : none ≡ first (bodyRows x at true 0x00 u)
+  pub mark-first : none ≡ firstDue (bodyRows x at true 0x00 u)
   unfolding itemRows entryIn
   mark-first = simp both-false
 
-  compressed-first : stopped at (carried s x (compressedEffect (valueIn u))) ≡ first (bodyRows x at false 0x0E u)
+  compressed-first : stopped at (carried s x (compressedEffect (valueIn u))) ≡ firstDue (bodyRows x at false 0x0E u)
   unfolding compressedEffect carried itemRows entryIn
   compressed-first = rw (both-false (given (valueIn u))) (by (eqb (length (valueIn u)) 0))
     where
@@ -294,11 +294,11 @@ module _ (s : List ℕ) (x : State) (at : ℕ) (u : List ℕ) where
       by true = refl
       by false = refl
 
-  waveform-first : (start : ℕ) → stopped at (carried s x (Effect.Frame start (length (valueIn u)))) ≡ first (bodyRows x at false 0x1E u)
+  waveform-first : (start : ℕ) → stopped at (carried s x (Effect.Frame start (length (valueIn u)))) ≡ firstDue (bodyRows x at false 0x1E u)
   unfolding itemRows entryIn
   waveform-first start = rw (both-false (given (valueIn u))) (frame-first s x at start u)
 
-  pub group-first : (inside : Bool) (tag : ℕ) → isGroup tag ≡ true → stopped at (carried s x (groupEffect (x .standing) (channelNamed u))) ≡ first (bodyRows x at inside tag u)
+  pub group-first : (inside : Bool) (tag : ℕ) → isGroup tag ≡ true → stopped at (carried s x (groupEffect (x .standing) (channelNamed u))) ≡ firstDue (bodyRows x at inside tag u)
   unfolding groupEffect carried itemRows entryIn
   group-first inside tag g =
       rw (eqb-true tag 0x3F g, leb-not (x .standing .counted) (channelNamed u))
@@ -309,11 +309,11 @@ module _ (s : List ℕ) (x : State) (at : ℕ) (u : List ℕ) where
       by false true = refl
       by false false = refl
 
-  pub plain-first : (start tag : ℕ) → isGroup tag ≡ false → stopped at (carried s x (plainEffect (x .standing) tag start (valueIn u) (tagged tag))) ≡ first (bodyRows x at false tag u)
+  pub plain-first : (start tag : ℕ) → isGroup tag ≡ false → stopped at (carried s x (plainEffect (x .standing) tag start (valueIn u) (tagged tag))) ≡ firstDue (bodyRows x at false tag u)
   unfolding tagged plainEffect rootEffect itemRows
   plain-first start tag g = by (ℕ-discrete tag 0x0E) (ℕ-discrete tag 0x1E)
     where
-      by : Dec (tag ≡ 0x0E) → Dec (tag ≡ 0x1E) → stopped at (carried s x (plainEffect (x .standing) tag start (valueIn u) (tagged tag))) ≡ first (bodyRows x at false tag u)
+      by : Dec (tag ≡ 0x0E) → Dec (tag ≡ 0x1E) → stopped at (carried s x (plainEffect (x .standing) tag start (valueIn u) (tagged tag))) ≡ firstDue (bodyRows x at false tag u)
       by (yes e) w = rw e compressed-first
       by (no c) (yes e) = rw e (waveform-first start)
       by (no c) (no w) =
@@ -325,7 +325,7 @@ module _ (s : List ℕ) (x : State) (at : ℕ) (u : List ℕ) where
   unbarred : (tag t : ℕ) → rootOnly tag ≡ false → rootOnly t ≡ true → eqb tag t ≡ false
   unbarred tag t f h = ne-eqb tag t (λ e. let r : rootOnly tag ≡ true = rw e h in let z : _≡_ {A = ℕ} 0 1 = cc in omega arith)
 
-  pub member-first : (channel tag : ℕ) → isGroup tag ≡ false → rootOnly tag ≡ false → stopped at (carried s x (pick (uncounted x) Effect.Pass (memberEffect (x .standing) channel (valueIn u) (tagged tag)))) ≡ first (bodyRows x at true tag u)
+  pub member-first : (channel tag : ℕ) → isGroup tag ≡ false → rootOnly tag ≡ false → stopped at (carried s x (pick (uncounted x) Effect.Pass (memberEffect (x .standing) channel (valueIn u) (tagged tag)))) ≡ firstDue (bodyRows x at true tag u)
   unfolding itemRows rootOnly carried
   member-first channel tag g f =
       let c = unbarred tag 0x0E f refl in

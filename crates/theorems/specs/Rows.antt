@@ -61,14 +61,14 @@ fromLength tag u = pick (isGroup tag) (drop (numberOctets u) u) u
 abbrev pub lengthFirst : List ℕ → ℕ
 lengthFirst w = getD w 0 0
 
-abbrev pub lengthOctets : List ℕ → ℕ
-lengthOctets w = suc (lengthFirst w - 0x80)
+abbrev pub lengthField : List ℕ → ℕ
+lengthField w = suc (lengthFirst w - 0x80)
 
 abbrev pub lengthIn : List ℕ → ℕ
 lengthIn w = pick (ltb (lengthFirst w) 0x80) (lengthFirst w) (bigFrom 0 (take (lengthFirst w - 0x80) (drop 1 w)))
 
 abbrev pub valueIn : List ℕ → List ℕ
-valueIn w = take (lengthIn w) (drop (lengthOctets w) w)
+valueIn w = take (lengthIn w) (drop (lengthField w) w)
 
 -- ---- conditions
 
@@ -94,7 +94,7 @@ noLength group w = either (leb 0x85 (lengthFirst w)) (both (eqb (lengthFirst w) 
 
 -- The length or the value runs past the end.
 abbrev pub valuePast : List ℕ → Bool
-valuePast w = ltb (length w) (lengthOctets w + lengthIn w)
+valuePast w = ltb (length w) (lengthField w + lengthIn w)
 
 -- No channel count stands: none yet, or the last had length 0. A group met then is ignored.
 abbrev pub uncounted : State → Bool

@@ -9,6 +9,7 @@ use Rattle.heads.specs.Refusals.{noFrame, noChannel, noSample}
 use Rattle.heads.specs.Answer.{Answer, answered, refusedAs}
 use Rattle.layout.specs.Frame.{channelIn}
 use Rattle.reader.specs.declared.Attributes.{Attributes}
+use Rattle.reader.specs.Answer.{attributesWith}
 use Rattle.canonical.specs.Recording.{Recorded}
 
 -- What is read past a recording's last frame; no answer depends on it.
@@ -21,7 +22,7 @@ frameRecorded rs i = getD rs i zeroRecorded
 
 -- The attributes of a channel: start pointer, channel count, sequences, and the channel's own.
 abbrev pub attributesRecorded : ℕ → Recorded → Attributes
-attributesRecorded c r = record { start = r .start; channels = length (r .channels); sequences = r .sequences; settings = channelIn c (r .channels) }
+attributesRecorded c r = attributesWith (r .start) (length (r .channels)) (r .sequences) (channelIn c (r .channels))
 
 -- The bits of a channel's samples.
 abbrev pub samplesRecorded : ℕ → Recorded → List ℕ

@@ -1,5 +1,5 @@
 -- Where the waveform holds the sequences and the frame fits it is stored, and else nothing is.
-use Rattle.frames.proofs.Given.{Told, Held, told-groups, not-held, held-few, parts-given, given-long, frame-asked}
+use Rattle.frames.proofs.Given.{FirstRecords, SequencesHeld, told-groups, not-held, held-few, parts-given, given-long, frame-asked}
 use mathlib.Core.Bool.{true}
 use mathlib.Core.Path.{sym, _∙_}
 use native.Mathlib.Omega.{arith}
@@ -15,14 +15,14 @@ use Rattle.frames.proofs.put_frame.Tie as tie
 told :
     (c : tie.After-layout-of) →
     let a = c .before .before .before .before .args in
-    Told (a .table) (a .count) (c .before .at-most .result) (c .layout-of .result)
+    FirstRecords (a .table) (a .count) (c .before .at-most .result) (c .layout-of .result)
 told c = record { full = search needs; few = c .before .at-most .ensures; layout = c .layout-of .ensures }
 
 -- The waveform holds the sequences.
 held :
     (c : tie.Else1) →
     let a = c .before .before .before .before .before .before .args in
-    Held (a .sequences) (c .before .before .layout-of .result) (a .w .now) true
+    SequencesHeld (a .sequences) (c .before .before .layout-of .result) (a .w .now) true
 held c = sym (c .before .holds .ensures) ∙ not-false _ (c .if1 .left)
 
 at-most-requires : tie.Need-at-most-requires

@@ -20,17 +20,17 @@ sub-result c = search needs
 negative : (c : tie.Then1) → ltZ (c .before .args .z) (pos 0) ≡ true
 negative c = subst (λ (y : ℤ). ltZ y (pos 0) ≡ true) (toZ-ofZ (c .before .fits .z)) (c .if1 .taken)
 
-turned : (c : tie.Then1) → toZ w64 (18446744073709551615 - ofZ w64 (c .before .args .z)) ≡ pos (mag (c .before .args .z))
-turned c = complement (c .before .args .z) (c .before .fits .z) (negative c)
+complement-is : (c : tie.Then1) → toZ w64 (18446744073709551615 - ofZ w64 (c .before .args .z)) ≡ pos (mag (c .before .args .z))
+complement-is c = complement (c .before .args .z) (c .before .fits .z) (negative c)
 
 cast-result : tie.Need-cast-result
-cast-result c = rw (turned c) (tt, omega arith)
+cast-result c = rw (complement-is c) (tt, omega arith)
 
 sub-result-2 : tie.Need-sub-result-2
-sub-result-2 c = rw (turned c) (omega arith)
+sub-result-2 c = rw (complement-is c) (omega arith)
 
 returns : tie.Need-returns
-returns c = rw (turned c) (below-is _ _ (negative c))
+returns c = rw (complement-is c) (below-is _ _ (negative c))
 
 positive : (c : tie.Else1) → ltZ (c .before .args .z) (pos 0) ≡ false
 positive c = subst (λ (y : ℤ). ltZ y (pos 0) ≡ false) (toZ-ofZ (c .before .fits .z)) (c .if1 .left)

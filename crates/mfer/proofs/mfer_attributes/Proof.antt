@@ -15,8 +15,8 @@ enum-known-a c = search needs
 numbers-of-requires : tie.Need-numbers-of-requires
 numbers-of-requires c κs = search needs
 
-bits-of-requires : tie.Need-bits-of-requires
-bits-of-requires c κs = search needs
+bit-pair-of-requires : tie.Need-bit-pair-of-requires
+bit-pair-of-requires c κs = search needs
 
 enum-known-x : tie.Need-enum-known-x
 enum-known-x c = search needs
@@ -26,7 +26,7 @@ cast-result c = search needs
 
 returns : tie.Need-returns
 unfolding handedOut
-returns c = (λ i. outputs 0 0 (attributesValues (c .before .numbers-of .ensures i) (c .bits-of .ensures i))) ∙ ap attributesOut (ap describedSays (sym (c .before .before .before .a .given .1)) ∙ c .before .before .before .before .before .describe .ensures)
+returns c = (λ i. outputs 0 0 (attributesValues (c .before .numbers-of .ensures i) (c .bit-pair-of .ensures i))) ∙ ap attributesOut (ap describedSays (sym (c .before .before .before .a .given .1)) ∙ c .before .before .before .before .before .describe .ensures)
 
 returns-2 : tie.Need-returns-2
 unfolding handedOut
@@ -39,7 +39,7 @@ mfer-attributes-spec =
     describe-requires
     enum-known-a
     numbers-of-requires
-    bits-of-requires
+    bit-pair-of-requires
     enum-known-x
     cast-result
     returns

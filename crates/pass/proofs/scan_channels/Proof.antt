@@ -66,13 +66,13 @@ at-loop c = at-item c .before .before .before
 abbrev item-of : Behind → Item
 item-of c = at-item c .item .given .0 .0
 
-abbrev file : Behind → List ℕ
-file c = at-loop c .before .before .before .args .s .now
+abbrev file-of : Behind → List ℕ
+file-of c = at-loop c .before .before .before .args .s .now
 
-abbrev asked : Behind → Asked
-asked c = at-loop c .before .before .before .args .asked
+abbrev asked-of : Behind → Asked
+asked-of c = at-loop c .before .before .before .args .asked
 
-met : (c : Behind) → let l = at-loop c .loop in Turn (file c) (asked c) (l .table) (l .own) (l .c) (l .st) (l .met) (item-of c) (c .renewed .result) (effectOf (file c) (l .st) (item-of c))
+met : (c : Behind) → let l = at-loop c .loop in Turn (file-of c) (asked-of c) (l .table) (l .own) (l .c) (l .st) (l .met) (item-of c) (c .renewed .result) (effectOf (file-of c) (l .st) (item-of c))
 met c =
     let at-next = at-item c .before .before in
     record { before = at-loop c .loop .inv; found = sym (at-next .next-item .ensures) ∙ found-as (at-item c .item .given .1) (c .renewed .ensures); asks = refl }
@@ -95,7 +95,7 @@ behind c = at-effect c .before .before .before .before
 turn : (c : Laid)
     → let b = behind c in
     let l = at-loop b .loop in
-    Turn (file b) (asked b) (c .before .loop3 .table) (c .before .loop3 .own) (l .c) (l .st) (l .met) (item-of b) (b .renewed .result) (at-effect c .item-effect .result)
+    Turn (file-of b) (asked-of b) (c .before .loop3 .table) (c .before .loop3 .own) (l .c) (l .st) (l .met) (item-of b) (b .renewed .result) (at-effect c .item-effect .result)
 turn c =
     let m = met (behind c) in
     turn-filled (record { before = m .before; found = m .found; asks = at-effect c .item-effect .ensures }) (c .before .loop3 .inv .1)
@@ -110,17 +110,17 @@ at-sum c = c .before .before
 abbrev at-frame : Given → tie.After-effect3 Inv-loop2 μ-loop2 Inv-loop3 μ-loop3 Inv-loop4 μ-loop4 Inv-loop5 μ-loop5 Inv-loop μ-loop
 at-frame c = at-sum c .before .before .before
 
-abbrev laid : Given → Laid
-laid c = at-frame c .before .before
+abbrev laid-of : Given → Laid
+laid-of c = at-frame c .before .before
 
 framing : (c : Given)
-    → let b = behind (laid c) in
+    → let b = behind (laid-of c) in
     let l = at-loop b .loop in
-    let at-laid = laid c .before in
+    let at-laid = laid-of c .before in
     let waveform = at-frame c .effect3 .given .0 in
-    Framing (file b) (asked b) (at-laid .loop3 .table) (at-laid .loop3 .own) (l .c) (l .st) (l .met) (item-of b) (b .renewed .result) (waveform .0) (waveform .1 .0) (at-sum c .loop5 .l) (c .frame-of .result)
+    Framing (file-of b) (asked-of b) (at-laid .loop3 .table) (at-laid .loop3 .own) (l .c) (l .st) (l .met) (item-of b) (b .renewed .result) (waveform .0) (waveform .1 .0) (at-sum c .loop5 .l) (c .frame-of .result)
 framing c =
-    let at-laid = laid c in
+    let at-laid = laid-of c in
     turn-framing (turn at-laid) (at-frame c .effect3 .given .1) (at-laid .before .before .reach .ensures) (at-laid .loop3-test .left) (at-sum c .loop5 .inv) (c .before .loop5-test .left) (c .frame-of .ensures)
 
 -- ---- the needs
@@ -404,7 +404,7 @@ loop-again-6 : tie.Need-loop-again-6 Inv-loop2 μ-loop2 Inv-loop3 μ-loop3 Inv-l
 loop-again-6 c =
     let at-taken = c .before .before .before .before in
     let given = at-taken .before .before in
-    let table = laid given .before .loop3 .table in
+    let table = laid-of given .before .loop3 .table in
     framing-taken (framing given) (at-taken .sequences .given .1) (ap (λ (k : ℕ). getD table k zeroSettings) (c .before .before .index .ensures)) (c .with-frame .ensures)
 
 enum-known-effect-4 : tie.Need-enum-known-effect-4 Inv-loop2 μ-loop2 Inv-loop3 μ-loop3 Inv-loop4 μ-loop4 Inv-loop5 μ-loop5 Inv-loop μ-loop

@@ -3,7 +3,6 @@ use borrow.Author.Needs.{needs}
 use mir.Syntax.{w64}
 use mir.Val.{SFits}
 use mir.Facts.{toZ-ofZ}
-use Rattle.reader.specs.Answer.{attributesSeen}
 use Rattle.reader.proofs.attributes_seen.Statement.{statement}
 use Rattle.reader.proofs.attributes_seen.Tie as tie
 
@@ -14,7 +13,6 @@ in64 : (c : tie.After-struct-told) → SFits w64 (c .before .before .args .v .st
 in64 c = search needs
 
 returns : tie.Need-returns
-unfolding attributesSeen
 returns c =
     let v = c .before .before .args .v in
     λ k. record { start = toZ-ofZ (in64 c) k; channels = v .channels; sequences = v .sequences; settings = c .before .reported .ensures k }

@@ -12,7 +12,7 @@ use borrow.Author.Tests.{ltb-true, ltb-false}
 use Rattle.stores.specs.Storing.{Putting}
 use Rattle.runs.specs.Turned.{turned, turnedRun}
 use Rattle.stores.proofs.Stores.{putting, putting-none, putting-kept}
-use Rattle.runs.proofs.Turned.{length-turned, run-there, run-missing}
+use Rattle.runs.proofs.Turned.{length-turned, run-turned, run-missing}
 use Rattle.runs.proofs.turn.Statement.{statement}
 use Rattle.runs.proofs.turn.Tie as tie
 
@@ -27,19 +27,19 @@ module _ (d : List ℕ) (at w n : ℕ) (xs : List ℕ) where
       ⊎-elim
       (λ h.
       let l = length-turned w n xs (omega arith) in
-      rw (run-there w n xs (omega arith), empty (turned w n xs) (omega arith)) (putting-none d at))
+      rw (run-turned w n xs (omega arith), empty (turned w n xs) (omega arith)) (putting-none d at))
       (λ h. rw (run-missing w n xs h) (putting-none d at))
 
   -- The samples are there, and do not fit.
   kept : n * w ≤ length xs → length d < at + n * w → Putting d at (turnedRun w n xs) at d
-  kept h k = rw (run-there w n xs h) (putting-kept (omega (arith, length-turned w n xs h)))
+  kept h k = rw (run-turned w n xs h) (putting-kept (omega (arith, length-turned w n xs h)))
 
   -- The samples are there, and fit.
   stored : {e : List ℕ} → n * w ≤ length xs → at + n * w ≤ length d
       → e ≡ sets d at (turned w n xs) → Putting d at (turnedRun w n xs) (at + n * w) e
   stored h k e =
       let l = length-turned w n xs h in
-      rw (run-there w n xs h) (putting (omega arith) (record { next = omega arith; stored = e }))
+      rw (run-turned w n xs h) (putting (omega arith) (record { next = omega arith; stored = e }))
 
 -- Nothing stands past the end.
 short : (s : List ℕ) (q k : ℕ) → length s < q → (k ≡ 0) ⊎ (length (drop q s) < k)

@@ -6,12 +6,12 @@ use borrow.Author.Needs.{needs}
 use borrow.Author.Tests.{not-true, not-false}
 use lib.ListN.{length}
 use Rattle.stretch.specs.Stretch.{leavesBy}
-use Rattle.stretch.proofs.Runs.{Running, step-none, step-long, step-past, step-here, running-first, running-ends, running-goes, leaves-defined, leaves-same, leaves-nothing}
+use Rattle.stretch.proofs.Runs.{RunningStretch, step-none, step-long, step-past, step-here, running-first, running-ends, running-goes, leaves-defined, leaves-same, leaves-nothing}
 use Rattle.stretch.proofs.run.Statement.{statement}
 use Rattle.stretch.proofs.run.Tie as tie
 
 abbrev Inv-loop : tie.InvT-loop
-Inv-loop u little base settings₀ at₀ settings at = Running little base settings₀ u settings at
+Inv-loop u little base settings₀ at₀ settings at = RunningStretch little base settings₀ u settings at
 
 abbrev μ-loop : tie.MeasureT-loop
 μ-loop u little base settings₀ at₀ settings at = length u - at

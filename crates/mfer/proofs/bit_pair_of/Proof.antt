@@ -1,0 +1,12 @@
+-- The pair is made of the two.
+use mathlib.Core.Path.{refl}
+use Rattle.mfer.specs.Answers.{bitPairOf}
+use Rattle.mfer.proofs.bit_pair_of.Statement.{statement}
+use Rattle.mfer.proofs.bit_pair_of.Tie as tie
+
+returns : tie.Need-returns
+unfolding bitPairOf
+returns c = refl
+
+pub bit-pair-of-spec : {M : Type 1} → statement M
+bit-pair-of-spec = tie.close (tie.spec returns)
