@@ -20,7 +20,7 @@ use lib.Seq.{sets, length-sets}
 use Rattle.standing.specs.Standing.{octetsLimit}
 use Rattle.stores.proofs.Stores.{sets-append}
 use Rattle.bulk.specs.Samples.{bitsFrom}
-use Rattle.bulk.specs.Walked.{bitsHere, spaced, blocked, Wide, Within, InBlocks}
+use Rattle.bulk.specs.Walked.{bitsHere, spaced, blocked, Wide, InFile, InBlocks}
 
 -- ---- lists of bits
 
@@ -65,7 +65,7 @@ module _ (little : Bool) (w : ℕ) (s : List ℕ) (step : ℕ) where
     pub long : length out ≡ length out₀
     pub rest : sets out p (spaced little w s step q left) ≡ sets out₀ at (spaced little w s step from n)
 
-  pub run-begins : {from n : ℕ} {out : List ℕ} {at : ℕ} → Within (length s) from step n w → at + n ≤ length out → Running from n out at out from at n
+  pub run-begins : {from n : ℕ} {out : List ℕ} {at : ℕ} → InFile (length s) from step n w → at + n ≤ length out → Running from n out at out from at n
   run-begins h r =
       record { small = h .small; apart = h .apart; near = omega (arith, h .starts); each = h .each; room = r; long = refl; rest = refl }
 
@@ -155,7 +155,7 @@ module _ (little : Bool) (w : ℕ) (s : List ℕ) (b g : ℕ) where
     here j l = in-block start b g w (r + j) (omega (arith, k .low)) ∙ rw add-mul (omega arith)
 
     -- The samples of the block that are read next are there.
-    pub block-within : Wide w → Within (length s) (start + r * w) w m w
+    pub block-within : Wide w → InFile (length s) (start + r * w) w m w
     block-within v =
         let f = rw (here 0 block-some) at (k .each 0 (omega arith)) in
         record { small = k .small; apart = omega (arith, wide-small v); starts = omega arith; each = λ j l. rw (here j l) at (k .each j (omega arith)) }
@@ -201,7 +201,7 @@ module _ (size start r b g w n : ℕ) (h : InBlocks size start r b g w n) where
     joined-place : (j : ℕ) → start + ((r + j) / b * g + (r + j) % b * w) ≡ start + r * w + j * w
     joined-place j = rw (← e, ← mul-assoc, ← add-mul, div-add-mod' (r + j) b, add-mul, ← add-assoc)
 
-    pub joined-within : Wide w → Within size (start + r * w) w n w
+    pub joined-within : Wide w → InFile size (start + r * w) w n w
     joined-within v =
         record { small = h .small; apart = omega (arith, wide-small v); starts = h .starts; each = λ j l. rw (joined-place j) at (h .each j l) }
 
@@ -216,7 +216,7 @@ module _ (size start r b g w n : ℕ) (h : InBlocks size start r b g w n) where
         let z : r ≡ 0 = omega (arith, h .low) in
         simp (e, z, zero-add, div-one, mod-one, zero-mul, add-zero)
 
-    pub single-within : Within size (start + r * w) g n w
+    pub single-within : InFile size (start + r * w) g n w
     single-within = record { small = h .small; apart = h .apart; starts = h .starts; each = λ j l. rw (single-place j) at (h .each j l) }
 
     pub single-is : (little : Bool) (s : List ℕ) → spaced little w s g (start + r * w) n ≡ bitsFrom (blocked little w s start b g) r n

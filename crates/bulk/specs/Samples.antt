@@ -1,7 +1,8 @@
 -- What reading many samples of a channel answers (document 01, "Frames and samples"): their bits, as the file has them.
 use mathlib.Core.List.{List, [], _∷_}
 use Prim.Native.Nat.{ℕ, zero, suc, _-_, min}
-use Rattle.heads.specs.Answer.{Answer, answered, refusedBy}
+use lib.ListN.{length}
+use Rattle.heads.specs.Answer.{Answer, answered, refusedBy, mapAnswer}
 use Rattle.layout.specs.Frame.{samplesOf}
 use Rattle.laid.specs.Laid.{sampleBits}
 use Rattle.pass.specs.Verdict.{verdict}
@@ -24,3 +25,7 @@ readSays (Read.Refused r) = refusedBy r
 unfoldable pub readOf : List ℕ → ℕ → ℕ → ℕ → ℕ → Answer (List ℕ)
 readOf s frame channel first room =
     askedSample (λ f. bitsFrom (sampleBits f channel) first (min room (samplesOf channel f - first))) frame channel first (verdict s)
+
+-- The answer: how many samples were written.
+unfoldable pub countRead : List ℕ → ℕ → ℕ → ℕ → ℕ → Answer ℕ
+countRead s frame channel first room = mapAnswer length (readOf s frame channel first room)

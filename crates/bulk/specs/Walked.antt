@@ -26,7 +26,7 @@ abbrev pub Wide : ℕ → Type 0
 Wide w = (w ≡ 1) ⊎ ((w ≡ 2) ⊎ ((w ≡ 4) ⊎ (w ≡ 8)))
 
 -- n samples of w octets, each `step` octets after the one before it, lie within `size` octets.
-pub record Within (size from step n w : ℕ) : Type 0 where
+pub record InFile (size from step n w : ℕ) : Type 0 where
   pub small : size ≤ octetsLimit
   pub apart : step ≤ octetsLimit
   pub starts : from ≤ size

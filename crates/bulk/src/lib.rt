@@ -8,35 +8,24 @@ ghost use mathlib.Core.Path.{_≡_};
 ghost use Prim.Native.Nat.{_+_, _*_, _≤_, min};
 ghost use lib.ListN.{length};
 ghost use lib.Seq.{sets};
-ghost use Rattle.heads.specs.Answer.{mapAnswer, leftBy};
-ghost use Rattle.bulk.specs.Samples.{bitsFrom, readSays, readOf};
-ghost use Rattle.bulk.specs.Walked.{bitsHere, spaced, blocked, Wide, Within, InBlocks};
+ghost use Rattle.heads.specs.Answer.{leftBy};
+ghost use Rattle.bulk.specs.Samples.{bitsFrom, readSays, readOf, countRead};
+ghost use Rattle.bulk.specs.Walked.{bitsHere, spaced, blocked, Wide, InFile, InBlocks};
 use heads::Refusal;
 use reader::Placed;
 
-// The number of octets, highest first.
+// The number of one octet.
 fn one_octet(a: u8) -> u64
     ensures { λ r. ⌜ r ≡ a ⌝ }
 {
     a as u64
 }
 
-fn two_octets(a: u8, b: u8) -> u64
-    ensures { λ r. ⌜ r ≡ a * 256 + b ⌝ }
-{
-    a as u64 * 256 + b as u64
-}
-
-fn four_octets(a: u8, b: u8, c: u8, d: u8) -> u64
-    ensures { λ r. ⌜ r ≡ ((a * 256 + b) * 256 + c) * 256 + d ⌝ }
-{
-    ((a as u64 * 256 + b as u64) * 256 + c as u64) * 256 + d as u64
-}
-
+// The number of eight octets, the highest first.
 fn eight_octets(a: u8, b: u8, c: u8, d: u8, e: u8, f: u8, g: u8, h: u8) -> u64
     ensures { λ r. ⌜ r ≡ ((((((a * 256 + b) * 256 + c) * 256 + d) * 256 + e) * 256 + f) * 256 + g) * 256 + h ⌝ }
 {
-    four_octets(a, b, c, d) * 0x1_0000_0000 + four_octets(e, f, g, h)
+    octets::four_octets(a, b, c, d) * 0x1_0000_0000 + octets::four_octets(e, f, g, h)
 }
 
 // The bits of the sample at a place.
@@ -54,9 +43,9 @@ fn two(s: &[u8], at: usize, little: bool) -> u64
     let a = s[at];
     let b = s[at + 1];
     if little {
-        return two_octets(b, a);
+        return octets::two_octets(b, a);
     }
-    two_octets(a, b)
+    octets::two_octets(a, b)
 }
 
 fn four(s: &[u8], at: usize, little: bool) -> u64
@@ -68,9 +57,9 @@ fn four(s: &[u8], at: usize, little: bool) -> u64
     let c = s[at + 2];
     let d = s[at + 3];
     if little {
-        return four_octets(d, c, b, a);
+        return octets::four_octets(d, c, b, a);
     }
-    four_octets(a, b, c, d)
+    octets::four_octets(a, b, c, d)
 }
 
 fn eight(s: &[u8], at: usize, little: bool) -> u64
@@ -93,7 +82,7 @@ fn eight(s: &[u8], at: usize, little: bool) -> u64
 
 // The bits of n samples, each `step` octets after the one before it, from `at` on in the buffer.
 fn run1(s: &[u8], from: usize, step: usize, n: usize, little: bool, out: &mut [u64], at: usize)
-    requires { ⌜ Within (length (now s)) from step n 1 ⌝ }
+    requires { ⌜ InFile (length (now s)) from step n 1 ⌝ }
     requires { ⌜ at + n ≤ length (now out) ⌝ }
     ensures { λ _. ⌜ now (out .exit) ≡ sets (now (out .entry)) at (spaced «little» 1 (now (s .entry)) step from n) ⌝ }
 {
@@ -109,7 +98,7 @@ fn run1(s: &[u8], from: usize, step: usize, n: usize, little: bool, out: &mut [u
 }
 
 fn run2(s: &[u8], from: usize, step: usize, n: usize, little: bool, out: &mut [u64], at: usize)
-    requires { ⌜ Within (length (now s)) from step n 2 ⌝ }
+    requires { ⌜ InFile (length (now s)) from step n 2 ⌝ }
     requires { ⌜ at + n ≤ length (now out) ⌝ }
     ensures { λ _. ⌜ now (out .exit) ≡ sets (now (out .entry)) at (spaced «little» 2 (now (s .entry)) step from n) ⌝ }
 {
@@ -125,7 +114,7 @@ fn run2(s: &[u8], from: usize, step: usize, n: usize, little: bool, out: &mut [u
 }
 
 fn run4(s: &[u8], from: usize, step: usize, n: usize, little: bool, out: &mut [u64], at: usize)
-    requires { ⌜ Within (length (now s)) from step n 4 ⌝ }
+    requires { ⌜ InFile (length (now s)) from step n 4 ⌝ }
     requires { ⌜ at + n ≤ length (now out) ⌝ }
     ensures { λ _. ⌜ now (out .exit) ≡ sets (now (out .entry)) at (spaced «little» 4 (now (s .entry)) step from n) ⌝ }
 {
@@ -141,7 +130,7 @@ fn run4(s: &[u8], from: usize, step: usize, n: usize, little: bool, out: &mut [u
 }
 
 fn run8(s: &[u8], from: usize, step: usize, n: usize, little: bool, out: &mut [u64], at: usize)
-    requires { ⌜ Within (length (now s)) from step n 8 ⌝ }
+    requires { ⌜ InFile (length (now s)) from step n 8 ⌝ }
     requires { ⌜ at + n ≤ length (now out) ⌝ }
     ensures { λ _. ⌜ now (out .exit) ≡ sets (now (out .entry)) at (spaced «little» 8 (now (s .entry)) step from n) ⌝ }
 {
@@ -168,7 +157,7 @@ fn run(
     at: usize,
 )
     requires { ⌜ Wide w ⌝ }
-    requires { ⌜ Within (length (now s)) from step n w ⌝ }
+    requires { ⌜ InFile (length (now s)) from step n w ⌝ }
     requires { ⌜ at + n ≤ length (now out) ⌝ }
     ensures { λ _. ⌜ now (out .exit) ≡ sets (now (out .entry)) at (spaced «little» w (now (s .entry)) step from n) ⌝ }
 {
@@ -269,7 +258,7 @@ pub enum Read {
 
 // The bits of a channel's samples from number `first` on, at the front of the buffer: as many as fit or there are.
 pub fn samples(s: &[u8], frame: u32, channel: u32, first: u64, out: &mut [u64]) -> Read
-    ensures { λ r. ⌜ readSays r ≡ mapAnswer length (readOf (now (s .entry)) frame channel first (length (now (out .entry)))) ⌝ }
+    ensures { λ r. ⌜ readSays r ≡ countRead (now (s .entry)) frame channel first (length (now (out .entry))) ⌝ }
     ensures { λ _. ⌜ now (out .exit) ≡ leftBy (readOf (now (s .entry)) frame channel first (length (now (out .entry)))) (now (out .entry)) ⌝ }
 {
     match reader::place(s, frame, channel, first) {

@@ -5,10 +5,10 @@
 // Read first: specs/Answers.antt; each function is thin over the crate that has its meaning.
 ghost use mathlib.Core.Path.{_≡_};
 ghost use Rattle.values.specs.Sample.{valueSays};
-ghost use Rattle.heads.specs.Answer.{mapAnswer, leftBy};
+ghost use Rattle.heads.specs.Answer.{leftBy};
 ghost use Rattle.pass.specs.Verdict.{checkOf};
 ghost use Rattle.reader.specs.Answer.{attributesOf, sampleOf};
-ghost use Rattle.bulk.specs.Samples.{readOf};
+ghost use Rattle.bulk.specs.Samples.{readOf, countRead};
 ghost use Rattle.mfer.specs.Answers.{outputs, countOut, CanonicalOut, numbersOf, bitPairOf, attributesValues, attributesOut, sampleValues, sampleOut};
 ghost use lib.ListN.{length};
 use bulk::Read;
@@ -183,7 +183,7 @@ pub extern "C" fn mfer_samples(
     count: &mut u64,
     place: &mut u64,
 ) -> u32
-    ensures { λ r. ⌜ outputs r (now (place .exit)) (now (count .exit)) ≡ countOut (mapAnswer length (readOf (now (file .entry)) frame channel first (length (now (out .entry))))) ⌝ }
+    ensures { λ r. ⌜ outputs r (now (place .exit)) (now (count .exit)) ≡ countOut (countRead (now (file .entry)) frame channel first (length (now (out .entry)))) ⌝ }
     ensures { λ _. ⌜ now (out .exit) ≡ leftBy (readOf (now (file .entry)) frame channel first (length (now (out .entry)))) (now (out .entry)) ⌝ }
 {
     match bulk::samples(file, frame, channel, first, out) {

@@ -23,7 +23,7 @@ use lib.Seq.{drop-cons, drop-length, getD-drop, take-all, take-nil}
 use mir.Syntax.{Width}
 use mir.Val.{bits, hbits, toZ}
 use mir.Facts.{toZ-pos, toZ-neg}
-use Rattle.octets.specs.Number.{range, bigFrom, littleOf, numberOf, twos, Read}
+use Rattle.octets.specs.Number.{range, bigFrom, littleOf, numberOf, twos, NumberRead}
 
 -- What lies past the end is not there, so a part is at most as long as asked for.
 module _ (s : List ℕ) (at n : ℕ) where
@@ -57,7 +57,7 @@ pub drop-octets : (n : ℕ) (s : List ℕ) → ((i : ℕ) → getD s i 0 < 256) 
 drop-octets n s h i = rw getD-drop (h (n + i))
 
 -- Octets that are no more than eight are all looked at.
-pub read-all : (little : Bool) (x : List ℕ) (n : ℕ) → length x ≤ 8 → Read little (take 8 x) n → Read little x n
+pub read-all : (little : Bool) (x : List ℕ) (n : ℕ) → length x ≤ 8 → NumberRead little (take 8 x) n → NumberRead little x n
 read-all little x n h r = rw (take-all 8 x h) at r
 
 -- One octet more.
@@ -156,7 +156,7 @@ unfolding twos
 twos-high W w n x h f e = ap (toZ W) e ∙ toZ-neg W (range w - suc n) f ∙ simp (le-ltb _ _ h)
 
 -- The number of a part of at most eight octets, as it was read.
-module _ (little : Bool) (n : ℕ) (v x : List ℕ) {r : ℕ} (h : n ≤ 8) (e : x ≡ take n v) (q : Read little (take 8 x) r) where
+module _ (little : Bool) (n : ℕ) (v x : List ℕ) {r : ℕ} (h : n ≤ 8) (e : x ≡ take n v) (q : NumberRead little (take 8 x) r) where
   pub part-read : r ≡ numberOf little (take n v)
   part-read = read-all little x r (le-trans (part-short n v x e) h) q .value ∙ ap (numberOf little) e
 

@@ -11,7 +11,7 @@ use native.Mathlib.Numerals.{add-one}
 use native.Mathlib.Omega.{arith}
 use lib.ListN.{length, getD, take, drop}
 use lib.Seq.{drop-cons, take-all}
-use Rattle.octets.specs.Number.{bigFrom, littleOf, numberOf, Read}
+use Rattle.octets.specs.Number.{bigFrom, littleOf, numberOf, NumberRead}
 use Rattle.octets.proofs.Laws.{number-one, number-below}
 
 -- w octets from the i-th after a place on. It computes to the places that the code reads.
@@ -36,14 +36,14 @@ unfolding numberOf bigFrom
 first-octet a xs = ap (λ (n : ℕ). bigFrom n xs) (omega arith)
 
 -- Lowest octet first is highest octet first from the back.
-turned : (xs r : List ℕ) → bigFrom 0 (reverseAux xs r) ≡ bigFrom (littleOf xs) r
+little-reversed : (xs r : List ℕ) → bigFrom 0 (reverseAux xs r) ≡ bigFrom (littleOf xs) r
 unfolding bigFrom littleOf
-turned [] r = refl
-turned (x ∷ xs) r = turned xs (x ∷ r)
+little-reversed [] r = refl
+little-reversed (x ∷ xs) r = little-reversed xs (x ∷ r)
 
 from-back : (xs : List ℕ) → numberOf false (reverse xs) ≡ numberOf true xs
 unfolding numberOf bigFrom
-from-back xs = turned xs []
+from-back xs = little-reversed xs []
 
 pub here-one : (little : Bool) (s : List ℕ) (at : ℕ) {r : ℕ} → at + 1 ≤ length s → r ≡ getD s at 0 → r ≡ numberOf little (take 1 (drop at s))
 here-one little s at h f = f ∙ sym (number-one little _) ∙ ap (numberOf little) (sym (taken s at 0 h))
@@ -57,7 +57,7 @@ module _ (w : ℕ) (s : List ℕ) (at : ℕ) {little : Bool} {r : ℕ} (h : at +
 
 -- Octets that are no more than eight have the number of their first eight.
 pub first-read : (little : Bool) (w : ℕ) (s : List ℕ) {r : ℕ} →
-    length s ≡ w → w ≤ 8 → ((i : ℕ) → getD s i 0 < 256) → r ≡ numberOf little (take w s) → Read little (take 8 s) r
+    length s ≡ w → w ≤ 8 → ((i : ℕ) → getD s i 0 < 256) → r ≡ numberOf little (take w s) → NumberRead little (take 8 s) r
 first-read little w s e h o q =
     let v = q ∙ ap (numberOf little) (take-all w s (omega arith)) in
     rw (take-all 8 s (omega arith)) (record { value = v; below = rw v (number-below little s o) })

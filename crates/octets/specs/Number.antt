@@ -2,7 +2,7 @@
 use mathlib.Core.Path.{_≡_}
 use mathlib.Core.List.{List, [], _∷_}
 use mathlib.Core.Bool.{Bool, true, false}
-use Prim.Native.Nat.{ℕ, suc, _+_, _*_, _-_, _^_, _<_}
+use Prim.Native.Nat.{ℕ, suc, _+_, _*_, _-_, _%_, _^_, _<_}
 use lib.Dec.{ltb}
 use lib.IntN.{ℤ, pos, negsuc}
 use lib.ListN.{length, getD}
@@ -15,6 +15,10 @@ Octets v = (i : ℕ) → i < length v → getD v i 0 < 256
 -- How many numbers w octets tell apart.
 abbrev pub range : ℕ → ℕ
 range w = 256 ^ w
+
+-- The number of the lowest w octets of a number.
+abbrev pub lowOf : ℕ → ℕ → ℕ
+lowOf w n = n % range w
 
 -- The number of octets that stand highest first, after those whose number is acc.
 unfoldable pub bigFrom : ℕ → List ℕ → ℕ
@@ -40,6 +44,6 @@ unfoldable pub signedOf : Bool → List ℕ → ℤ
 signedOf little s = twos (length s) (numberOf little s)
 
 -- A number that was read: which one it is, and that it is one of its width.
-pub record Read (little : Bool) (s : List ℕ) (r : ℕ) : Type 0 where
+pub record NumberRead (little : Bool) (s : List ℕ) (r : ℕ) : Type 0 where
   pub value : r ≡ numberOf little s
   pub below : r < range (length s)

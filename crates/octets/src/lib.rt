@@ -3,12 +3,12 @@
 // For the crates that read items, attributes and samples: none of them turns octets into numbers by itself.
 // Promises: each public function answers for every input and its whole answer is a definition of specs/. What lies past
 // the end is not there, and octets past the eighth (of a signed number, the fourth) are not looked at.
-// Read first: specs/Number.antt; then the laws of proofs/Laws.antt and proofs/Octets.antt, which callers cite.
+// NumberRead first: specs/Number.antt; then the laws of proofs/Laws.antt and proofs/Octets.antt, which callers cite.
 ghost use mathlib.Core.Path.{_≡_};
 ghost use mathlib.Core.Bool.{true, false};
-ghost use Prim.Native.Nat.{_+_, _*_, _<_, _≤_};
+ghost use Prim.Native.Nat.{_+_, _*_, _<_, _≤_, min};
 ghost use lib.ListN.{length, take, drop};
-ghost use Rattle.octets.specs.Number.{range, numberOf, twos, signedOf, Read};
+ghost use Rattle.octets.specs.Number.{range, lowOf, numberOf, twos, signedOf, NumberRead};
 
 // The octets of s from at on, at most n.
 pub fn part(s: &[u8], at: usize, n: usize) -> &[u8]
@@ -35,7 +35,7 @@ fn wide(b: u8) -> u64
 // Highest octet first.
 fn big_endian(s: &[u8]) -> u64
     requires { ⌜ length (now s) ≤ 8 ⌝ }
-    ensures { λ r. ⌜ Read false (now (s .entry)) r ⌝ }
+    ensures { λ r. ⌜ NumberRead false (now (s .entry)) r ⌝ }
 {
     let mut n = 0u64;
     let mut i = 0usize;
@@ -49,7 +49,7 @@ fn big_endian(s: &[u8]) -> u64
 // Lowest octet first.
 fn little_endian(s: &[u8]) -> u64
     requires { ⌜ length (now s) ≤ 8 ⌝ }
-    ensures { λ r. ⌜ Read true (now (s .entry)) r ⌝ }
+    ensures { λ r. ⌜ NumberRead true (now (s .entry)) r ⌝ }
 {
     let mut n = 0u64;
     let mut i = s.len();
@@ -60,14 +60,15 @@ fn little_endian(s: &[u8]) -> u64
     n
 }
 
-// The number of octets, highest first.
-fn two_octets(a: u8, b: u8) -> u64
+// The number of two octets, the highest first.
+pub fn two_octets(a: u8, b: u8) -> u64
     ensures { λ r. ⌜ r ≡ a * 256 + b ⌝ }
 {
     a as u64 * 256 + b as u64
 }
 
-fn four_octets(a: u8, b: u8, c: u8, d: u8) -> u64
+// The same of four octets.
+pub fn four_octets(a: u8, b: u8, c: u8, d: u8) -> u64
     ensures { λ r. ⌜ r ≡ ((a * 256 + b) * 256 + c) * 256 + d ⌝ }
 {
     ((a as u64 * 256 + b as u64) * 256 + c as u64) * 256 + d as u64
@@ -75,7 +76,7 @@ fn four_octets(a: u8, b: u8, c: u8, d: u8) -> u64
 
 // The number of the first eight octets. Octets of a common width are read with no loop.
 pub fn number(s: &[u8], little: bool) -> u64
-    ensures { λ r. ⌜ Read «little» (take 8 (now (s .entry))) r ⌝ }
+    ensures { λ r. ⌜ NumberRead «little» (take 8 (now (s .entry))) r ⌝ }
 {
     if s.len() == 1 {
         return wide(s[0]);
@@ -122,10 +123,20 @@ pub fn four(s: &[u8], little: bool) -> u32
 
 // How many numbers w octets tell apart.
 fn span(w: usize) -> u64
-    requires { ⌜ w ≤ 4 ⌝ }
-    ensures { λ r. ⌜ (r ≡ range w) × (r ≤ 4294967296) ⌝ }
+    requires { ⌜ w < 8 ⌝ }
+    ensures { λ r. ⌜ r ≡ range w ⌝ }
 {
     1 << (8 * w)
+}
+
+// The number of the lowest w octets of a number.
+pub fn lowest(n: u64, w: usize) -> u64
+    ensures { λ r. ⌜ r ≡ lowOf w n ⌝ }
+{
+    if 8 <= w {
+        return n;
+    }
+    n % span(w)
 }
 
 // Two's complement at w octets: the sign is carried up from the top octet.
@@ -139,6 +150,21 @@ fn extended(n: u64, w: usize) -> i32
     } else {
         !((full - 1 - n) as i32)
     }
+}
+
+// A width of at most four octets.
+fn at_most_four(w: usize) -> usize
+    ensures { λ r. ⌜ r ≡ min w 4 ⌝ }
+{
+    if w < 4 { w } else { 4 }
+}
+
+// Two's complement at the lowest w octets of a number, at most four.
+pub fn lowest_signed(n: u64, w: usize) -> i32
+    ensures { λ r. ⌜ r ≡ twos (min w 4) (lowOf (min w 4) n) ⌝ }
+{
+    let k = at_most_four(w);
+    extended(lowest(n, k), k)
 }
 
 // The signed number of the first four octets.

@@ -19,10 +19,10 @@ use Rattle.octets.specs.Pick.{pick}
 use Rattle.heads.specs.declared.Refusal.{Refusal}
 use Rattle.heads.specs.Refusals.{noFrame, noChannel, noSample}
 use Rattle.heads.specs.Answer.{Answer, answered, refusedAs, refusedBy, mapAnswer}
-use Rattle.octets.specs.Number.{numberOf, Read}
-use Rattle.octets.proofs.Laws.{part-read}
-use Rattle.values.specs.Sample.{Said, widthOf, valueOf}
-use Rattle.values.proofs.Laws.{width-le}
+use Rattle.octets.specs.Number.{numberOf, NumberRead}
+use Rattle.octets.proofs.Laws.{part-read, part-fits}
+use Rattle.values.specs.Sample.{Said, widthOf, valueOf, lowBits}
+use Rattle.values.proofs.Laws.{width-le, low-bits}
 use Rattle.layout.specs.Frame.{Frame, reported, channelIn, samplesOf, offsetOf, placeOf}
 use Rattle.reader.specs.declared.Attributes.{Attributes}
 use Rattle.reader.specs.declared.LookedUp.{LookedUp}
@@ -302,7 +302,7 @@ module _ (s : List ℕ) (frame channel n : ℕ) where
 
 -- The sample that lies at the place that was found, of the octets x there.
 pub sample-at : (s : List ℕ) (frame channel n : ℕ) {p width bits : ℕ} {w : View} {x : List ℕ} {value : Said} {r : Placed} → placedSays r ≡ placedOf s frame channel n → r ≡ At p w
-    → width ≡ widthOf (w .settings .kind) → x ≡ take width (drop p s) → Read (w .little) (take 8 x) bits → value ≡ valueOf (w .settings .kind) (w .settings .null) bits
+    → width ≡ widthOf (w .settings .kind) → x ≡ take width (drop p s) → NumberRead (w .little) (take 8 x) bits → value ≡ valueOf (w .settings .kind) (w .settings .null) (lowBits (w .settings .kind) bits)
     → answered (foundSample p bits value) ≡ sampleOf s frame channel n
 unfolding sampleOf sampleIn
 sample-at s frame channel n {p} {width} {bits} {w} {x} e f ew ex er ev =
@@ -310,9 +310,10 @@ sample-at s frame channel n {p} {width} {bits} {w} {x} e f ew ex er ev =
     let l = m .channelAt in
     let place : p ≡ placeOf channel n (frameIn l) = m .place ∙ place-is l n in
     let c = settings-seen l in
-    let read : bits ≡ numberOf (w .little) (take (widthOf (w .settings .kind)) (drop p s)) = part-read (w .little) (widthOf (w .settings .kind)) (drop p s) x (width-le (w .settings .kind)) (rw ew at ex) er in
+    let read = part-read (w .little) (widthOf (w .settings .kind)) (drop p s) x (width-le (w .settings .kind)) (rw ew at ex) er in
+    let all = low-bits (w .settings .kind) bits (part-fits (w .little) (widthOf (w .settings .kind)) (drop p s) x (width-le (w .settings .kind)) (rw ew at ex) er) in
     let b : bits ≡ sampleBits (frameIn l) channel n = read ∙ ap (λ (k : ℕ). numberOf (w .little) (take (widthOf (w .settings .kind)) (drop k s))) (m .place) ∙ bits-seen l (m .number) in
-    let v = ev ∙ (λ j. valueOf (c j .kind) (c j .null) (b j)) in
+    let v = ev ∙ ap (valueOf (w .settings .kind) (w .settings .null)) all ∙ (λ j. valueOf (c j .kind) (c j .null) (b j)) in
     (λ j. answered (foundSample (place j) (b j) (v j)))
     ∙ sym (sample-found frame channel (l .verdictIs) (l .frameIn) (l .channelIs) (sampleIn channel n) (omega (arith, count-seen l, m .number)))
 

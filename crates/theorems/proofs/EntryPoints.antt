@@ -17,7 +17,7 @@ use Rattle.pass.specs.Verdict.{Verdict, refused, verdict, checkedAs, checkOf}
 use Rattle.reader.specs.Answer.{attributesOf, sampleOf, seenOf, placedOf}
 use Rattle.reader.proofs.Order.{asked-refused}
 use Rattle.canonical.specs.Write.{outputIn, writtenOf, leftOf, Wrote}
-use Rattle.bulk.specs.Samples.{readOf}
+use Rattle.bulk.specs.Samples.{readOf, countRead}
 use Rattle.mfer.specs.Answers.{Outputs, outputs, handedOut, countOut, CanonicalOut, zeroAttributes, attributesOut, zeroSample, sampleOut}
 
 -- ---- a refused file
@@ -63,7 +63,7 @@ pub record HandedOut (s : List ℕ) : Type 0 where
   pub check : HandedExactly (countOut (checkOf s)) 0 (checkOf s)
   pub attributes : (i c : ℕ) → HandedExactly (attributesOut (attributesOf s i c)) zeroAttributes (attributesOf s i c)
   pub sample : (i c n : ℕ) → HandedExactly (sampleOut (sampleOf s i c n)) zeroSample (sampleOf s i c n)
-  pub samples : (i c n room : ℕ) → HandedExactly (countOut (mapAnswer length (readOf s i c n room))) 0 (mapAnswer length (readOf s i c n room))
+  pub samples : (i c n room : ℕ) → HandedExactly (countOut (countRead s i c n room)) 0 (countRead s i c n room)
   pub canonical : (d : List ℕ) → HandedExactly (countOut (writtenOf s d)) 0 (writtenOf s d)
 
 pub handed-out : (s : List ℕ) → HandedOut s
@@ -72,7 +72,7 @@ handed-out s =
       check = handed-exactly _ _ _ (checkOf s);
       attributes = λ i c. handed-exactly _ _ _ (attributesOf s i c);
       sample = λ i c n. handed-exactly _ _ _ (sampleOf s i c n);
-      samples = λ i c n room. handed-exactly _ _ _ (mapAnswer length (readOf s i c n room));
+      samples = λ i c n room. handed-exactly _ _ _ (countRead s i c n room);
       canonical = λ d. handed-exactly _ _ _ (writtenOf s d);
     }
 
@@ -97,8 +97,8 @@ handed-refusal (refusedAs number place) h = (number, place, refl)
 pub record BuffersKept (s d : List ℕ) : Type 0 where
   pub canonical : (number place : ℕ) (left : List ℕ) → Wrote s d (refusedAs number place) left → left ≡ d
   pub canonicalOut : (out : Outputs ℕ) (left : List ℕ) → CanonicalOut s d out left → 0 < out .refusal → left ≡ d
-  pub samples : (i c n number place : ℕ) → mapAnswer length (readOf s i c n (length d)) ≡ refusedAs number place → leftBy (readOf s i c n (length d)) d ≡ d
-  pub samplesOut : (i c n : ℕ) → 0 < countOut (mapAnswer length (readOf s i c n (length d))) .refusal → leftBy (readOf s i c n (length d)) d ≡ d
+  pub samples : (i c n number place : ℕ) → countRead s i c n (length d) ≡ refusedAs number place → leftBy (readOf s i c n (length d)) d ≡ d
+  pub samplesOut : (i c n : ℕ) → 0 < countOut (countRead s i c n (length d)) .refusal → leftBy (readOf s i c n (length d)) d ≡ d
 
 module _ (s d : List ℕ) where
   -- By the writer's answer.
@@ -107,10 +107,11 @@ module _ (s d : List ℕ) where
   written-kept number place left a l = l ∙ refusal-keeps (outputIn d (verdict s)) d number place a
 
   pub buffers-kept : BuffersKept s d
+  unfolding countRead
   buffers-kept =
       record {
         canonical = λ number place left w. written-kept number place left (sym (w .answers)) (w .leaves);
         canonicalOut = λ out left w h. let r = handed-refusal (writtenOf s d) (rw (w .answers) at h) in written-kept (r .0) (r .1) left (r .2) (w .leaves);
         samples = λ i c n number place e. refusal-keeps (readOf s i c n (length d)) d number place e;
-        samplesOut = λ i c n h. let r = handed-refusal (mapAnswer length (readOf s i c n (length d))) h in refusal-keeps (readOf s i c n (length d)) d (r .0) (r .1) (r .2);
+        samplesOut = λ i c n h. let r = handed-refusal (countRead s i c n (length d)) h in refusal-keeps (readOf s i c n (length d)) d (r .0) (r .1) (r .2);
       }

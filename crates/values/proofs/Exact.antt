@@ -18,7 +18,7 @@ use Rattle.values.specs.declared.Bits.{Bits}
 use Rattle.values.specs.declared.Value.{Value}
 use Rattle.values.specs.declared.Value.the-variants.{Whole, Status, Single, Double, NotNumber, Null}
 use Rattle.values.proofs.Laws.{kind-cases, plain-other}
-use Rattle.values.specs.Sample.{Said, wholeSaid, nullSaid, valueSays, singleOf, doubleOf, plainOf, isNull, lowBits, valueOf}
+use Rattle.values.specs.Sample.{Said, wholeSaid, nullSaid, valueSays, singleOf, doubleOf, plainOf, isNull, valueOf}
 
 -- ---- what a value says
 
@@ -74,21 +74,21 @@ plain-has k n =
 
 module _ (kind : ℕ) (null : Bits) (bits : ℕ) where
   -- A value that is neither whole nor null.
-  pub value-bits : 0 < valueOf kind null bits .kind → valueOf kind null bits .kind < 5 → valueOf kind null bits .bits ≡ lowBits kind bits
+  pub value-bits : 0 < valueOf kind null bits .kind → valueOf kind null bits .kind < 5 → valueOf kind null bits .bits ≡ bits
   unfolding valueOf
   value-bits =
-      pick-cases (λ (x : Said). 0 < x .kind → x .kind < 5 → x .bits ≡ lowBits kind bits) (isNull null (lowBits kind bits))
+      pick-cases (λ (x : Said). 0 < x .kind → x .kind < 5 → x .bits ≡ bits) (isNull null bits)
       (λ t l h. let z : ⊥ = omega arith in absurd z)
-      (λ t l h. plain-has kind (lowBits kind bits) .1 l)
+      (λ t l h. plain-has kind bits .1 l)
 
   -- Null is answered where the sample's bits are null's, and nowhere else.
-  pub null-first : isNull null (lowBits kind bits) ≡ true → valueOf kind null bits ≡ nullSaid
+  pub null-first : isNull null bits ≡ true → valueOf kind null bits ≡ nullSaid
   unfolding valueOf
   null-first h = rw h
 
-  pub null-only : valueOf kind null bits .kind ≡ 5 → isNull null (lowBits kind bits) ≡ true
+  pub null-only : valueOf kind null bits .kind ≡ 5 → isNull null bits ≡ true
   unfolding valueOf
   null-only =
-      pick-cases (λ (x : Said). x .kind ≡ 5 → isNull null (lowBits kind bits) ≡ true) (isNull null (lowBits kind bits))
+      pick-cases (λ (x : Said). x .kind ≡ 5 → isNull null bits ≡ true) (isNull null bits)
       (λ t e. t)
-      (λ t e. let z : ⊥ = omega (arith, plain-has kind (lowBits kind bits) .0) in absurd z)
+      (λ t e. let z : ⊥ = omega (arith, plain-has kind bits .0) in absurd z)

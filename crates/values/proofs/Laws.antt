@@ -102,12 +102,12 @@ pub low-below : (k n : ℕ) → lowBits k n < range (widthOf k)
 low-below k n = mod-lt n (range-pos (widthOf k))
 
 -- Null comes first: it is defined and its bits are the sample's, or the data type decides.
-module _ (k bits n : ℕ) (u : Bits) (e : n ≡ lowBits k bits) where
-  pub null-yes : (u .width ≡ 0 → ⊥) → u .bits ≡ n → nullSaid ≡ valueOf k u bits
+module _ (k n : ℕ) (u : Bits) where
+  pub null-yes : (u .width ≡ 0 → ⊥) → u .bits ≡ n → nullSaid ≡ valueOf k u n
   unfolding valueOf isNull
-  null-yes h q = rw (← e) (simp (ne-eqb _ _ h, eq-eqb _ _ q))
+  null-yes h q = simp (ne-eqb _ _ h, eq-eqb _ _ q)
 
-  pub null-no : (u .width ≡ 0) ⊎ (u .bits ≡ n → ⊥) → plainOf k n ≡ valueOf k u bits
+  pub null-no : (u .width ≡ 0) ⊎ (u .bits ≡ n → ⊥) → plainOf k n ≡ valueOf k u n
   unfolding valueOf isNull
-  null-no (inl h) = rw (← e) (simp (eq-eqb _ _ h))
-  null-no (inr h) = rw (← e) (simp (ne-eqb _ _ h, both-false))
+  null-no (inl h) = simp (eq-eqb _ _ h)
+  null-no (inr h) = simp (ne-eqb _ _ h, both-false)

@@ -1,12 +1,12 @@
 -- The value of a sample: "Octets per sample by type", and the six kinds of "Frames and samples".
 use mathlib.Core.Bool.{Bool, not}
 use mathlib.Core.List.{[], _∷_}
-use Prim.Native.Nat.{ℕ, _%_}
+use Prim.Native.Nat.{ℕ}
 use lib.Dec.{eqb}
 use lib.IntN.{ℤ, pos}
 use lib.Ieee.{binary32, binary64, toBits, nanBits}
 use lib.ListN.{getD}
-use Rattle.octets.specs.Number.{range, twos}
+use Rattle.octets.specs.Number.{lowOf, twos}
 use Rattle.octets.specs.Pick.{pick, both}
 use Rattle.values.specs.declared.Bits.{Bits}
 use Rattle.values.specs.declared.Value.{Value}
@@ -73,10 +73,10 @@ plainOf kind n =
 unfoldable pub isNull : Bits → ℕ → Bool
 isNull null n = both (not (eqb (null .width) 0)) (eqb (null .bits) n)
 
--- The lowest bits, as many as a sample of a data type has.
-abbrev pub lowBits : ℕ → ℕ → ℕ
-lowBits kind bits = bits % range (widthOf kind)
-
 -- The value of a sample's bits: null comes first, then the data type decides.
 unfoldable pub valueOf : ℕ → Bits → ℕ → Said
-valueOf kind null bits = pick (isNull null (lowBits kind bits)) nullSaid (plainOf kind (lowBits kind bits))
+valueOf kind null bits = pick (isNull null bits) nullSaid (plainOf kind bits)
+
+-- Of a number that is wider than a sample of a data type, the bits that such a sample has: the lowest.
+abbrev pub lowBits : ℕ → ℕ → ℕ
+lowBits kind bits = lowOf (widthOf kind) bits

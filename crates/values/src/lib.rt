@@ -44,24 +44,12 @@ pub fn width(kind: u8) -> usize
     }
 }
 
-// How many numbers w octets tell apart.
-fn range_of(w: usize) -> u64
-    requires { ⌜ w < 8 ⌝ }
-    ensures { λ r. ⌜ r ≡ range w ⌝ }
-{
-    1 << (8 * w)
-}
-
 // A whole number with a sign, of w octets.
 fn whole(n: u64, w: usize) -> Value
     requires { ⌜ (w ≤ 4) × (n < range w) ⌝ }
     ensures { λ r. ⌜ valueSays r ≡ wholeSaid (twos w n) ⌝ }
 {
-    let full = range_of(w);
-    if 2 * n < full {
-        return Value::Whole(n as i64);
-    }
-    Value::Whole(!((full - 1 - n) as i64))
+    Value::Whole(octets::lowest_signed(n, w) as i64)
 }
 
 // A whole number without a sign.
@@ -108,22 +96,11 @@ fn plain(kind: u8, n: u64) -> Value
     }
 }
 
-// The lowest bits, as many as a sample of a data type has.
-fn low_bits(bits: u64, kind: u8) -> u64
-    ensures { λ r. ⌜ r ≡ lowBits kind bits ⌝ }
-{
-    let w = width(kind);
-    if w == 8 {
-        return bits;
-    }
-    bits % range_of(w)
-}
-
 // The value of a sample's bits; bits above its width are not looked at.
 pub fn sample_value(bits: u64, kind: u8, null: Bits) -> Value
-    ensures { λ r. ⌜ valueSays r ≡ valueOf kind null bits ⌝ }
+    ensures { λ r. ⌜ valueSays r ≡ valueOf kind null (lowBits kind bits) ⌝ }
 {
-    let n = low_bits(bits, kind);
+    let n = octets::lowest(bits, width(kind));
     if null.width != 0 {
         if null.bits == n {
             return Value::Null;

@@ -1,6 +1,6 @@
 -- By the width: each has its loop.
 use mathlib.Core.Path.{subst}
-use Rattle.bulk.specs.Walked.{Within}
+use Rattle.bulk.specs.Walked.{InFile}
 use Rattle.bulk.proofs.Walks.{wide-eight}
 use borrow.Author.Needs.{needs}
 use Rattle.bulk.proofs.run.Statement.{statement}
@@ -9,7 +9,7 @@ use Rattle.bulk.proofs.run.Tie as tie
 run1-requires : tie.Need-run1-requires
 run1-requires c κs =
     let at-start = c .before .before .before .before in
-    (subst (Within _ _ _ _) (c .before .if1 .taken) (at-start .pre .1 .0), at-start .pre .1 .1)
+    (subst (InFile _ _ _ _) (c .before .if1 .taken) (at-start .pre .1 .0), at-start .pre .1 .1)
 
 same-length : tie.Need-same-length
 same-length c = search needs
@@ -20,7 +20,7 @@ returns c = rw (c .before .before .before .before .if1 .taken) (c .before .befor
 run2-requires : tie.Need-run2-requires
 run2-requires c κs =
     let at-start = c .before .before .before .before .before in
-    (subst (Within _ _ _ _) (c .before .if2 .taken) (at-start .pre .1 .0), at-start .pre .1 .1)
+    (subst (InFile _ _ _ _) (c .before .if2 .taken) (at-start .pre .1 .0), at-start .pre .1 .1)
 
 same-length-2 : tie.Need-same-length-2
 same-length-2 c = search needs
@@ -31,7 +31,7 @@ returns-2 c = rw (c .before .before .before .before .if2 .taken) (c .before .bef
 run4-requires : tie.Need-run4-requires
 run4-requires c κs =
     let at-start = c .before .before .before .before .before .before in
-    (subst (Within _ _ _ _) (c .before .if3 .taken) (at-start .pre .1 .0), at-start .pre .1 .1)
+    (subst (InFile _ _ _ _) (c .before .if3 .taken) (at-start .pre .1 .0), at-start .pre .1 .1)
 
 same-length-3 : tie.Need-same-length-3
 same-length-3 c = search needs
@@ -44,7 +44,7 @@ run8-requires c κs =
     let at-if2 = c .before .before in
     let at-if1 = at-if2 .before in
     let at-start = at-if1 .before .before .before in (
-      subst (Within _ _ _ _) (wide-eight (at-start .pre .0) (at-if1 .if1 .left) (at-if2 .if2 .left) (c .before .if3 .left)) (at-start .pre .1 .0),
+      subst (InFile _ _ _ _) (wide-eight (at-start .pre .0) (at-if1 .if1 .left) (at-if2 .if2 .left) (c .before .if3 .left)) (at-start .pre .1 .0),
       at-start .pre .1 .1,
     )
 

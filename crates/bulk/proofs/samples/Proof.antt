@@ -4,6 +4,7 @@ use Prim.Native.Nat.{_≤_}
 use native.Mathlib.Nat.{mul-le-mul}
 use native.Mathlib.Omega.{arith}
 use lib.Seq.{sets}
+use Rattle.bulk.specs.Samples.{countRead}
 use Rattle.bulk.specs.Walked.{Wide}
 use lib.ListN.{length}
 use Rattle.heads.specs.Answer.{answered, mapAnswer}
@@ -68,6 +69,7 @@ fill-requires c κs =
     (wide, (in-blocks m _ (c .before .before .before .width .ensures) _ (omega (arith, c .before .fitting .ensures)), omega (arith, c .before .fitting .ensures)))
 
 returns : tie.Need-returns
+unfolding countRead
 returns c =
     let e = read-refused _ _ _ _ _ (c .before .before .before .place .ensures) (c .before .x .given .1) in
     (ap (mapAnswer length) e, kept _ e)
@@ -76,6 +78,7 @@ same-length : tie.Need-same-length
 same-length c = search needs
 
 returns-2 : tie.Need-returns-2
+unfolding countRead
 returns-2 c =
     let m = placed-at _ _ _ _ (c .before .before .before .before .before .before .before .before .before .before .before .before .place .ensures) (c .before .before .before .before .before .before .before .before .before .before .at .given .1) in
     let e = read-samples _ _ _ _ _ m (c .before .before .before .before .fitting .ensures) in

@@ -1,6 +1,6 @@
 -- Each way out is a law of the length field, by its first octet.
 use Rattle.octets.proofs.Laws.{read-all, part-short}
-use Rattle.octets.specs.Number.{bigFrom, numberOf, Read}
+use Rattle.octets.specs.Number.{bigFrom, numberOf, NumberRead}
 use Rattle.heads.specs.declared.Length.the-variants.{Known}
 use Prim.Native.Nat.{ℕ, _+_, _-_, _≤_}
 use mathlib.Core.List.{List}
@@ -53,7 +53,7 @@ number-requires c κs = search needs
 add-t5 : tie.Need-add-t5
 add-t5 c = search needs
 
-read-is : (u v : List ℕ) (n r : ℕ) → n ≤ 4 → v ≡ take n (drop 1 u) → Read false (take 8 v) r → Known r (n + 1) ≡ Known (bigFrom 0 (take n (drop 1 u))) (n + 1)
+read-is : (u v : List ℕ) (n r : ℕ) → n ≤ 4 → v ≡ take n (drop 1 u) → NumberRead false (take 8 v) r → Known r (n + 1) ≡ Known (bigFrom 0 (take n (drop 1 u))) (n + 1)
 unfolding numberOf
 read-is u v n r h e q = ap (λ (k : ℕ). Known k (n + 1)) (read-all false v r (omega (arith, part-short n (drop 1 u) v e)) q .value ∙ ap (numberOf false) e)
 

@@ -5,7 +5,7 @@ use mathlib.Core.Path.{_∙_}
 use native.Mathlib.Omega.{arith}
 use lib.ListN.{length}
 use mir.Facts.{toZ-ofZ}
-use Rattle.octets.specs.Number.{signedOf, Read}
+use Rattle.octets.specs.Number.{signedOf, NumberRead}
 use Rattle.octets.proofs.Laws.{part-short, read-all}
 use borrow.Author.Needs.{needs}
 use Rattle.octets.proofs.signed.Statement.{statement}
@@ -15,7 +15,7 @@ use Rattle.octets.proofs.signed.Tie as tie
 short : (c : tie.After-number) → length (c .before .part .result .now) ≤ 4
 short c = part-short 4 (c .before .before .before .args .s .now) _ (c .before .part .ensures)
 
-all : (c : tie.After-number) → Read (c .before .before .before .args .little) (c .before .part .result .now) (c .number .result)
+all : (c : tie.After-number) → NumberRead (c .before .before .before .args .little) (c .before .part .result .now) (c .number .result)
 all c = read-all _ _ _ (omega (arith, short c)) (c .number .ensures)
 
 part-requires : tie.Need-part-requires

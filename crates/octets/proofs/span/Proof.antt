@@ -15,8 +15,8 @@ shl-result c = search needs
 
 returns : tie.Need-returns
 returns c =
-    let e : 8 * c .args .w ≤ 32 = omega arith in
-    let f : 2 ^ (8 * c .args .w) ≤ 2 ^ 32 = pow-mono e in
+    let e : 8 * c .args .w ≤ 56 = omega arith in
+    let f : 2 ^ (8 * c .args .w) ≤ 2 ^ 56 = pow-mono e in
     rw (range-bits (c .args .w)) (omega arith)
 
 pub span-spec : {M : Type 1} → statement M
