@@ -47,11 +47,11 @@ defines : (a : Attribute) (base : Settings) (v : List ℕ) (c : Change) → chan
 defines a base v c e f n r = sym (define-changed a false base v f n (rw e r)) ∙ ap Changed e
 
 -- The octets of a number, none of them cut off.
-taken : (k w n : ℕ) → w ≤ k → take k (be w n) ≡ be w n
-taken k w n h = take-all k (be w n) (rw length-be h)
+be-taken : (k w n : ℕ) → w ≤ k → take k (be w n) ≡ be w n
+be-taken k w n h = take-all k (be w n) (rw length-be h)
 
 number-taken : (k w n : ℕ) → w ≤ k → n < 256 ^ w → numberOf false (take k (be w n)) ≡ n
-number-taken k w n h l = rw (taken k w n h) (number-back w n l)
+number-taken k w n h l = rw (be-taken k w n h) (number-back w n l)
 
 be-defines : (a : Attribute) (base : Settings) (w n : ℕ) (c : Change) → changeOf a false (be w n) ≡ c → lengthFits a w ≡ true → 0 < w → inRange c ≡ true → defined a false base (be w n) ≡ Changed c
 be-defines a base w n c e f h r = defines a base (be w n) c e (rw length-be f) (λ z. omega (arith, length-be w n)) r
@@ -88,7 +88,7 @@ module _ (last : ℕ) (x : Scale) (g : GoodScale last x) where
   scale-back =
       let e = twos-back 1 (x .exponent) exponent-fits in
       let m = signed-back 4 (x .mantissa) mantissa-fits in
-      rw (scale-octets, taken 4 4 (unsignedOf 4 (x .mantissa)) (lit≤ tt)) (λ i. record { unit = x .unit; exponent = e i; mantissa = m i })
+      rw (scale-octets, be-taken 4 4 (unsignedOf 4 (x .mantissa)) (lit≤ tt)) (λ i. record { unit = x .unit; exponent = e i; mantissa = m i })
 
   scale-defines : (a : Attribute) (base : Settings) (make : Scale → Change) → changeOf a false (scaleOctets x) ≡ make (scaleOf false (scaleOctets x)) → lengthFits a 6 ≡ true → inRange (make x) ≡ scaleFits last x → defined a false base (scaleOctets x) ≡ Changed (make x)
   scale-defines a base make e f r =
@@ -97,7 +97,7 @@ module _ (last : ℕ) (x : Scale) (g : GoodScale last x) where
 
 bits-back : (w : ℕ) (x : Bits) → w ≤ 8 → x .bits < 256 ^ w → x .width ≡ w → bitsOf false (be w (x .bits)) ≡ x
 bits-back w x h l e =
-    let long : length (take 8 (be w (x .bits))) ≡ x .width = rw (taken 8 w (x .bits) h, length-be) (sym e) in
+    let long : length (take 8 (be w (x .bits))) ≡ x .width = rw (be-taken 8 w (x .bits) h, length-be) (sym e) in
     let bits = number-taken 8 w (x .bits) h l in
     λ i. record { width = long i; bits = bits i }
 
@@ -208,4 +208,4 @@ module _ (counted sequences : ℕ) (start continued : ℤ) (at : ℕ) where
 
   pub start-is : (z : ℤ) → mag z < 2147483648 → rootEffect (standing counted sequences start continued) 0x07 at (be 4 (unsignedOf 4 z)) ≡ Start z
   unfolding rootEffect startEffect
-  start-is z h = rw (length-be, taken 4 4 (unsignedOf 4 z) (lit≤ tt), signed-back 4 z (omega arith))
+  start-is z h = rw (length-be, be-taken 4 4 (unsignedOf 4 z) (lit≤ tt), signed-back 4 z (omega arith))
