@@ -9,8 +9,9 @@ use mathlib.Core.List.{List}
 use Prim.Native.Nat.{ℕ, zero, suc, _+_, _-_, _*_, _/_, _%_, _≤_, _<_, min}
 use native.Mathlib.Nat.{zero-mul, zero-add, add-mul, mod-lt, div-add-mod', mul-add-div-right, mul-add-mod-self-right}
 use native.Mathlib.Omega.{arith}
-use lib.ListN.{length, getD}
+use lib.ListN.{length}
 use lib.Seq.{sets}
+use Rattle.octets.specs.Number.{Octets}
 use Rattle.standing.specs.Standing.{octetsLimit}
 use Rattle.stores.proofs.Stores.{sets-front}
 use Rattle.heads.specs.declared.Refusal.{Refusal}
@@ -70,7 +71,7 @@ module _ {s : List ℕ} {frame channel : ℕ} {v : View} (l : Located s frame ch
   unfolding blockOctets
   block-fits = rw (settings-seen l, octets-seen) (omega (arith, below-fits (frameIn l .channels) channel (l .channelIs)))
 
-  pub kind-seen : ((i : ℕ) → getD s i 0 < 256) → v .settings .kind ≤ 8
+  pub kind-seen : Octets s → v .settings .kind ≤ 8
   kind-seen o =
       let g = accepted-good s o (l .frames) (l .verdictIs) frame (l .frameIn) in
       rw (settings-seen l) (every-at GoodSettings (frameIn l .channels) (g .channels) zeroSettings channel (l .channelIs) .kind)

@@ -14,6 +14,7 @@ use native.Mathlib.Omega.{arith}
 use borrow.Author.Tests.{eqb-true}
 use lib.Dec.{eqb}
 use lib.ListN.{length, getD, drop, length-map}
+use Rattle.octets.specs.Number.{Octets}
 use Rattle.octets.specs.Pick.{pick, either}
 use Rattle.octets.proofs.Laws.{drop-octets, range-pos}
 use Rattle.values.specs.declared.Bits.{Bits}
@@ -108,7 +109,7 @@ width-at cs c h = ap widthIn (map-at reported cs c zeroSettings zeroSettings h)
 -- ---- frames
 
 -- The bits of a sample fit its width.
-sample-bits : (f : Frame) (channel n : ℕ) → ((i : ℕ) → getD (f .waveform) i 0 < 256) → sampleBits f channel n < 256 ^ widthIn (channelIn channel (f .channels))
+sample-bits : (f : Frame) (channel n : ℕ) → Octets (f .waveform) → sampleBits f channel n < 256 ^ widthIn (channelIn channel (f .channels))
 unfolding sampleBits
 sample-bits f channel n octets =
     let o = offsetOf (f .channels) channel n in
@@ -145,7 +146,7 @@ all-recorded : (s : List ℕ) (fs : List Frame) → Every (Lies s) fs → Every 
 all-recorded s [] l g = tt
 all-recorded s (f ∷ fs) l g = (frame-recorded s f (l .0) (g .0), all-recorded s fs (l .1) (g .1))
 
-module _ (s : List ℕ) (octets : (i : ℕ) → getD s i 0 < 256) (fs : List Frame) (e : verdict s ≡ accepted fs) where
+module _ (s : List ℕ) (octets : Octets s) (fs : List Frame) (e : verdict s ≡ accepted fs) where
   pub accepted-recorded : AllRecorded (recording fs)
   unfolding recording
   accepted-recorded =

@@ -37,10 +37,10 @@ pub be-little : (v : List ℕ) → Octets v → be (length v) (littleOf v) ≡ r
 unfolding be littleOf
 be-little [] o = refl
 be-little (b ∷ v) o =
-    let h : b < 256 = o 0 (omega arith) in
+    let h : b < 256 = o 0 in
     let e : (littleOf v * 256 + b) / 256 ≡ littleOf v = omega arith in
     let f : (littleOf v * 256 + b) % 256 ≡ b = omega arith in
-    rw (e, f, be-little v (λ i l. o (suc i) (omega arith))) (sym (reverseAux-eq v (b ∷ [])))
+    rw (e, f, be-little v (λ i. o (suc i))) (sym (reverseAux-eq v (b ∷ [])))
 
 -- ---- channels as a recording has them
 
@@ -78,11 +78,11 @@ unfolding numberOf
 number-written true w v e o = rw (← e) (be-little v o)
 number-written false w v e o = rw (← e) (octets-back v o)
 
-module _ (s : List ℕ) (f : Frame) (l : Lies s f) (octets : (i : ℕ) → getD (f .waveform) i 0 < 256) where
+module _ (s : List ℕ) (f : Frame) (l : Lies s f) (octets : Octets (f .waveform)) where
   sample-octets : (c n : ℕ) → Octets (sampleOctets (f .channels) (f .waveform) c n)
-  sample-octets c n i h =
+  sample-octets c n =
       let o = offsetOf (f .channels) c n in
-      take-octets (widthIn (channelIn c (f .channels))) (drop o (f .waveform)) (drop-octets o (f .waveform) octets) i
+      take-octets (widthIn (channelIn c (f .channels))) (drop o (f .waveform)) (drop-octets o (f .waveform) octets)
 
   sample-long : (c n : ℕ) → Named (f .channels) (f .sequences) c n → length (sampleOctets (f .channels) (f .waveform) c n) ≡ widthIn (channelIn c (f .channels))
   sample-long c n h = simp (length-take, length-drop) (omega (arith, offset-inside h, l .fits))

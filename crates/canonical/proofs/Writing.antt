@@ -22,6 +22,7 @@ use lib.Signed.{mag}
 use mir.Syntax.{w32, w64}
 use mir.Val.{SFits, toZ, ofZ}
 use mir.Facts.{toZ-ofZ}
+use Rattle.octets.specs.Number.{Octets}
 use Rattle.octets.proofs.Pick.{both-false}
 use Rattle.octets.proofs.Laws.{take-octets, drop-octets}
 use Rattle.items.specs.declared.Item.{Item}
@@ -108,7 +109,7 @@ frame-is f =
     ∙ (λ i. (((headItems (length-map (f .channels) reported i) (f .sequences) (f .start) ++ groupsOctets 0 (map reported (f .channels))) ++ (0x1E ∷ [])) ++ shortest (sampled-reported f i)) ++ waveformOf (recordedFrame f))
 
 -- The samples of a frame, as they are written.
-pub samples-are : (s : List ℕ) (f : Frame) → Lies s f → ((i : ℕ) → getD (f .waveform) i 0 < 256) → samplesTurned (f .little) (f .channels) (f .sequences) (f .waveform) ≡ waveformOf (recordedFrame f)
+pub samples-are : (s : List ℕ) (f : Frame) → Lies s f → Octets (f .waveform) → samplesTurned (f .little) (f .channels) (f .sequences) (f .waveform) ≡ waveformOf (recordedFrame f)
 samples-are s f l o = by (f .little) refl
   where
     by : (b : Bool) → f .little ≡ b → samplesTurned (f .little) (f .channels) (f .sequences) (f .waveform) ≡ waveformOf (recordedFrame f)
@@ -307,7 +308,7 @@ module _ {s d : List ℕ} {table : List Settings} {c : Cursor} {st : Standing} {
         omega (arith, p .room, sized, put-long (p .put), p .put .next, frames-long (p .met))
 
     -- The frame written.
-    pub writing-frame : {w : List ℕ} {at' : ℕ} {e' : List ℕ} → ((k : ℕ) → getD s k 0 < 256) → w ≡ valueAt s start len → Putting e at (frameGiven (narrowed (st .start)) (st .little) sequences (take count table) w) at' e' → Writing s d table d' x (frames + 1) at' e'
+    pub writing-frame : {w : List ℕ} {at' : ℕ} {e' : List ℕ} → Octets s → w ≡ valueAt s start len → Putting e at (frameGiven (narrowed (st .start)) (st .little) sequences (take count table) w) at' e' → Writing s d table d' x (frames + 1) at' e'
     writing-frame {w} {at'} {e'} o ew q =
         let v : length w ≡ length (frame-there .waveform) = ap length ew in
         let held : samplesOctets (take count table) sequences ≤ length w = omega (arith, octets-there, lies .fits) in
@@ -372,7 +373,7 @@ module _ {s d : List ℕ} {table : List Settings} {own : ℕ} {c : Cursor} {st :
       pub going-start : SFits w32 (readWide (st .start))
       going-start = frame-start (p .pass) count l ec laid en fn ee fe er fr
 
-      pub going-frame : {w : List ℕ} {at' : ℕ} {e' : List ℕ} → ((k : ℕ) → getD s k 0 < 256) → w ≡ valueAt s start len → Putting e at (frameGiven (narrowed (st .start)) (st .little) sequences (take count table) w) at' e' → Going s d table own d' x (frames + 1) at' e'
+      pub going-frame : {w : List ℕ} {at' : ℕ} {e' : List ℕ} → Octets s → w ≡ valueAt s start len → Putting e at (frameGiven (narrowed (st .start)) (st .little) sequences (take count table) w) at' e' → Going s d table own d' x (frames + 1) at' e'
       going-frame {w} {at'} {e'} o ew q =
           let g = writing-frame (p .pass) count l ec laid en fn ee fe er fr o ew (rw same-taken at q) in
           record { records = p .records; pass = subst (λ (r : Settings). Writing s d (shown channelLimit r own table) d' x (frames + 1) at' e') (sym (frame-root (p .pass) count l ec laid en fn ee fe er fr)) g }
@@ -461,5 +462,5 @@ module _ (s d : List ℕ) (q : Asked) (r : Scan) (e : r ≡ scanOf q s) where
           (ap answered (p .next ∙ zero-add (length c)) ∙ t .0, p .stored ∙ sets-front c d (omega (arith, long-is)) ∙ t .1)
 
 -- The answer and the buffer, of a file whose octets the slice's rule gives.
-pub promised : {s d e : List ℕ} {a : Answer ℕ} → ((i : ℕ) → getD s i 0 < 256) → (a ≡ writtenOf s d) × (e ≡ leftOf s d) → Wrote s d a e
-promised octets p = record { octets = λ i h. octets i; answers = p .0; leaves = p .1 }
+pub promised : {s d e : List ℕ} {a : Answer ℕ} → Octets s → (a ≡ writtenOf s d) × (e ≡ leftOf s d) → Wrote s d a e
+promised octets p = record { octets = octets; answers = p .0; leaves = p .1 }

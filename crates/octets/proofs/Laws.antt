@@ -23,7 +23,7 @@ use lib.Seq.{drop-cons, drop-length, getD-drop, take-all, take-nil}
 use mir.Syntax.{Width}
 use mir.Val.{bits, hbits, toZ}
 use mir.Facts.{toZ-pos, toZ-neg}
-use Rattle.octets.specs.Number.{range, bigFrom, littleOf, numberOf, twos, NumberRead}
+use Rattle.octets.specs.Number.{Octets, range, bigFrom, littleOf, numberOf, twos, NumberRead}
 
 -- What lies past the end is not there, so a part is at most as long as asked for.
 module _ (s : List ℕ) (at n : ℕ) where
@@ -47,13 +47,13 @@ pub part-short : (n : ℕ) (s x : List ℕ) → x ≡ take n s → length x ≤ 
 part-short n s x e = rw e (take-length-le n s)
 
 -- A part of octets is octets.
-pub take-octets : (n : ℕ) (s : List ℕ) → ((i : ℕ) → getD s i 0 < 256) → (i : ℕ) → getD (take n s) i 0 < 256
+pub take-octets : (n : ℕ) (s : List ℕ) → Octets s → Octets (take n s)
 take-octets zero s h i = lit< tt
 take-octets (suc n) [] h i = lit< tt
 take-octets (suc n) (b ∷ s) h zero = h 0
 take-octets (suc n) (b ∷ s) h (suc i) = take-octets n s (λ j. h (suc j)) i
 
-pub drop-octets : (n : ℕ) (s : List ℕ) → ((i : ℕ) → getD s i 0 < 256) → (i : ℕ) → getD (drop n s) i 0 < 256
+pub drop-octets : (n : ℕ) (s : List ℕ) → Octets s → Octets (drop n s)
 drop-octets n s h i = rw getD-drop (h (n + i))
 
 -- Octets that are no more than eight are all looked at.
@@ -118,7 +118,7 @@ little-end s i n h q =
     rw e at q
 
 -- The number of octets is one of their width.
-pub big-below : (s : List ℕ) (w n : ℕ) → ((i : ℕ) → getD s i 0 < 256) → n < range w → bigFrom n s < range (w + length s)
+pub big-below : (s : List ℕ) (w n : ℕ) → Octets s → n < range w → bigFrom n s < range (w + length s)
 unfolding bigFrom
 big-below [] w n h k =
     let e : w + 0 ≡ w = omega arith in
@@ -127,12 +127,12 @@ big-below (b ∷ s) w n h k =
     let e : w + 1 + length s ≡ w + suc (length s) = omega arith in
     rw e at (big-below s (w + 1) (n * 256 + b) (λ i. h (suc i)) (push w n b k (h 0)))
 
-pub little-below : (s : List ℕ) → ((i : ℕ) → getD s i 0 < 256) → littleOf s < range (length s)
+pub little-below : (s : List ℕ) → Octets s → littleOf s < range (length s)
 unfolding littleOf
 little-below [] h = lit< tt
 little-below (b ∷ s) h = rw (← add-one (length s)) (push (length s) (littleOf s) b (little-below s (λ i. h (suc i))) (h 0))
 
-pub number-below : (little : Bool) (s : List ℕ) → ((i : ℕ) → getD s i 0 < 256) → numberOf little s < range (length s)
+pub number-below : (little : Bool) (s : List ℕ) → Octets s → numberOf little s < range (length s)
 unfolding numberOf
 number-below true s h = little-below s h
 number-below false s h =

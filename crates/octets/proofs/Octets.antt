@@ -11,7 +11,7 @@ use native.Mathlib.Numerals.{add-one}
 use native.Mathlib.Omega.{arith}
 use lib.ListN.{length, getD, take, drop}
 use lib.Seq.{drop-cons, take-all}
-use Rattle.octets.specs.Number.{bigFrom, littleOf, numberOf, NumberRead}
+use Rattle.octets.specs.Number.{Octets, bigFrom, littleOf, numberOf, NumberRead}
 use Rattle.octets.proofs.Laws.{number-one, number-below}
 
 -- w octets from the i-th after a place on. It computes to the places that the code reads.
@@ -57,7 +57,7 @@ module _ (w : ℕ) (s : List ℕ) (at : ℕ) {little : Bool} {r : ℕ} (h : at +
 
 -- Octets that are no more than eight have the number of their first eight.
 pub first-read : (little : Bool) (w : ℕ) (s : List ℕ) {r : ℕ} →
-    length s ≡ w → w ≤ 8 → ((i : ℕ) → getD s i 0 < 256) → r ≡ numberOf little (take w s) → NumberRead little (take 8 s) r
+    length s ≡ w → w ≤ 8 → Octets s → r ≡ numberOf little (take w s) → NumberRead little (take 8 s) r
 first-read little w s e h o q =
     let v = q ∙ ap (numberOf little) (take-all w s (omega arith)) in
     rw (take-all 8 s (omega arith)) (record { value = v; below = rw v (number-below little s o) })

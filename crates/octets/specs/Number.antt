@@ -8,9 +8,9 @@ use lib.IntN.{ℤ, pos, negsuc}
 use lib.ListN.{length, getD}
 use Rattle.octets.specs.Pick.{pick}
 
--- Each number of a list is an octet.
+-- Each number of a list is an octet; past its end a list is read as 0, which is one.
 abbrev pub Octets : List ℕ → Type 0
-Octets v = (i : ℕ) → i < length v → getD v i 0 < 256
+Octets v = (i : ℕ) → getD v i 0 < 256
 
 -- How many numbers w octets tell apart.
 abbrev pub range : ℕ → ℕ

@@ -17,7 +17,7 @@ use lib.Signed.{mag, ltZ}
 use lib.ListN.{length, getD, take, drop}
 use lib.Seq.{take-all}
 use Rattle.octets.specs.Pick.{pick, either}
-use Rattle.octets.specs.Number.{range, numberOf, twos, signedOf}
+use Rattle.octets.specs.Number.{Octets, range, numberOf, twos, signedOf}
 use Rattle.octets.proofs.Laws.{take-octets, drop-octets, take-length-le, cap, number-below}
 use Rattle.values.specs.declared.Bits.{Bits}
 use Rattle.items.specs.declared.Item.{Item}
@@ -67,7 +67,7 @@ pub record GoodFrame (f : Frame) : Type 0 where
   pub channels : Every GoodSettings (f .channels)
   pub agree : allAgree (f .channels) ≡ true
   pub sequences : f .sequences < 2 ^ 32
-  pub octets : (i : ℕ) → getD (f .waveform) i 0 < 256
+  pub octets : Octets (f .waveform)
 
 -- ---- one attribute
 
@@ -147,7 +147,7 @@ twos-positive w n = by (ltb (2 * n) (range w)) refl refl
     by true e q h = record { is = q; low = ltb-true 0 n h; high = ltb-true (2 * n) (range w) e }
     by false e q h = let z : _≡_ {A = ℕ} 0 1 = cc in let w : ⊥ = omega arith in absurd w
 
-module _ (little : Bool) (v : List ℕ) (octets : (i : ℕ) → getD v i 0 < 256) where
+module _ (little : Bool) (v : List ℕ) (octets : Octets v) where
   -- The number of the first octets is one of their width.
   pub number-first : (n : ℕ) → numberOf little (take n v) < range n
   number-first n = lt-of-lt-of-le (number-below little (take n v) (take-octets n v octets)) (cap (length (take n v)) n (take-length-le n v))
@@ -193,8 +193,8 @@ record Ranged (x : State) : Type 0 where
   pub table : Table GoodChange x
   pub frames : Every GoodFrame (x .frames)
 
-module _ (s : List ℕ) (octets : (i : ℕ) → getD s i 0 < 256) where
-  value-octets : (start len : ℕ) → (i : ℕ) → getD (valueAt s start len) i 0 < 256
+module _ (s : List ℕ) (octets : Octets s) where
+  value-octets : (start len : ℕ) → Octets (valueAt s start len)
   value-octets start len = take-octets len (drop start s) (drop-octets start s octets)
 
   fresh-good : (a : Attribute) (little : Bool) (start len : ℕ)

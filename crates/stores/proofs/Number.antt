@@ -27,11 +27,11 @@ be-from : (k a : ℕ) (v : List ℕ) → Octets v → be (k + length v) (bigFrom
 unfolding be bigFrom
 be-from k a [] o = rw add-zero (sym (append-nil (be k a)))
 be-from k a (b ∷ v) o =
-    let h : b < 256 = o 0 (omega arith) in
+    let h : b < 256 = o 0 in
     let e : (a * 256 + b) / 256 ≡ a = omega arith in
     let f : (a * 256 + b) % 256 ≡ b = omega arith in
     ap (λ (j : ℕ). be j (bigFrom (a * 256 + b) v)) (add-suc k (length v) ∙ sym (suc-add k (length v)))
-    ∙ be-from (suc k) (a * 256 + b) v (λ i l. o (suc i) (omega arith))
+    ∙ be-from (suc k) (a * 256 + b) v (λ i. o (suc i))
     ∙ rw (e, f, append-assoc)
 
 -- Octets give the number whose octets they are.

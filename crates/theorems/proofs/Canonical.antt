@@ -13,9 +13,9 @@ use mathlib.Core.Logic.{_↔_, _⊎_, inl, inr}
 use mathlib.Core.List.{List, _++_}
 use mathlib.Core.Bool.{true, false}
 use native.Mathlib.Omega.{arith}
-use native.Mathlib.Decide.{decLe, decLt}
+use native.Mathlib.Decide.{decLe}
 use borrow.Author.Tests.{le-leb, lt-leb}
-use lib.ListN.{length, getD, take, drop, length-map, List·getD-eq-default}
+use lib.ListN.{length, take, drop, length-map}
 use lib.Seq.{take-append-seam, drop-append-seam}
 use Rattle.octets.specs.Number.{Octets}
 use Rattle.octets.proofs.Pick.{both-false}
@@ -54,19 +54,11 @@ reads-one s x y a b =
     let f : a .frames ≡ b .frames = cc (a .is, b .is) in
     sym (a .recorded) ∙ ap recording f ∙ b .recorded
 
--- Past its end a list of octets is read as 0.
-octets-all : (s : List ℕ) → Octets s → (i : ℕ) → getD s i 0 < 256
-octets-all s o i = by (decLt i (length s))
-  where
-    by : Dec (i < length s) → getD s i 0 < 256
-    by (yes h) = o i h
-    by (no h) = let z : getD s i 0 ≡ 0 = List·getD-eq-default s 0 (omega arith) in omega arith
-
 -- The canonical file of an accepted file is accepted, and holds the same recording.
 pub canonical-read : (s : List ℕ) → Octets s → (fs : List Frame) → verdict s ≡ accepted fs → length (canonical (recording fs)) ≤ octetsLimit
     → Reads (canonical (recording fs)) (recording fs)
 canonical-read s octets fs e short =
-    read-back (recording fs) (accepted-recorded s (octets-all s octets) fs e) (rw recording-long (accepted-few s fs e)) short
+    read-back (recording fs) (accepted-recorded s octets fs e) (rw recording-long (accepted-few s fs e)) short
 
 -- ---- writing
 
