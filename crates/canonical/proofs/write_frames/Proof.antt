@@ -47,7 +47,11 @@ first-requires-2 : tie.Need-first-requires-2 Inv-loop2 μ-loop2 Inv-loop3 μ-loo
 first-requires-2 c κs = search needs
 
 loop-holds : tie.Need-loop-holds Inv-loop2 μ-loop2 Inv-loop3 μ-loop3 Inv-loop μ-loop
-loop-holds c = going-first _ _ _ (c .before .before .before .before .before .before .before .before .before .pre) (c .before .before .table .ensures) (c .before .first .ensures) (c .first2 .ensures) (c .before .before .before .before .before .put-order .ensures)
+loop-holds c =
+    let at-table = c .before .before in
+    let at-put-order = at-table .before .before .before in
+    let at-start = at-put-order .before .before .before .before in
+    going-first _ _ _ (at-start .pre) (at-table .table .ensures) (c .before .first .ensures) (c .first2 .ensures) (at-put-order .put-order .ensures)
 
 next-item-requires : tie.Need-next-item-requires Inv-loop2 μ-loop2 Inv-loop3 μ-loop3 Inv-loop μ-loop
 next-item-requires c κs = search needs
@@ -65,7 +69,9 @@ reach-requires : tie.Need-reach-requires Inv-loop2 μ-loop2 Inv-loop3 μ-loop3 I
 reach-requires c κs = search needs
 
 loop2-holds : tie.Need-loop2-holds Inv-loop2 μ-loop2 Inv-loop3 μ-loop3 Inv-loop μ-loop
-loop2-holds c = (rw (c .reach .ensures) (reach-few _ _), filling-none (c .before .before .before .before .before .before .before .before .loop .inv .records))
+loop2-holds c =
+    let at-loop = c .before .before .before .before .before .before .before .before in
+    (rw (c .reach .ensures) (reach-few _ _), filling-none (at-loop .loop .inv .records))
 
 mul-table : tie.Need-mul-table Inv-loop2 μ-loop2 Inv-loop3 μ-loop3 Inv-loop μ-loop
 mul-table c = omega (arith, c .before .loop2 .inv .0)
@@ -89,16 +95,33 @@ standing-after-requires : tie.Need-standing-after-requires Inv-loop2 μ-loop2 In
 standing-after-requires c κs = search needs
 
 loop-less : tie.Need-loop-less Inv-loop2 μ-loop2 Inv-loop3 μ-loop3 Inv-loop μ-loop
-loop-less c = omega (arith, next-later _ _ (c .before .before .before .before .before .before .before .before .before .before .before .before .next-item .ensures) (found-as (c .before .before .before .before .before .before .before .before .before .before .item .given .1) (c .before .before .before .before .before .before .before .before .renewed .ensures)))
+loop-less c =
+    let at-renewed = c .before .before .before .before .before .before .before .before in
+    let at-item = at-renewed .before .before in
+    let at-next-item = at-item .before .before in
+    omega (arith, next-later _ _ (at-next-item .next-item .ensures) (found-as (at-item .item .given .1) (at-renewed .renewed .ensures)))
 
 loop-again : tie.Need-loop-again Inv-loop2 μ-loop2 Inv-loop3 μ-loop3 Inv-loop μ-loop
-loop-again c = going-goes (going-filled (c .before .before .before .before .before .before .before .before .before .before .before .before .before .loop .inv) (c .before .before .before .before .loop2 .inv .1)) (c .before .before .before .before .before .before .before .before .before .before .before .before .next-item .ensures) (found-as (c .before .before .before .before .before .before .before .before .before .before .item .given .1) (c .before .before .before .before .before .before .before .before .renewed .ensures)) (record { low = omega arith; full = (c .before .before .before .before .loop2 .inv .1 .records) .full }) (does-count (c .before .before .before .before .loop2 .inv .1 .records) _ _ _ _ (c .before .before .before .before .before .before .before .item-effect .ensures) (c .before .enum-told .given .1) (c .standing-after .ensures))
+loop-again c =
+    let at-loop2 = c .before .before .before .before in
+    let at-item-effect = at-loop2 .before .before .before in
+    let at-renewed = at-item-effect .before in
+    let at-item = at-renewed .before .before in
+    let at-next-item = at-item .before .before in
+    let at-loop = at-next-item .before in
+    going-goes (going-filled (at-loop .loop .inv) (at-loop2 .loop2 .inv .1)) (at-next-item .next-item .ensures)
+    (found-as (at-item .item .given .1) (at-renewed .renewed .ensures))
+    (record { low = omega arith; full = (at-loop2 .loop2 .inv .1 .records) .full })
+    (does-count (at-loop2 .loop2 .inv .1 .records) _ _ _ _ (at-item-effect .item-effect .ensures) (c .before .enum-told .given .1)
+    (c .standing-after .ensures))
 
 enum-known-effect : tie.Need-enum-known-effect Inv-loop2 μ-loop2 Inv-loop3 μ-loop3 Inv-loop μ-loop
 enum-known-effect c = search needs
 
 loop3-holds : tie.Need-loop3-holds Inv-loop2 μ-loop2 Inv-loop3 μ-loop3 Inv-loop μ-loop
-loop3-holds c = ((c .before .before .before .before .loop2 .inv .1 .records) .low, (c .before .before .before .before .loop2 .inv .1 .records) .full, omega arith, refl)
+loop3-holds c =
+    let at-loop2 = c .before .before .before .before in
+    ((at-loop2 .loop2 .inv .1 .records) .low, (at-loop2 .loop2 .inv .1 .records) .full, omega arith, refl)
 
 mul-apply : tie.Need-mul-apply Inv-loop2 μ-loop2 Inv-loop3 μ-loop3 Inv-loop μ-loop
 mul-apply c = omega (arith, c .before .loop3 .inv .0)
@@ -122,16 +145,45 @@ loop3-less : tie.Need-loop3-less Inv-loop2 μ-loop2 Inv-loop3 μ-loop3 Inv-loop 
 loop3-less c = omega arith
 
 loop3-again : tie.Need-loop3-again Inv-loop2 μ-loop2 Inv-loop3 μ-loop3 Inv-loop μ-loop
-loop3-again c = (c .before .before .before .loop3 .inv .0, c .before .before .before .loop3 .inv .1, omega (arith, c .before .before .loop3-test .taken), mapped-put (applied (c .before .before .before .before .before .effect .given .0 .0)) zeroSettings 256 _ (c .before .before .before .before .before .before .before .before .loop2 .table) _ _ (c .before .before .before .loop3 .inv .1) (omega (arith, c .before .before .before .loop3 .inv .0, c .before .before .loop3-test .taken)) (c .before .before .before .loop3 .inv .3) (c .apply .ensures))
+loop3-again c =
+    let at-loop3-test = c .before .before in
+    let at-loop3 = at-loop3-test .before in
+    let at-effect = at-loop3 .before .before in
+    let at-loop2 = at-effect .before .before .before in (
+      at-loop3 .loop3 .inv .0,
+      at-loop3 .loop3 .inv .1,
+      omega (arith, at-loop3-test .loop3-test .taken),
+      mapped-put (applied (at-effect .effect .given .0 .0)) zeroSettings 256 _ (at-loop2 .loop2 .table) _ _ (at-loop3 .loop3 .inv .1)
+          (omega (arith, at-loop3 .loop3 .inv .0, at-loop3-test .loop3-test .taken)) (at-loop3 .loop3 .inv .3) (c .apply .ensures),
+    )
 
 standing-after-requires-2 : tie.Need-standing-after-requires-2 Inv-loop2 μ-loop2 Inv-loop3 μ-loop3 Inv-loop μ-loop
 standing-after-requires-2 c κs = search needs
 
 loop-less-2 : tie.Need-loop-less-2 Inv-loop2 μ-loop2 Inv-loop3 μ-loop3 Inv-loop μ-loop
-loop-less-2 c = omega (arith, next-later _ _ (c .before .before .before .before .before .before .before .before .before .before .before .before .before .before .before .next-item .ensures) (found-as (c .before .before .before .before .before .before .before .before .before .before .before .before .before .item .given .1) (c .before .before .before .before .before .before .before .before .before .before .before .renewed .ensures)))
+loop-less-2 c =
+    let at-renewed = c .before .before .before .before .before .before .before .before .before .before .before in
+    let at-item = at-renewed .before .before in
+    let at-next-item = at-item .before .before in
+    omega (arith, next-later _ _ (at-next-item .next-item .ensures) (found-as (at-item .item .given .1) (at-renewed .renewed .ensures)))
 
 loop-again-2 : tie.Need-loop-again-2 Inv-loop2 μ-loop2 Inv-loop3 μ-loop3 Inv-loop μ-loop
-loop-again-2 c = going-goes (going-filled (c .before .before .before .before .before .before .before .before .before .before .before .before .before .before .before .before .loop .inv) (c .before .before .before .before .before .before .before .loop2 .inv .1)) (c .before .before .before .before .before .before .before .before .before .before .before .before .before .before .before .next-item .ensures) (found-as (c .before .before .before .before .before .before .before .before .before .before .before .before .before .item .given .1) (c .before .before .before .before .before .before .before .before .before .before .before .renewed .ensures)) (records-mapped (c .before .before .before .before .before .before .before .loop2 .inv .1 .records) (c .before .before .before .before .effect .given .0 .0) (c .before .before .loop3 .i) (c .before .before .loop3 .inv .3)) (does-all (c .before .before .before .before .before .before .before .loop2 .inv .1 .records) _ _ _ _ (c .before .before .before .before .before .before .before .before .before .before .item-effect .ensures) (c .before .before .before .before .effect .given .1) (c .standing-after2 .ensures) (mapped-own (c .before .before .before .before .before .before .before .loop2 .inv .1 .records) (c .before .before .before .before .effect .given .0 .0) (c .before .before .loop3 .i) (c .before .before .loop3 .inv .3) (c .before .before .loop3 .inv .2) (c .before .loop3-test .left)))
+loop-again-2 c =
+    let at-loop3 = c .before .before in
+    let at-effect = at-loop3 .before .before in
+    let at-loop2 = at-effect .before .before .before in
+    let at-item-effect = at-loop2 .before .before .before in
+    let at-renewed = at-item-effect .before in
+    let at-item = at-renewed .before .before in
+    let at-next-item = at-item .before .before in
+    let at-loop = at-next-item .before in
+    going-goes (going-filled (at-loop .loop .inv) (at-loop2 .loop2 .inv .1)) (at-next-item .next-item .ensures)
+    (found-as (at-item .item .given .1) (at-renewed .renewed .ensures))
+    (records-mapped (at-loop2 .loop2 .inv .1 .records) (at-effect .effect .given .0 .0) (at-loop3 .loop3 .i) (at-loop3 .loop3 .inv .3))
+    (does-all (at-loop2 .loop2 .inv .1 .records) _ _ _ _ (at-item-effect .item-effect .ensures) (at-effect .effect .given .1)
+    (c .standing-after2 .ensures)
+    (mapped-own (at-loop2 .loop2 .inv .1 .records) (at-effect .effect .given .0 .0) (at-loop3 .loop3 .i) (at-loop3 .loop3 .inv .3)
+    (at-loop3 .loop3 .inv .2) (c .before .loop3-test .left)))
 
 enum-known-effect-2 : tie.Need-enum-known-effect-2 Inv-loop2 μ-loop2 Inv-loop3 μ-loop3 Inv-loop μ-loop
 enum-known-effect-2 c = search needs
@@ -155,16 +207,49 @@ array-set-from-table-3 : tie.Need-array-set-from-table-3 Inv-loop2 μ-loop2 Inv-
 array-set-from-table-3 c = search needs
 
 loop-less-3 : tie.Need-loop-less-3 Inv-loop2 μ-loop2 Inv-loop3 μ-loop3 Inv-loop μ-loop
-loop-less-3 c = omega (arith, next-later _ _ (c .before .before .before .before .before .before .before .before .before .before .before .before .before .before .before .next-item .ensures) (found-as (c .before .before .before .before .before .before .before .before .before .before .before .before .before .item .given .1) (c .before .before .before .before .before .before .before .before .before .before .before .renewed .ensures)))
+loop-less-3 c =
+    let at-renewed = c .before .before .before .before .before .before .before .before .before .before .before in
+    let at-item = at-renewed .before .before in
+    let at-next-item = at-item .before .before in
+    omega (arith, next-later _ _ (at-next-item .next-item .ensures) (found-as (at-item .item .given .1) (at-renewed .renewed .ensures)))
 
 loop-again-3 : tie.Need-loop-again-3 Inv-loop2 μ-loop2 Inv-loop3 μ-loop3 Inv-loop μ-loop
-loop-again-3 c = going-goes (going-filled (c .before .before .before .before .before .before .before .before .before .before .before .before .before .before .before .before .loop .inv) (c .before .before .before .before .before .before .before .loop2 .inv .1)) (c .before .before .before .before .before .before .before .before .before .before .before .before .before .before .before .next-item .ensures) (found-as (c .before .before .before .before .before .before .before .before .before .before .before .before .before .item .given .1) (c .before .before .before .before .before .before .before .before .before .before .before .renewed .ensures)) (records-set (c .before .before .before .before .before .before .before .loop2 .inv .1 .records) _ _) (does-one (c .before .before .before .before .before .before .before .loop2 .inv .1 .records) _ _ _ _ (c .before .before .before .before .before .before .before .before .before .before .item-effect .ensures) (c .before .before .before .before .effect2 .given .1) (reached-one _ (c .before .before .before .before .before .before .before .before .reach .ensures) (c .before .before .before .before .effect2 .given .1) (c .before .before .before .before .before .before .loop2-test .left) (c .before .before .if1 .taken)) (c .apply2 .ensures))
+loop-again-3 c =
+    let at-if1 = c .before .before in
+    let at-effect2 = at-if1 .before .before in
+    let at-loop2-test = at-effect2 .before .before in
+    let at-loop2 = at-loop2-test .before in
+    let at-reach = at-loop2 .before in
+    let at-item-effect = at-reach .before .before in
+    let at-renewed = at-item-effect .before in
+    let at-item = at-renewed .before .before in
+    let at-next-item = at-item .before .before in
+    let at-loop = at-next-item .before in
+    going-goes (going-filled (at-loop .loop .inv) (at-loop2 .loop2 .inv .1)) (at-next-item .next-item .ensures)
+    (found-as (at-item .item .given .1) (at-renewed .renewed .ensures)) (records-set (at-loop2 .loop2 .inv .1 .records) _ _)
+    (does-one (at-loop2 .loop2 .inv .1 .records) _ _ _ _ (at-item-effect .item-effect .ensures) (at-effect2 .effect2 .given .1)
+    (reached-one _ (at-reach .reach .ensures) (at-effect2 .effect2 .given .1) (at-loop2-test .loop2-test .left) (at-if1 .if1 .taken))
+    (c .apply2 .ensures))
 
 loop-less-4 : tie.Need-loop-less-4 Inv-loop2 μ-loop2 Inv-loop3 μ-loop3 Inv-loop μ-loop
-loop-less-4 c = omega (arith, next-later _ _ (c .before .before .before .before .before .before .before .before .before .before .before .before .before .next-item .ensures) (found-as (c .before .before .before .before .before .before .before .before .before .before .before .item .given .1) (c .before .before .before .before .before .before .before .before .before .renewed .ensures)))
+loop-less-4 c =
+    let at-renewed = c .before .before .before .before .before .before .before .before .before in
+    let at-item = at-renewed .before .before in
+    let at-next-item = at-item .before .before in
+    omega (arith, next-later _ _ (at-next-item .next-item .ensures) (found-as (at-item .item .given .1) (at-renewed .renewed .ensures)))
 
 loop-again-4 : tie.Need-loop-again-4 Inv-loop2 μ-loop2 Inv-loop3 μ-loop3 Inv-loop μ-loop
-loop-again-4 c = going-goes (going-filled (c .before .before .before .before .before .before .before .before .before .before .before .before .before .before .loop .inv) (c .before .before .before .before .before .loop2 .inv .1)) (c .before .before .before .before .before .before .before .before .before .before .before .before .before .next-item .ensures) (found-as (c .before .before .before .before .before .before .before .before .before .before .before .item .given .1) (c .before .before .before .before .before .before .before .before .before .renewed .ensures)) (c .before .before .before .before .before .loop2 .inv .1 .records) (does-outside (c .before .before .before .before .before .loop2 .inv .1 .records) _ _ _ _ (c .before .before .before .before .before .before .before .before .item-effect .ensures) (c .before .before .effect2 .given .1) (c .if1 .left))
+loop-again-4 c =
+    let at-effect2 = c .before .before in
+    let at-loop2 = at-effect2 .before .before .before in
+    let at-item-effect = at-loop2 .before .before .before in
+    let at-renewed = at-item-effect .before in
+    let at-item = at-renewed .before .before in
+    let at-next-item = at-item .before .before in
+    let at-loop = at-next-item .before in
+    going-goes (going-filled (at-loop .loop .inv) (at-loop2 .loop2 .inv .1)) (at-next-item .next-item .ensures)
+    (found-as (at-item .item .given .1) (at-renewed .renewed .ensures)) (at-loop2 .loop2 .inv .1 .records)
+    (does-outside (at-loop2 .loop2 .inv .1 .records) _ _ _ _ (at-item-effect .item-effect .ensures) (at-effect2 .effect2 .given .1) (c .if1 .left))
 
 enum-known-effect-3 : tie.Need-enum-known-effect-3 Inv-loop2 μ-loop2 Inv-loop3 μ-loop3 Inv-loop μ-loop
 enum-known-effect-3 c = search needs
@@ -179,11 +264,32 @@ enum-told-2 : tie.Need-enum-told-2 Inv-loop2 μ-loop2 Inv-loop3 μ-loop3 Inv-loo
 enum-told-2 c = search needs
 
 same-length : tie.Need-same-length Inv-loop2 μ-loop2 Inv-loop3 μ-loop3 Inv-loop μ-loop
-same-length c = put-long (c .before .before .before .before .before .before .before .before .before .before .before .before .before .before .before .before .before .loop .inv .pass .put) ∙ put-long (c .before .before .before .before .before .before .before .before .before .before .before .before .before .before .before .before .before .before .before .before .before .before .before .put-order .ensures)
+same-length c =
+    let at-loop = c .before .before .before .before .before .before .before .before .before .before .before .before .before .before .before .before .before in
+    let at-put-order = at-loop .before .before .before .before .before .before in
+    put-long (at-loop .loop .inv .pass .put) ∙ put-long (at-put-order .put-order .ensures)
 
 returns : tie.Need-returns Inv-loop2 μ-loop2 Inv-loop3 μ-loop3 Inv-loop μ-loop
 unfolding withFrame
-returns c = absurd (never-refuses ((going-filled (c .before .before .before .before .before .before .before .before .before .before .before .before .before .before .before .before .before .loop .inv) (c .before .before .before .before .before .before .before .before .loop2 .inv .1)) .pass) _ (c .before .before .before .before .before .before .before .before .before .before .before .before .before .before .before .before .next-item .ensures) (found-as (c .before .before .before .before .before .before .before .before .before .before .before .before .before .before .item .given .1) (c .before .before .before .before .before .before .before .before .before .before .before .before .renewed .ensures)) (going-carried (going-filled (c .before .before .before .before .before .before .before .before .before .before .before .before .before .before .before .before .before .loop .inv) (c .before .before .before .before .before .before .before .before .loop2 .inv .1)) (c .before .before .before .before .before .before .before .before .before .reach .result) (c .before .before .before .layout-of .result) (reached-count _ (c .before .before .before .before .before .before .before .before .before .reach .ensures) (c .before .before .before .before .before .effect3 .given .1) (going-counted (c .before .before .before .before .before .before .before .before .before .before .before .before .before .before .before .before .before .loop .inv)) refl) (c .before .before .before .layout-of .ensures) (c .before .before .before .before .before .before .before .loop2-test .left) _ _ _ (c .before .before .before .before .before .before .before .before .before .before .before .item-effect .ensures) (c .before .before .before .before .before .effect3 .given .1) (c .before .before .frame-of .ensures) (c .enum-told2 .given .1)))
+returns c =
+    let at-frame-of = c .before .before in
+    let at-layout-of = at-frame-of .before in
+    let at-effect3 = at-layout-of .before .before in
+    let at-loop2-test = at-effect3 .before .before in
+    let at-loop2 = at-loop2-test .before in
+    let at-reach = at-loop2 .before in
+    let at-item-effect = at-reach .before .before in
+    let at-renewed = at-item-effect .before in
+    let at-item = at-renewed .before .before in
+    let at-next-item = at-item .before .before in
+    let at-loop = at-next-item .before in
+    absurd
+    (never-refuses ((going-filled (at-loop .loop .inv) (at-loop2 .loop2 .inv .1)) .pass) _ (at-next-item .next-item .ensures)
+    (found-as (at-item .item .given .1) (at-renewed .renewed .ensures))
+    (going-carried (going-filled (at-loop .loop .inv) (at-loop2 .loop2 .inv .1)) (at-reach .reach .result) (at-layout-of .layout-of .result)
+    (reached-count _ (at-reach .reach .ensures) (at-effect3 .effect3 .given .1) (going-counted (at-loop .loop .inv)) refl)
+    (at-layout-of .layout-of .ensures) (at-loop2-test .loop2-test .left) _ _ _ (at-item-effect .item-effect .ensures)
+    (at-effect3 .effect3 .given .1) (at-frame-of .frame-of .ensures) (c .enum-told2 .given .1)))
 
 enum-known-sequences : tie.Need-enum-known-sequences Inv-loop2 μ-loop2 Inv-loop3 μ-loop3 Inv-loop μ-loop
 enum-known-sequences c = search needs
@@ -192,44 +298,141 @@ part-requires : tie.Need-part-requires Inv-loop2 μ-loop2 Inv-loop3 μ-loop3 Inv
 part-requires c κs = search needs
 
 cast-put-frame : tie.Need-cast-put-frame Inv-loop2 μ-loop2 Inv-loop3 μ-loop3 Inv-loop μ-loop
-cast-put-frame c = going-start (going-filled (c .before .before .before .before .before .before .before .before .before .before .before .before .before .before .before .before .before .before .before .before .before .loop .inv) (c .before .before .before .before .before .before .before .before .before .before .before .before .loop2 .inv .1)) (c .before .before .before .before .before .before .before .before .before .before .before .before .before .reach .result) (c .before .before .before .before .before .before .before .layout-of .result) (reached-count _ (c .before .before .before .before .before .before .before .before .before .before .before .before .before .reach .ensures) (c .before .before .before .before .before .before .before .before .before .effect3 .given .1) (going-counted (c .before .before .before .before .before .before .before .before .before .before .before .before .before .before .before .before .before .before .before .before .before .loop .inv)) refl) (c .before .before .before .before .before .before .before .layout-of .ensures) (c .before .before .before .before .before .before .before .before .before .before .before .loop2-test .left) (c .before .before .before .before .before .before .before .before .before .before .before .before .before .before .before .before .before .before .before .before .next-item .ensures) (found-as (c .before .before .before .before .before .before .before .before .before .before .before .before .before .before .before .before .before .before .item .given .1) (c .before .before .before .before .before .before .before .before .before .before .before .before .before .before .before .before .renewed .ensures)) (c .before .before .before .before .before .before .before .before .before .before .before .before .before .before .before .item-effect .ensures) (c .before .before .before .before .before .before .before .before .before .effect3 .given .1) (c .before .before .before .before .before .before .frame-of .ensures) (c .before .before .before .before .sequences .given .1)
+cast-put-frame c =
+    let at-sequences = c .before .before .before .before in
+    let at-frame-of = at-sequences .before .before in
+    let at-layout-of = at-frame-of .before in
+    let at-effect3 = at-layout-of .before .before in
+    let at-loop2-test = at-effect3 .before .before in
+    let at-loop2 = at-loop2-test .before in
+    let at-reach = at-loop2 .before in
+    let at-item-effect = at-reach .before .before in
+    let at-renewed = at-item-effect .before in
+    let at-item = at-renewed .before .before in
+    let at-next-item = at-item .before .before in
+    let at-loop = at-next-item .before in
+    going-start (going-filled (at-loop .loop .inv) (at-loop2 .loop2 .inv .1)) (at-reach .reach .result) (at-layout-of .layout-of .result)
+    (reached-count _ (at-reach .reach .ensures) (at-effect3 .effect3 .given .1) (going-counted (at-loop .loop .inv)) refl)
+    (at-layout-of .layout-of .ensures) (at-loop2-test .loop2-test .left) (at-next-item .next-item .ensures)
+    (found-as (at-item .item .given .1) (at-renewed .renewed .ensures)) (at-item-effect .item-effect .ensures) (at-effect3 .effect3 .given .1)
+    (at-frame-of .frame-of .ensures) (at-sequences .sequences .given .1)
 
 put-frame-requires : tie.Need-put-frame-requires Inv-loop2 μ-loop2 Inv-loop3 μ-loop3 Inv-loop μ-loop
 put-frame-requires c κs = search needs
 
 add-frames : tie.Need-add-frames Inv-loop2 μ-loop2 Inv-loop3 μ-loop3 Inv-loop μ-loop
-add-frames c = omega (arith, going-few (going-filled (c .before .before .before .before .before .before .before .before .before .before .before .before .before .before .before .before .before .before .before .before .before .before .before .before .before .loop .inv) (c .before .before .before .before .before .before .before .before .before .before .before .before .before .before .before .before .loop2 .inv .1)) (c .before .before .before .before .before .before .before .before .before .before .before .before .before .before .before .before .before .reach .result) (c .before .before .before .before .before .before .before .before .before .before .before .layout-of .result) (reached-count _ (c .before .before .before .before .before .before .before .before .before .before .before .before .before .before .before .before .before .reach .ensures) (c .before .before .before .before .before .before .before .before .before .before .before .before .before .effect3 .given .1) (going-counted (c .before .before .before .before .before .before .before .before .before .before .before .before .before .before .before .before .before .before .before .before .before .before .before .before .before .loop .inv)) refl) (c .before .before .before .before .before .before .before .before .before .before .before .layout-of .ensures) (c .before .before .before .before .before .before .before .before .before .before .before .before .before .before .before .loop2-test .left) (c .before .before .before .before .before .before .before .before .before .before .before .before .before .before .before .before .before .before .before .before .before .before .before .before .next-item .ensures) (found-as (c .before .before .before .before .before .before .before .before .before .before .before .before .before .before .before .before .before .before .before .before .before .before .item .given .1) (c .before .before .before .before .before .before .before .before .before .before .before .before .before .before .before .before .before .before .before .before .renewed .ensures)) (c .before .before .before .before .before .before .before .before .before .before .before .before .before .before .before .before .before .before .before .item-effect .ensures) (c .before .before .before .before .before .before .before .before .before .before .before .before .before .effect3 .given .1) (c .before .before .before .before .before .before .before .before .before .before .frame-of .ensures) (c .before .before .before .before .before .before .before .before .sequences .given .1))
+add-frames c =
+    let at-sequences = c .before .before .before .before .before .before .before .before in
+    let at-frame-of = at-sequences .before .before in
+    let at-layout-of = at-frame-of .before in
+    let at-effect3 = at-layout-of .before .before in
+    let at-loop2-test = at-effect3 .before .before in
+    let at-loop2 = at-loop2-test .before in
+    let at-reach = at-loop2 .before in
+    let at-item-effect = at-reach .before .before in
+    let at-renewed = at-item-effect .before in
+    let at-item = at-renewed .before .before in
+    let at-next-item = at-item .before .before in
+    let at-loop = at-next-item .before in
+    omega (
+      arith,
+      going-few (going-filled (at-loop .loop .inv) (at-loop2 .loop2 .inv .1)) (at-reach .reach .result) (at-layout-of .layout-of .result)
+          (reached-count _ (at-reach .reach .ensures) (at-effect3 .effect3 .given .1) (going-counted (at-loop .loop .inv)) refl)
+          (at-layout-of .layout-of .ensures) (at-loop2-test .loop2-test .left) (at-next-item .next-item .ensures)
+          (found-as (at-item .item .given .1) (at-renewed .renewed .ensures)) (at-item-effect .item-effect .ensures) (at-effect3 .effect3 .given .1)
+          (at-frame-of .frame-of .ensures) (at-sequences .sequences .given .1),
+    )
 
 loop-less-5 : tie.Need-loop-less-5 Inv-loop2 μ-loop2 Inv-loop3 μ-loop3 Inv-loop μ-loop
-loop-less-5 c = omega (arith, next-later _ _ (c .before .before .before .before .before .before .before .before .before .before .before .before .before .before .before .before .before .before .before .before .before .before .before .before .next-item .ensures) (found-as (c .before .before .before .before .before .before .before .before .before .before .before .before .before .before .before .before .before .before .before .before .before .before .item .given .1) (c .before .before .before .before .before .before .before .before .before .before .before .before .before .before .before .before .before .before .before .before .renewed .ensures)))
+loop-less-5 c =
+    let at-renewed = c .before .before .before .before .before .before .before .before .before .before .before .before .before .before .before .before .before .before .before .before in
+    let at-item = at-renewed .before .before in
+    let at-next-item = at-item .before .before in
+    omega (arith, next-later _ _ (at-next-item .next-item .ensures) (found-as (at-item .item .given .1) (at-renewed .renewed .ensures)))
 
 loop-again-5 : tie.Need-loop-again-5 Inv-loop2 μ-loop2 Inv-loop3 μ-loop3 Inv-loop μ-loop
-loop-again-5 c = going-frame (going-filled (c .before .before .before .before .before .before .before .before .before .before .before .before .before .before .before .before .before .before .before .before .before .before .before .before .before .loop .inv) (c .before .before .before .before .before .before .before .before .before .before .before .before .before .before .before .before .loop2 .inv .1)) (c .before .before .before .before .before .before .before .before .before .before .before .before .before .before .before .before .before .reach .result) (c .before .before .before .before .before .before .before .before .before .before .before .layout-of .result) (reached-count _ (c .before .before .before .before .before .before .before .before .before .before .before .before .before .before .before .before .before .reach .ensures) (c .before .before .before .before .before .before .before .before .before .before .before .before .before .effect3 .given .1) (going-counted (c .before .before .before .before .before .before .before .before .before .before .before .before .before .before .before .before .before .before .before .before .before .before .before .before .before .loop .inv)) refl) (c .before .before .before .before .before .before .before .before .before .before .before .layout-of .ensures) (c .before .before .before .before .before .before .before .before .before .before .before .before .before .before .before .loop2-test .left) (c .before .before .before .before .before .before .before .before .before .before .before .before .before .before .before .before .before .before .before .before .before .before .before .before .next-item .ensures) (found-as (c .before .before .before .before .before .before .before .before .before .before .before .before .before .before .before .before .before .before .before .before .before .before .item .given .1) (c .before .before .before .before .before .before .before .before .before .before .before .before .before .before .before .before .before .before .before .before .renewed .ensures)) (c .before .before .before .before .before .before .before .before .before .before .before .before .before .before .before .before .before .before .before .item-effect .ensures) (c .before .before .before .before .before .before .before .before .before .before .before .before .before .effect3 .given .1) (c .before .before .before .before .before .before .before .before .before .before .frame-of .ensures) (c .before .before .before .before .before .before .before .before .sequences .given .1) (λ (k : ℕ). omega (arith, c .before .before .before .before .before .before .before .before .before .before .before .before .before .before .before .before .before .before .before .before .before .before .before .before .before .before .before .before .before .before .before .before .before .before .shared-slice-known .given k)) (c .before .before .before .before .before .before .part .ensures) (c .before .before .put-frame .ensures)
+loop-again-5 c =
+    let at-put-frame = c .before .before in
+    let at-part = at-put-frame .before .before .before .before in
+    let at-sequences = at-part .before .before in
+    let at-frame-of = at-sequences .before .before in
+    let at-layout-of = at-frame-of .before in
+    let at-effect3 = at-layout-of .before .before in
+    let at-loop2-test = at-effect3 .before .before in
+    let at-loop2 = at-loop2-test .before in
+    let at-reach = at-loop2 .before in
+    let at-item-effect = at-reach .before .before in
+    let at-renewed = at-item-effect .before in
+    let at-item = at-renewed .before .before in
+    let at-next-item = at-item .before .before in
+    let at-loop = at-next-item .before in
+    let at-shared-slice-known = at-loop .before .before .before .before .before .before .before .before .before in
+    going-frame (going-filled (at-loop .loop .inv) (at-loop2 .loop2 .inv .1)) (at-reach .reach .result) (at-layout-of .layout-of .result)
+    (reached-count _ (at-reach .reach .ensures) (at-effect3 .effect3 .given .1) (going-counted (at-loop .loop .inv)) refl)
+    (at-layout-of .layout-of .ensures) (at-loop2-test .loop2-test .left) (at-next-item .next-item .ensures)
+    (found-as (at-item .item .given .1) (at-renewed .renewed .ensures)) (at-item-effect .item-effect .ensures) (at-effect3 .effect3 .given .1)
+    (at-frame-of .frame-of .ensures) (at-sequences .sequences .given .1)
+    (λ (k : ℕ). omega (arith, at-shared-slice-known .shared-slice-known .given k)) (at-part .part .ensures) (at-put-frame .put-frame .ensures)
 
 enum-told-3 : tie.Need-enum-told-3 Inv-loop2 μ-loop2 Inv-loop3 μ-loop3 Inv-loop μ-loop
 enum-told-3 c = search needs
 
 same-length-2 : tie.Need-same-length-2 Inv-loop2 μ-loop2 Inv-loop3 μ-loop3 Inv-loop μ-loop
-same-length-2 c = put-long (c .before .before .before .before .before .before .before .before .before .before .before .before .loop .inv .pass .put) ∙ put-long (c .before .before .before .before .before .before .before .before .before .before .before .before .before .before .before .before .before .before .put-order .ensures)
+same-length-2 c =
+    let at-loop = c .before .before .before .before .before .before .before .before .before .before .before .before in
+    let at-put-order = at-loop .before .before .before .before .before .before in
+    put-long (at-loop .loop .inv .pass .put) ∙ put-long (at-put-order .put-order .ensures)
 
 returns-2 : tie.Need-returns-2 Inv-loop2 μ-loop2 Inv-loop3 μ-loop3 Inv-loop μ-loop
 unfolding carried
-returns-2 c = absurd (never-refuses ((going-filled (c .before .before .before .before .before .before .before .before .before .before .before .before .loop .inv) (c .before .before .before .loop2 .inv .1)) .pass) _ (c .before .before .before .before .before .before .before .before .before .before .before .next-item .ensures) (found-as (c .before .before .before .before .before .before .before .before .before .item .given .1) (c .before .before .before .before .before .before .before .renewed .ensures)) (carried-by _ _ _ (c .before .before .before .before .before .before .item-effect .ensures) (c .enum-told3 .given .1)))
+returns-2 c =
+    let at-loop2 = c .before .before .before in
+    let at-item-effect = at-loop2 .before .before .before in
+    let at-renewed = at-item-effect .before in
+    let at-item = at-renewed .before .before in
+    let at-next-item = at-item .before .before in
+    let at-loop = at-next-item .before in
+    absurd
+    (never-refuses ((going-filled (at-loop .loop .inv) (at-loop2 .loop2 .inv .1)) .pass) _ (at-next-item .next-item .ensures)
+    (found-as (at-item .item .given .1) (at-renewed .renewed .ensures))
+    (carried-by _ _ _ (at-item-effect .item-effect .ensures) (c .enum-told3 .given .1)))
 
 standing-after-requires-3 : tie.Need-standing-after-requires-3 Inv-loop2 μ-loop2 Inv-loop3 μ-loop3 Inv-loop μ-loop
 standing-after-requires-3 c κs = search needs
 
 loop-less-6 : tie.Need-loop-less-6 Inv-loop2 μ-loop2 Inv-loop3 μ-loop3 Inv-loop μ-loop
-loop-less-6 c = omega (arith, next-later _ _ (c .before .before .before .before .before .before .before .before .before .before .before .next-item .ensures) (found-as (c .before .before .before .before .before .before .before .before .before .item .given .1) (c .before .before .before .before .before .before .before .renewed .ensures)))
+loop-less-6 c =
+    let at-renewed = c .before .before .before .before .before .before .before in
+    let at-item = at-renewed .before .before in
+    let at-next-item = at-item .before .before in
+    omega (arith, next-later _ _ (at-next-item .next-item .ensures) (found-as (at-item .item .given .1) (at-renewed .renewed .ensures)))
 
 loop-again-6 : tie.Need-loop-again-6 Inv-loop2 μ-loop2 Inv-loop3 μ-loop3 Inv-loop μ-loop
-loop-again-6 c = going-goes (going-filled (c .before .before .before .before .before .before .before .before .before .before .before .before .loop .inv) (c .before .before .before .loop2 .inv .1)) (c .before .before .before .before .before .before .before .before .before .before .before .next-item .ensures) (found-as (c .before .before .before .before .before .before .before .before .before .item .given .1) (c .before .before .before .before .before .before .before .renewed .ensures)) (c .before .before .before .loop2 .inv .1 .records) (does-stands (c .before .before .before .loop2 .inv .1 .records) _ _ _ _ (c .before .before .before .before .before .before .item-effect .ensures) (0 ∷ 1 ∷ 3 ∷ 4 ∷ []) (tt, tt, tt, tt) (inl tt) (c .before .match2 .keys6) (c .standing-after3 .ensures))
+loop-again-6 c =
+    let at-loop2 = c .before .before .before in
+    let at-item-effect = at-loop2 .before .before .before in
+    let at-renewed = at-item-effect .before in
+    let at-item = at-renewed .before .before in
+    let at-next-item = at-item .before .before in
+    let at-loop = at-next-item .before in
+    going-goes (going-filled (at-loop .loop .inv) (at-loop2 .loop2 .inv .1)) (at-next-item .next-item .ensures)
+    (found-as (at-item .item .given .1) (at-renewed .renewed .ensures)) (at-loop2 .loop2 .inv .1 .records)
+    (does-stands (at-loop2 .loop2 .inv .1 .records) _ _ _ _ (at-item-effect .item-effect .ensures) (0 ∷ 1 ∷ 3 ∷ 4 ∷ []) (tt, tt, tt, tt) (inl tt)
+    (c .before .match2 .keys6) (c .standing-after3 .ensures))
 
 same-length-3 : tie.Need-same-length-3 Inv-loop2 μ-loop2 Inv-loop3 μ-loop3 Inv-loop μ-loop
-same-length-3 c = put-long (c .before .before .loop .inv .pass .put) ∙ put-long (c .before .before .before .before .before .before .before .before .put-order .ensures)
+same-length-3 c =
+    let at-loop = c .before .before in
+    let at-put-order = at-loop .before .before .before .before .before .before in
+    put-long (at-loop .loop .inv .pass .put) ∙ put-long (at-put-order .put-order .ensures)
 
 returns-3 : tie.Need-returns-3 Inv-loop2 μ-loop2 Inv-loop3 μ-loop3 Inv-loop μ-loop
-returns-3 c = written-done (c .before .before .loop .inv .pass) (c .before .next-item .result) (c .match .keys2) (c .before .next-item .ensures) (c .before .before .before .before .before .before .before .before .put-order .ensures)
+returns-3 c =
+    let at-next-item = c .before in
+    let at-loop = at-next-item .before in
+    let at-put-order = at-loop .before .before .before .before .before .before in
+    written-done (at-loop .loop .inv .pass) (at-next-item .next-item .result) (c .match .keys2) (at-next-item .next-item .ensures)
+    (at-put-order .put-order .ensures)
 
 pub write-frames-spec : {M : Type 1} → statement M
 write-frames-spec =
