@@ -71,10 +71,10 @@ module _ {s : List ℕ} {frame channel : ℕ} {v : View} (l : Located s frame ch
   unfolding blockOctets
   block-fits = rw (settings-seen l, octets-seen) (omega (arith, below-fits (frameIn l .channels) channel (l .channelIs)))
 
-  pub kind-seen : Octets s → v .settings .kind ≤ 8
-  kind-seen o =
+  pub type-seen : Octets s → v .settings .datatype ≤ 8
+  type-seen o =
       let g = accepted-good s o (l .frames) (l .verdictIs) frame (l .frameIn) in
-      rw (settings-seen l) (every-at GoodSettings (frameIn l .channels) (g .channels) zeroSettings channel (l .channelIs) .kind)
+      rw (settings-seen l) (every-at GoodSettings (frameIn l .channels) (g .channels) zeroSettings channel (l .channelIs) .datatype)
 
 -- The widths of the data types.
 pub width-wide : (k : ℕ) → k ≤ 8 → Wide (widthOf k)
@@ -100,7 +100,7 @@ module _ {s : List ℕ} {frame channel first p : ℕ} {v : View} (m : PlacedAt s
   pub block-some : 0 < v .settings .block
   block-some = answers.block-some (m .channelAt) (m .number)
 
-  module _ (w : ℕ) (e : w ≡ widthOf (v .settings .kind)) where
+  module _ (w : ℕ) (e : w ≡ widthOf (v .settings .datatype)) where
     pub rest-low : first % v .settings .block * w ≤ p
     unfolding placeSeen
     rest-low = rw (m .place, e) (omega arith)

@@ -266,7 +266,7 @@ pub fn samples(s: &[u8], frame: u32, channel: u32, first: u64, out: &mut [u64]) 
         Placed::At(at, v) => {
             let c = v.settings;
             let b = c.block as u64;
-            let w = values::width(c.kind);
+            let w = values::width(c.datatype);
             let r = (first % b) as usize;
             let n = fitting(out.len(), v.sequences as u64 * b - first);
             fill(

@@ -28,7 +28,7 @@ use Rattle.settings.specs.declared.Settings.{Settings}
 use Rattle.definitions.specs.declared.Attribute.{Attribute}
 use Rattle.settings.specs.declared.Change.{Change}
 use Rattle.definitions.specs.declared.Defined.the-variants.{Changed}
-use Rattle.settings.specs.Settings.{blockLimit, channelLimit, lastKind, lastIntervalUnit, lastResolutionUnit, defaultSettings}
+use Rattle.settings.specs.Settings.{blockLimit, channelLimit, lastDataType, lastIntervalUnit, lastResolutionUnit, defaultSettings}
 use Rattle.definitions.specs.Define.{lengthFits, bitsLength, bitsOf, scaleOf, scaleFits, changeOf, inRange, defined}
 use Rattle.definitions.proofs.Laws.{define-back, define-changed}
 use Rattle.layout.specs.Frame.{widthIn}
@@ -106,7 +106,7 @@ pub record GoodWidth (w : ℕ) : Type 0 where
   pub fits : bitsLength w ≡ true
   pub some : 0 < w
 
-pub width-good : (k : ℕ) → k ≤ lastKind → GoodWidth (widthOf k)
+pub width-good : (k : ℕ) → k ≤ lastDataType → GoodWidth (widthOf k)
 width-good =
     width-cases GoodWidth (record { fits = refl; some = lit< tt }) (record { fits = refl; some = lit< tt })
     (record { fits = refl; some = lit< tt }) (record { fits = refl; some = lit< tt })
@@ -119,7 +119,7 @@ definitions c =
     record { attribute = Attribute.Block; value = be 4 (c .block); change = Change.Block (c .block) }
     ∷ record { attribute = Attribute.Class; value = be 2 (c .class); change = Change.Class (c .class) }
     ∷ record { attribute = Attribute.Lead; value = be 2 (c .lead); change = Change.Lead (c .lead) }
-    ∷ record { attribute = Attribute.Kind; value = be 1 (c .kind); change = Change.Kind (c .kind) }
+    ∷ record { attribute = Attribute.DataType; value = be 1 (c .datatype); change = Change.DataType (c .datatype) }
     ∷ record { attribute = Attribute.Interval; value = scaleOctets (c .interval); change = Change.Interval (c .interval) }
     ∷ record { attribute = Attribute.Resolution; value = scaleOctets (c .resolution); change = Change.Resolution (c .resolution) }
     ∷ record { attribute = Attribute.Offset; value = be (widthIn c) (c .offset .bits); change = Change.Offset (c .offset) }
@@ -155,29 +155,29 @@ null-defines c g = by (g .nullWidth)
         simp (eq-eqb (c .null .width) 0 z)
         (sym (define-back Attribute.Null false defaultSettings [] refl refl) ∙ ap (λ (x : Bits). Changed (Change.Null x)) (λ i. record { width = sym z i; bits = b i }))
     by (inr e) =
-        let w = width-good (c .kind) (g .kind) in
+        let w = width-good (c .datatype) (g .datatype) in
         let n : c .null .width ≡ 0 → ⊥ = λ z. omega (arith, w .some) in
         simp (ne-eqb (c .null .width) 0 n)
         (be-defines Attribute.Null defaultSettings (widthIn c) (c .null .bits) (Change.Null (c .null))
-        (ap Change.Null (bits-back (widthIn c) (c .null) (width-le (c .kind)) (rw e at (g .null)) e)) (w .fits) (w .some) refl)
+        (ap Change.Null (bits-back (widthIn c) (c .null) (width-le (c .datatype)) (rw e at (g .null)) e)) (w .fits) (w .some) refl)
 
 pub define-all : (c : Settings) → GoodReported c → AllDefine defaultSettings (definitions c)
 unfolding definitions
 define-all c g =
     let base = defaultSettings in
-    let width = width-good (c .kind) (g .kind) in
+    let width = width-good (c .datatype) (g .datatype) in
     let blockFits : inRange (Change.Block (c .block)) ≡ true = simp (le-leb 1 (c .block) (g .blockLow), le-leb (c .block) blockLimit (g .blockHigh)) in
     let blockBack = number-taken 4 4 (c .block) (lit≤ tt) (omega (arith, g .blockHigh)) in
-    let kindBack = be-one (c .kind) (omega (arith, g .kind)) in
-    let offsetBack = bits-back (widthIn c) (c .offset) (width-le (c .kind)) (g .offset) (g .offsetWidth) in
+    let typeBack = be-one (c .datatype) (omega (arith, g .datatype)) in
+    let offsetBack = bits-back (widthIn c) (c .offset) (width-le (c .datatype)) (g .offset) (g .offsetWidth) in
     let block = be-defines Attribute.Block base 4 (c .block) (Change.Block (c .block)) (ap Change.Block blockBack) refl (lit< tt) blockFits in
     let class = be-defines Attribute.Class base 2 (c .class) (Change.Class (c .class)) (ap Change.Class (number-taken 2 2 (c .class) (lit≤ tt) (g .class))) refl (lit< tt) refl in
     let lead = be-defines Attribute.Lead base 2 (c .lead) (Change.Lead (c .lead)) (ap Change.Lead (number-taken 2 2 (c .lead) (lit≤ tt) (g .lead))) refl (lit< tt) refl in
-    let kind = be-defines Attribute.Kind base 1 (c .kind) (Change.Kind (c .kind)) (ap (λ (v : List ℕ). Change.Kind (getD v 0 0)) kindBack) refl (lit< tt) (le-leb (c .kind) lastKind (g .kind)) in
+    let datatype = be-defines Attribute.DataType base 1 (c .datatype) (Change.DataType (c .datatype)) (ap (λ (v : List ℕ). Change.DataType (getD v 0 0)) typeBack) refl (lit< tt) (le-leb (c .datatype) lastDataType (g .datatype)) in
     let interval = scale-defines lastIntervalUnit (c .interval) (g .interval) Attribute.Interval base Change.Interval refl refl refl in
     let resolution = scale-defines lastResolutionUnit (c .resolution) (g .resolution) Attribute.Resolution base Change.Resolution refl refl refl in
     let offset = be-defines Attribute.Offset base (widthIn c) (c .offset .bits) (Change.Offset (c .offset)) (ap Change.Offset offsetBack) (width .fits) (width .some) refl in
-    (block, (class, (lead, (kind, (interval, (resolution, (offset, (null-defines c g, tt))))))))
+    (block, (class, (lead, (datatype, (interval, (resolution, (offset, (null-defines c g, tt))))))))
 
 -- ---- outside groups
 

@@ -6,7 +6,7 @@ use Prim.Native.Nat.{ℕ, _*_, _^_, _≤_, _<_}
 use mathlib.Core.Logic.{_⊎_}
 use lib.ListN.{length, getD}
 use Rattle.settings.specs.declared.Settings.{Settings}
-use Rattle.settings.specs.Settings.{channelLimit, blockLimit, lastKind, lastIntervalUnit, lastResolutionUnit}
+use Rattle.settings.specs.Settings.{channelLimit, blockLimit, lastDataType, lastIntervalUnit, lastResolutionUnit}
 use Rattle.layout.specs.Frame.{widthIn, channelIn}
 use Rattle.laid.specs.Laid.{Named}
 use Rattle.framing.specs.Framing.{pointerFits}
@@ -19,7 +19,7 @@ pub record GoodReported (c : Settings) : Type 0 where
   pub blockHigh : c .block ≤ blockLimit
   pub class : c .class < 65536
   pub lead : c .lead < 65536
-  pub kind : c .kind ≤ lastKind
+  pub datatype : c .datatype ≤ lastDataType
   pub interval : GoodScale lastIntervalUnit (c .interval)
   pub resolution : GoodScale lastResolutionUnit (c .resolution)
   pub offsetWidth : c .offset .width ≡ widthIn c

@@ -50,7 +50,7 @@ pub sequence-some : (cs : List Settings) → AllReported cs → 0 < length cs �
 unfolding sequenceOctets blockOctets
 sequence-some [] g h = h
 sequence-some (c ∷ cs) g h =
-    let w = width-good (c .kind) (g .0 .kind) in
+    let w = width-good (c .datatype) (g .0 .datatype) in
     omega (arith, g .0 .blockLow, le-mul-of-pos-right {m = widthIn c} (c .block) (w .some))
 
 pub sequences-back : (n octets : ℕ) → n ≡ sequencesOf n (n * octets) octets
@@ -95,7 +95,7 @@ module _ (r : Recorded) (good : GoodRecorded r) (place : ℕ) where
 reported-is : (c : Settings) → GoodReported c → reported c ≡ c
 unfolding reported offsetBits
 reported-is c g =
-    let n : c .offset .width ≡ 0 → ⊥ = λ z. omega (arith, width-good (c .kind) (g .kind) .some, g .offsetWidth) in
+    let n : c .offset .width ≡ 0 → ⊥ = λ z. omega (arith, width-good (c .datatype) (g .datatype) .some, g .offsetWidth) in
     simp (ne-eqb (c .offset .width) 0 n)
 
 reported-again : (cs : List Settings) → AllReported cs → map reported cs ≡ cs

@@ -70,7 +70,7 @@ unfoldable pub tagOf : Attribute → ℕ
 tagOf Attribute.Block = 0x04
 tagOf Attribute.Class = 0x08
 tagOf Attribute.Lead = 0x09
-tagOf Attribute.Kind = 0x0A
+tagOf Attribute.DataType = 0x0A
 tagOf Attribute.Interval = 0x0B
 tagOf Attribute.Resolution = 0x0C
 tagOf Attribute.Offset = 0x0D
@@ -81,7 +81,7 @@ unfolding tagOf usual
 tag-usual Attribute.Block = refl
 tag-usual Attribute.Class = refl
 tag-usual Attribute.Lead = refl
-tag-usual Attribute.Kind = refl
+tag-usual Attribute.DataType = refl
 tag-usual Attribute.Interval = refl
 tag-usual Attribute.Resolution = refl
 tag-usual Attribute.Offset = refl
@@ -92,7 +92,7 @@ unfolding tagOf tagged
 tag-defines Attribute.Block = refl
 tag-defines Attribute.Class = refl
 tag-defines Attribute.Lead = refl
-tag-defines Attribute.Kind = refl
+tag-defines Attribute.DataType = refl
 tag-defines Attribute.Interval = refl
 tag-defines Attribute.Resolution = refl
 tag-defines Attribute.Offset = refl

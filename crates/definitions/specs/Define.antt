@@ -20,7 +20,7 @@ use Rattle.definitions.specs.declared.Defined.{Defined}
 use Rattle.definitions.specs.declared.Defined.the-variants.{Changed, Refused}
 use Rattle.definitions.specs.declared.Settled.{Settled}
 use Rattle.definitions.specs.declared.Settled.the-variants.{Record}
-use Rattle.settings.specs.Settings.{applied, blockLimit, lastKind, lastIntervalUnit, lastResolutionUnit}
+use Rattle.settings.specs.Settings.{applied, blockLimit, lastDataType, lastIntervalUnit, lastResolutionUnit}
 
 -- The column "Tag": 04, 08, 09, 0A, 0B, 0C, 0D, 12 may stand in a group.
 unfoldable pub tagged : ℕ → Tagged
@@ -28,7 +28,7 @@ tagged tag =
     pick (eqb tag 0x04) (Defines Attribute.Block)
     (pick (eqb tag 0x08) (Defines Attribute.Class)
     (pick (eqb tag 0x09) (Defines Attribute.Lead)
-    (pick (eqb tag 0x0A) (Defines Attribute.Kind)
+    (pick (eqb tag 0x0A) (Defines Attribute.DataType)
     (pick (eqb tag 0x0B) (Defines Attribute.Interval)
     (pick (eqb tag 0x0C) (Defines Attribute.Resolution)
     (pick (eqb tag 0x0D) (Defines Attribute.Offset)
@@ -48,7 +48,7 @@ abbrev pub lengthFits : Attribute → ℕ → Bool
 lengthFits Attribute.Block n = leb n 4
 lengthFits Attribute.Class n = leb n 34
 lengthFits Attribute.Lead n = leb n 34
-lengthFits Attribute.Kind n = leb n 1
+lengthFits Attribute.DataType n = leb n 1
 lengthFits Attribute.Interval n = scaleLength n
 lengthFits Attribute.Resolution n = scaleLength n
 lengthFits Attribute.Offset n = bitsLength n
@@ -72,7 +72,7 @@ abbrev pub changeOf : Attribute → Bool → List ℕ → Change
 changeOf Attribute.Block little v = Change.Block (numberOf little (take 4 v))
 changeOf Attribute.Class little v = Change.Class (codeOf little v)
 changeOf Attribute.Lead little v = Change.Lead (codeOf little v)
-changeOf Attribute.Kind little v = Change.Kind (getD v 0 0)
+changeOf Attribute.DataType little v = Change.DataType (getD v 0 0)
 changeOf Attribute.Interval little v = Change.Interval (scaleOf little v)
 changeOf Attribute.Resolution little v = Change.Resolution (scaleOf little v)
 changeOf Attribute.Offset little v = Change.Offset (bitsOf little v)
@@ -83,7 +83,7 @@ abbrev pub standingIn : Attribute → Settings → Change
 standingIn Attribute.Block s = Change.Block (s .block)
 standingIn Attribute.Class s = Change.Class (s .class)
 standingIn Attribute.Lead s = Change.Lead (s .lead)
-standingIn Attribute.Kind s = Change.Kind (s .kind)
+standingIn Attribute.DataType s = Change.DataType (s .datatype)
 standingIn Attribute.Interval s = Change.Interval (s .interval)
 standingIn Attribute.Resolution s = Change.Resolution (s .resolution)
 standingIn Attribute.Offset s = Change.Offset (s .offset)
@@ -102,7 +102,7 @@ abbrev pub inRange : Change → Bool
 inRange (Change.Block n) = blockFits n
 inRange (Change.Class n) = true
 inRange (Change.Lead n) = true
-inRange (Change.Kind n) = leb n lastKind
+inRange (Change.DataType n) = leb n lastDataType
 inRange (Change.Interval x) = scaleFits lastIntervalUnit x
 inRange (Change.Resolution x) = scaleFits lastResolutionUnit x
 inRange (Change.Offset x) = true

@@ -159,7 +159,7 @@ length-all cs (suc n) x h =
     ∙ omega arith
 
 -- A block that is turned round, as it was asked for.
-block-stored : {e f : List ℕ} {next r : ℕ} (c : Settings) (v place : ℕ) (x : List ℕ) → v ≡ widthOf (c .kind) → place + blockOctets c ≤ length x → Putting e next (turnedRun v (c .block) (drop place x)) r f → Putting e next (turned (widthIn c) (c .block) (drop place x)) r f
+block-stored : {e f : List ℕ} {next r : ℕ} (c : Settings) (v place : ℕ) (x : List ℕ) → v ≡ widthOf (c .datatype) → place + blockOctets c ≤ length x → Putting e next (turnedRun v (c .block) (drop place x)) r f → Putting e next (turned (widthIn c) (c .block) (drop place x)) r f
 unfolding blockOctets
 block-stored {e} {f} {next} {r} c v place x ev h p =
     let l = length-drop place x in
@@ -190,11 +190,11 @@ module _ {cs : List Settings} {x : List ℕ} {from base : ℕ} {d : List ℕ} {i
   blocks-fit : {c : Settings} → Nth cs i c → place + blockOctets c ≤ length x
   blocks-fit n = omega (arith, p .sum, p .fits, octets-next n)
 
-  pub blocks-sum : {c : Settings} {v : ℕ} → Nth cs i c → v ≡ widthOf (c .kind) → place + c .block * v ≤ length x
+  pub blocks-sum : {c : Settings} {v : ℕ} → Nth cs i c → v ≡ widthOf (c .datatype) → place + c .block * v ≤ length x
   unfolding blockOctets
   blocks-sum n ev = rw ev (blocks-fit n)
 
-  pub blocks-next : {c : Settings} {v r : ℕ} {f : List ℕ} → Nth cs i c → v ≡ widthOf (c .kind) → Putting e next (turnedRun v (c .block) (drop place x)) r f → Blocks cs x from base d (i + 1) (place + c .block * v) r f
+  pub blocks-next : {c : Settings} {v r : ℕ} {f : List ℕ} → Nth cs i c → v ≡ widthOf (c .datatype) → Putting e next (turnedRun v (c .block) (drop place x)) r f → Blocks cs x from base d (i + 1) (place + c .block * v) r f
   unfolding blockOctets
   blocks-next {c} {v} n ev q =
       let m : place + c .block * v ≡ place + blockOctets c = ap (λ (w : ℕ). place + c .block * w) ev in

@@ -46,11 +46,11 @@ fn even_width(table: [Settings; Settings::CHANNELS], count: usize) -> usize
     ensures { λ r. ⌜ (0 < r → Even r (take count table)) ⌝ }
 {
     let first = table[0];
-    let v = values::width(first.kind);
+    let v = values::width(first.datatype);
     let mut i = 0usize;
     while i < count {
         let c = table[i];
-        if values::width(c.kind) != v {
+        if values::width(c.datatype) != v {
             return 0;
         }
         i += 1;
@@ -78,7 +78,7 @@ fn put_blocks(
         let mut i = 0usize;
         while i < count {
             let c = table[i];
-            let v = values::width(c.kind);
+            let v = values::width(c.datatype);
             next = runs::turn(w, place, c.block as usize, v, out, next);
             place = place + c.block as usize * v;
             i += 1;

@@ -74,13 +74,13 @@ unfolding nullItem reported
 null-is c =
     pick-cases (λ (l : List ℕ). l ≡ field 0x12 (nullSize (widthIn c) (c .null)) (c .null .bits)) (eqb (c .null .width) 0)
     (null-none c)
-    (λ e. field-is 0x12 (widthIn c) (c .null .bits) (omega (arith, width-le (c .kind))) ∙ simp e)
+    (λ e. field-is 0x12 (widthIn c) (c .null .bits) (omega (arith, width-le (c .datatype))) ∙ simp e)
 
 -- The items of a group.
 pub items-is : (c : Settings) → groupItems (reported c) ≡ (firstItems c ++ scaleItems c) ++ lastItems c
 unfolding groupItems reported
 items-is c =
-    let w : widthIn c < 128 = omega (arith, width-le (c .kind)) in
+    let w : widthIn c < 128 = omega (arith, width-le (c .datatype)) in
     let f : 4 < 128 = omega arith in
     let g : 2 < 128 = omega arith in
     let h : 1 < 128 = omega arith in

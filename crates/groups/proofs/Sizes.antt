@@ -70,7 +70,7 @@ null-long c = by (eqb (c .null .width) 0)
   where
     by : (t : Bool) → length (pick t (itemOctets 0x12 []) (numberItem 0x12 (widthIn c) (c .null .bits))) ≡ 2 + pick t 0 (widthIn c)
     by true = short-item 0x12 [] (omega arith)
-    by false = number-long 0x12 (widthIn c) (c .null .bits) (omega (arith, width-le (c .kind)))
+    by false = number-long 0x12 (widthIn c) (c .null .bits) (omega (arith, width-le (c .datatype)))
 
 pub content-long : (c : Settings) → length (groupItems (reported c)) ≡ contentSize (widthIn c) (c .null)
 unfolding groupItems reported
@@ -78,8 +78,8 @@ content-long c =
     let block = number-long 0x04 4 (c .block) (omega arith) in
     let class = number-long 0x08 2 (c .class) (omega arith) in
     let lead = number-long 0x09 2 (c .lead) (omega arith) in
-    let kind = number-long 0x0A 1 (c .kind) (omega arith) in
-    let offset = number-long 0x0D (widthIn c) (offsetBits c .bits) (omega (arith, width-le (c .kind))) in
+    let datatype = number-long 0x0A 1 (c .datatype) (omega arith) in
+    let offset = number-long 0x0D (widthIn c) (offsetBits c .bits) (omega (arith, width-le (c .datatype))) in
     simp (length-append, scale-long, null-long) (omega arith)
 
 pub channel-long : (k : ℕ) → length (channelOctets k) ≡ channelSize k
@@ -92,7 +92,7 @@ channel-long k = by (ltb k 128)
 
 -- A group's items take fewer than 128 octets, so that their length is one octet.
 pub content-few : (c : Settings) → contentSize (widthIn c) (c .null) < 128
-content-few c = omega (arith, width-le (c .kind), null-le (widthIn c) (c .null))
+content-few c = omega (arith, width-le (c .datatype), null-le (widthIn c) (c .null))
 
 -- Their length is one octet.
 pub content-octet : (c : Settings) → shortest (length (groupItems (reported c))) ≡ contentSize (widthIn c) (c .null) ∷ []

@@ -29,7 +29,7 @@ groupItems c =
     numberItem 0x04 4 (c .block)
     ++ (numberItem 0x08 2 (c .class)
     ++ (numberItem 0x09 2 (c .lead)
-    ++ (numberItem 0x0A 1 (c .kind)
+    ++ (numberItem 0x0A 1 (c .datatype)
     ++ (scaleItem 0x0B (c .interval)
     ++ (scaleItem 0x0C (c .resolution)
     ++ (numberItem 0x0D (widthIn c) (c .offset .bits)

@@ -15,7 +15,7 @@ unsignedBy full (negsuc k) = full - suc k
 
 -- 04, 08, 09 and 0A.
 abbrev pub firstItems : Settings → List ℕ
-firstItems c = ((field 0x04 4 (c .block) ++ field 0x08 2 (c .class)) ++ field 0x09 2 (c .lead)) ++ field 0x0A 1 (c .kind)
+firstItems c = ((field 0x04 4 (c .block) ++ field 0x08 2 (c .class)) ++ field 0x09 2 (c .lead)) ++ field 0x0A 1 (c .datatype)
 
 -- 0B and 0C.
 abbrev pub scaleItems : Settings → List ℕ

@@ -54,7 +54,7 @@ fn put_first(out: &mut [u8], at: usize, c: Settings) -> usize
     let a = stores::put_field(out, at, 0x04, 4, c.block as u64);
     let b = stores::put_field(out, a, 0x08, 2, c.class as u64);
     let d = stores::put_field(out, b, 0x09, 2, c.lead as u64);
-    stores::put_field(out, d, 0x0A, 1, c.kind as u64)
+    stores::put_field(out, d, 0x0A, 1, c.datatype as u64)
 }
 
 // 0B and 0C.
@@ -75,7 +75,7 @@ fn put_last(out: &mut [u8], at: usize, c: Settings) -> usize
 {
     let offset = layout::offset_bits(c);
     let null = c.null;
-    let w = values::width(c.kind) as u8;
+    let w = values::width(c.datatype) as u8;
     let n = layout::null_size(w, null) as u8;
     let a = stores::put_field(out, at, 0x0D, w, offset.bits);
     stores::put_field(out, a, 0x12, n, null.bits)
@@ -116,7 +116,7 @@ fn store_group(out: &mut [u8], at: usize, k: u8, n: u8, c: Settings) -> usize
 pub fn put_group(out: &mut [u8], at: usize, k: u8, c: Settings) -> usize
     ensures { λ r. ⌜ Putting (now (out .entry)) at (groupOctets k (reported c)) r (now (out .exit)) ⌝ }
 {
-    let w = values::width(c.kind) as u8;
+    let w = values::width(c.datatype) as u8;
     let null = c.null;
     if stores::overruns(out.len(), at, layout::group_size(k as usize, w, null)) {
         return at;

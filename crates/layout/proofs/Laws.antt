@@ -42,7 +42,7 @@ channel-few k = pick-cases (λ (n : ℕ). n ≤ 2) (ltb k 128) (λ _. omega arit
 
 group-few : (k : ℕ) (c : Settings) → groupSize k (widthIn c) (c .null) ≤ 64
 unfolding groupSize
-group-few k c = omega (arith, channel-few k, width-le (c .kind), null-le (widthIn c) (c .null))
+group-few k c = omega (arith, channel-few k, width-le (c .datatype), null-le (widthIn c) (c .null))
 
 -- Some octets of the channels left: those below `channel`, where i channels are behind.
 abbrev leftBelow : ℕ → ℕ → List Settings → ℕ

@@ -24,7 +24,7 @@ pub record Frame : Type 0 where
 
 -- Octets per sample of a channel.
 abbrev pub widthIn : Settings → ℕ
-widthIn c = widthOf (c .kind)
+widthIn c = widthOf (c .datatype)
 
 -- Block length times octets per sample.
 unfoldable pub blockOctets : Settings → ℕ

@@ -49,7 +49,7 @@ pub fn offset_bits(c: Settings) -> Bits
     let offset = c.offset;
     if offset.width == 0 {
         return Bits {
-            width: values::width(c.kind) as u8,
+            width: values::width(c.datatype) as u8,
             bits: 0,
         };
     }
@@ -126,7 +126,7 @@ impl Layout {
     pub fn more(self, i: usize, channel: u32, c: Settings) -> Layout
         ensures { λ r. ⌜ More i channel c self r ⌝ }
     {
-        let w = values::width(c.kind) as u8;
+        let w = values::width(c.datatype) as u8;
         let offset = c.offset;
         let null = c.null;
         let octets = c.block as u64 * w as u64;

@@ -53,7 +53,7 @@ numbersOf a =
     ∷ pos (c .block)
     ∷ pos (c .class)
     ∷ pos (c .lead)
-    ∷ pos (c .kind)
+    ∷ pos (c .datatype)
     ∷ pos (c .interval .unit)
     ∷ c .interval .exponent
     ∷ c .interval .mantissa

@@ -54,7 +54,7 @@ fn numbers_of(a: Attributes) -> [i64; 15]
         c.block as i64,
         c.class as i64,
         c.lead as i64,
-        c.kind as i64,
+        c.datatype as i64,
         interval.unit as i64,
         interval.exponent as i64,
         interval.mantissa as i64,

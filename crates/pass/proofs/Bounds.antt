@@ -19,7 +19,7 @@ use Rattle.items.specs.declared.Item.{Item}
 use Rattle.items.specs.declared.Cursor.{Cursor}
 use Rattle.settings.specs.declared.Settings.{Settings}
 use Rattle.settings.specs.declared.Change.{Change}
-use Rattle.settings.specs.Settings.{channelLimit, blockLimit, lastKind, defaultSettings, allApplied}
+use Rattle.settings.specs.Settings.{channelLimit, blockLimit, lastDataType, defaultSettings, allApplied}
 use Rattle.definitions.specs.Define.{inRange}
 use Rattle.layout.specs.Frame.{blockOctets, sequenceOctets}
 use Rattle.standing.specs.Standing.{framesLimit}
@@ -38,7 +38,7 @@ both-split true b e = (refl, e)
 both-split false b e = let z : _≡_ {A = ℕ} 0 1 = cc in let w : ⊥ = omega arith in absurd w
 
 -- A sample of a data type has octets.
-width-some : (k : ℕ) → k ≤ lastKind → 0 < widthOf k
+width-some : (k : ℕ) → k ≤ lastDataType → 0 < widthOf k
 width-some = width-cases (λ (w : ℕ). 0 < w) (lit< tt) (lit< tt) (lit< tt) (lit< tt)
 
 -- Each value is in its range; this needs nothing of the octets.
@@ -47,13 +47,13 @@ InRange c = inRange c ≡ true
 
 default-ranged : EachAttribute InRange defaultSettings
 default-ranged =
-    record { block = refl; class = refl; lead = refl; kind = refl; interval = refl; resolution = refl; offset = refl; null = refl }
+    record { block = refl; class = refl; lead = refl; datatype = refl; interval = refl; resolution = refl; offset = refl; null = refl }
 
 block-octets-some : (c : Settings) → EachAttribute InRange c → 0 < blockOctets c
 unfolding blockOctets
 block-octets-some c e =
     let b = both-split (leb 1 (c .block)) (leb (c .block) blockLimit) (e .block) in
-    mul-pos (leb-true 1 (c .block) (b .0)) (width-some (c .kind) (leb-true (c .kind) lastKind (e .kind)))
+    mul-pos (leb-true 1 (c .block) (b .0)) (width-some (c .datatype) (leb-true (c .datatype) lastDataType (e .datatype)))
 
 sequence-octets-some : (cs : List Settings) → Every (EachAttribute InRange) cs → 0 < length cs → 0 < sequenceOctets cs
 unfolding sequenceOctets

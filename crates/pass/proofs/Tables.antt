@@ -25,7 +25,7 @@ pub record EachAttribute (P : Change → Type 0) (c : Settings) : Type 0 where
   pub block : P (Change.Block (c .block))
   pub class : P (Change.Class (c .class))
   pub lead : P (Change.Lead (c .lead))
-  pub kind : P (Change.Kind (c .kind))
+  pub datatype : P (Change.DataType (c .datatype))
   pub interval : P (Change.Interval (c .interval))
   pub resolution : P (Change.Resolution (c .resolution))
   pub offset : P (Change.Offset (c .offset))
@@ -36,7 +36,7 @@ module _ (P : Change → Type 0) where
   each-at Attribute.Block c e = e .block
   each-at Attribute.Class c e = e .class
   each-at Attribute.Lead c e = e .lead
-  each-at Attribute.Kind c e = e .kind
+  each-at Attribute.DataType c e = e .datatype
   each-at Attribute.Interval c e = e .interval
   each-at Attribute.Resolution c e = e .resolution
   each-at Attribute.Offset c e = e .offset
@@ -46,7 +46,7 @@ module _ (P : Change → Type 0) where
   applied-each (Change.Block n) c p e = search needs
   applied-each (Change.Class n) c p e = search needs
   applied-each (Change.Lead n) c p e = search needs
-  applied-each (Change.Kind n) c p e = search needs
+  applied-each (Change.DataType n) c p e = search needs
   applied-each (Change.Interval x) c p e = search needs
   applied-each (Change.Resolution x) c p e = search needs
   applied-each (Change.Offset x) c p e = search needs

@@ -245,13 +245,13 @@ module _ {s : List ℕ} {frame channel : ℕ} {w : View} (p : Located s frame ch
         rw (place-is n) (omega (arith, a .fits, a .inside, b, c))
 
     -- The octets there are the sample's.
-    pub bits-seen : numberOf (w .little) (take (widthOf (w .settings .kind)) (drop (placeSeen w n) s)) ≡ sampleBits frameIn channel n
+    pub bits-seen : numberOf (w .little) (take (widthOf (w .settings .datatype)) (drop (placeSeen w n) s)) ≡ sampleBits frameIn channel n
     unfolding samplesOf
     bits-seen =
         let o = little-seen in
         let c = settings-seen in
         let q = place-is n in
-        (λ j. numberOf (o j) (take (widthOf (c j .kind)) (drop (q j) s)))
+        (λ j. numberOf (o j) (take (widthOf (c j .datatype)) (drop (q j) s)))
         ∙ bits-there s frameIn (accepted-lies s (p .frames) (p .verdictIs) frame (p .frameIn)) (record { channel = p .channelIs; number = number-in })
 
     pub block-some : 0 < w .settings .block
@@ -272,7 +272,7 @@ place-refused s frame channel n x e f =
     (λ fs v i c q. let z : _≡_ {A = ℕ} 0 1 = cc in let a : ⊥ = omega arith in absurd a) (ap lookedUpSays (sym f) ∙ e)
 
 -- The place as it is computed, with the width as it was read.
-pub place-sum : (v : View) (n width : ℕ) → width ≡ widthOf (v .settings .kind) → v .place + (n / v .settings .block * v .octets + v .below + n % v .settings .block * width) ≡ placeSeen v n
+pub place-sum : (v : View) (n width : ℕ) → width ≡ widthOf (v .settings .datatype) → v .place + (n / v .settings .block * v .octets + v .below + n % v .settings .block * width) ≡ placeSeen v n
 unfolding placeSeen
 place-sum v n width e = rw e
 
@@ -302,7 +302,7 @@ module _ (s : List ℕ) (frame channel n : ℕ) where
 
 -- The sample that lies at the place that was found, of the octets x there.
 pub sample-at : (s : List ℕ) (frame channel n : ℕ) {p width bits : ℕ} {w : View} {x : List ℕ} {value : Said} {r : Placed} → placedSays r ≡ placedOf s frame channel n → r ≡ At p w
-    → width ≡ widthOf (w .settings .kind) → x ≡ take width (drop p s) → NumberRead (w .little) (take 8 x) bits → value ≡ valueOf (w .settings .kind) (w .settings .null) (lowBits (w .settings .kind) bits)
+    → width ≡ widthOf (w .settings .datatype) → x ≡ take width (drop p s) → NumberRead (w .little) (take 8 x) bits → value ≡ valueOf (w .settings .datatype) (w .settings .null) (lowBits (w .settings .datatype) bits)
     → answered (foundSample p bits value) ≡ sampleOf s frame channel n
 unfolding sampleOf sampleIn
 sample-at s frame channel n {p} {width} {bits} {w} {x} e f ew ex er ev =
@@ -310,10 +310,10 @@ sample-at s frame channel n {p} {width} {bits} {w} {x} e f ew ex er ev =
     let l = m .channelAt in
     let place : p ≡ placeOf channel n (frameIn l) = m .place ∙ place-is l n in
     let c = settings-seen l in
-    let read = part-read (w .little) (widthOf (w .settings .kind)) (drop p s) x (width-le (w .settings .kind)) (rw ew at ex) er in
-    let all = low-bits (w .settings .kind) bits (part-fits (w .little) (widthOf (w .settings .kind)) (drop p s) x (width-le (w .settings .kind)) (rw ew at ex) er) in
-    let b : bits ≡ sampleBits (frameIn l) channel n = read ∙ ap (λ (k : ℕ). numberOf (w .little) (take (widthOf (w .settings .kind)) (drop k s))) (m .place) ∙ bits-seen l (m .number) in
-    let v = ev ∙ ap (valueOf (w .settings .kind) (w .settings .null)) all ∙ (λ j. valueOf (c j .kind) (c j .null) (b j)) in
+    let read = part-read (w .little) (widthOf (w .settings .datatype)) (drop p s) x (width-le (w .settings .datatype)) (rw ew at ex) er in
+    let all = low-bits (w .settings .datatype) bits (part-fits (w .little) (widthOf (w .settings .datatype)) (drop p s) x (width-le (w .settings .datatype)) (rw ew at ex) er) in
+    let b : bits ≡ sampleBits (frameIn l) channel n = read ∙ ap (λ (k : ℕ). numberOf (w .little) (take (widthOf (w .settings .datatype)) (drop k s))) (m .place) ∙ bits-seen l (m .number) in
+    let v = ev ∙ ap (valueOf (w .settings .datatype) (w .settings .null)) all ∙ (λ j. valueOf (c j .datatype) (c j .null) (b j)) in
     (λ j. answered (foundSample (place j) (b j) (v j)))
     ∙ sym (sample-found frame channel (l .verdictIs) (l .frameIn) (l .channelIs) (sampleIn channel n) (omega (arith, count-seen l, m .number)))
 

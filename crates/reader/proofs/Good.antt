@@ -25,7 +25,7 @@ use Rattle.settings.specs.declared.Scale.{Scale}
 use Rattle.settings.specs.declared.Settings.{Settings}
 use Rattle.definitions.specs.declared.Attribute.{Attribute}
 use Rattle.settings.specs.declared.Change.{Change}
-use Rattle.settings.specs.Settings.{blockLimit, lastKind, lastIntervalUnit, lastResolutionUnit, defaultSettings}
+use Rattle.settings.specs.Settings.{blockLimit, lastDataType, lastIntervalUnit, lastResolutionUnit, defaultSettings}
 use Rattle.definitions.specs.Define.{bitsLength, lengthFits, scaleOf, bitsOf, changeOf, scaleFits, inRange}
 use Rattle.layout.specs.Frame.{Frame, sequenceOctets, channelAgrees, allAgree}
 use Rattle.standing.specs.declared.Standing.{Standing}
@@ -55,7 +55,7 @@ pub record GoodSettings (c : Settings) : Type 0 where
   pub blockHigh : c .block ≤ blockLimit
   pub class : c .class < 2 ^ 16
   pub lead : c .lead < 2 ^ 16
-  pub kind : c .kind ≤ lastKind
+  pub datatype : c .datatype ≤ lastDataType
   pub interval : GoodScale lastIntervalUnit (c .interval)
   pub resolution : GoodScale lastResolutionUnit (c .resolution)
   pub offset : c .offset .bits < 256 ^ (c .offset .width)
@@ -79,7 +79,7 @@ abbrev GoodChange : Change → Type 0
 GoodChange (Change.Block n) = (0 < n) × (n ≤ blockLimit)
 GoodChange (Change.Class n) = n < 2 ^ 16
 GoodChange (Change.Lead n) = n < 2 ^ 16
-GoodChange (Change.Kind n) = n ≤ lastKind
+GoodChange (Change.DataType n) = n ≤ lastDataType
 GoodChange (Change.Interval x) = GoodScale lastIntervalUnit x
 GoodChange (Change.Resolution x) = GoodScale lastResolutionUnit x
 GoodChange (Change.Offset x) = GoodBits x
@@ -92,7 +92,7 @@ settings-good c e =
       blockHigh = e .block .1;
       class = e .class;
       lead = e .lead;
-      kind = e .kind;
+      datatype = e .datatype;
       interval = e .interval;
       resolution = e .resolution;
       offset = e .offset .0;
@@ -107,7 +107,7 @@ default-good =
       block = omega arith;
       class = omega arith;
       lead = omega arith;
-      kind = omega arith;
+      datatype = omega arith;
       interval = record { unit = omega arith; exponent = omega arith; value = 1000; mantissa = refl; low = omega arith; high = omega arith };
       resolution = record { unit = omega arith; exponent = omega arith; value = 1; mantissa = refl; low = omega arith; high = omega arith };
       offset = (lit< tt, refl);
@@ -179,7 +179,7 @@ module _ (little : Bool) (v : List ℕ) (octets : Octets v) where
       (leb-true 1 n (h .0), leb-true n blockLimit (h .1))
   change-good Attribute.Class f r = number-first 2
   change-good Attribute.Lead f r = number-first 2
-  change-good Attribute.Kind f r = leb-true (getD v 0 0) lastKind r
+  change-good Attribute.DataType f r = leb-true (getD v 0 0) lastDataType r
   change-good Attribute.Interval f r = scale-good lastIntervalUnit r
   change-good Attribute.Resolution f r = scale-good lastResolutionUnit r
   change-good Attribute.Offset f r = bits-good f

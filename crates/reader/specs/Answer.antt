@@ -97,7 +97,7 @@ unfoldable pub sampleIn : ℕ → ℕ → Frame → FoundSample
 sampleIn channel n f =
     let c = channelIn channel (f .channels) in
     let bits = sampleBits f channel n in
-    foundSample (placeOf channel n f) bits (valueOf (c .kind) (c .null) bits)
+    foundSample (placeOf channel n f) bits (valueOf (c .datatype) (c .null) bits)
 
 -- A sample of a file, by frame, channel and number.
 unfoldable pub sampleOf : List ℕ → ℕ → ℕ → ℕ → Answer FoundSample

@@ -134,7 +134,7 @@ fn place_seen(v: View, number: u64) -> usize
     ensures { λ r. ⌜ r ≡ placeSeen v number ⌝ }
 {
     let c = v.settings;
-    let w = values::width(c.kind) as u64;
+    let w = values::width(c.datatype) as u64;
     let b = c.block as u64;
     let offset = number / b * v.octets + v.below + number % b * w;
     (v.place as u64 + offset) as usize
@@ -169,9 +169,9 @@ pub fn sample(s: &[u8], frame: u32, channel: u32, number: u64) -> Sampled
         Placed::At(at, v) => {
             let c = v.settings;
             let null = c.null;
-            let x = octets::part(s, at, values::width(c.kind));
+            let x = octets::part(s, at, values::width(c.datatype));
             let bits = octets::number(x, v.little);
-            let value = values::sample_value(bits, c.kind, null);
+            let value = values::sample_value(bits, c.datatype, null);
             Sampled::Sample {
                 place: at,
                 bits,

@@ -5,7 +5,7 @@ use lib.IntN.{pos, negsuc}
 use lib.ListN.{replicate}
 use Rattle.settings.specs.declared.Settings.{Settings}
 use Rattle.settings.specs.declared.Change.{Change}
-use Rattle.settings.specs.declared.Change.the-variants.{Block, Class, Lead, Kind, Interval, Resolution, Offset, Null}
+use Rattle.settings.specs.declared.Change.the-variants.{Block, Class, Lead, DataType, Interval, Resolution, Offset, Null}
 
 -- The channels of a frame at most, and so the number of records.
 abbrev pub channelLimit : ℕ
@@ -16,8 +16,8 @@ abbrev pub blockLimit : ℕ
 blockLimit = 1_048_576
 
 -- The last data type.
-abbrev pub lastKind : ℕ
-lastKind = 8
+abbrev pub lastDataType : ℕ
+lastDataType = 8
 
 -- The last unit of an interval.
 abbrev pub lastIntervalUnit : ℕ
@@ -34,7 +34,7 @@ defaultSettings =
       block = 1;
       class = 0;
       lead = 0;
-      kind = 0;
+      datatype = 0;
       interval = record { unit = 0; exponent = pos 0; mantissa = pos 1000 };
       resolution = record { unit = 0; exponent = negsuc 5; mantissa = pos 1 };
       offset = record { width = 0; bits = 0 };
@@ -52,7 +52,7 @@ zeroSettings =
       block = 0;
       class = 0;
       lead = 0;
-      kind = 0;
+      datatype = 0;
       interval = record { unit = 0; exponent = pos 0; mantissa = pos 0 };
       resolution = record { unit = 0; exponent = pos 0; mantissa = pos 0 };
       offset = record { width = 0; bits = 0 };
@@ -61,14 +61,14 @@ zeroSettings =
 
 -- A record with one attribute changed.
 abbrev pub applied : Change → Settings → Settings
-applied (Block n) s = record { block = n; class = s .class; lead = s .lead; kind = s .kind; interval = s .interval; resolution = s .resolution; offset = s .offset; null = s .null }
-applied (Class n) s = record { block = s .block; class = n; lead = s .lead; kind = s .kind; interval = s .interval; resolution = s .resolution; offset = s .offset; null = s .null }
-applied (Lead n) s = record { block = s .block; class = s .class; lead = n; kind = s .kind; interval = s .interval; resolution = s .resolution; offset = s .offset; null = s .null }
-applied (Kind n) s = record { block = s .block; class = s .class; lead = s .lead; kind = n; interval = s .interval; resolution = s .resolution; offset = s .offset; null = s .null }
-applied (Interval x) s = record { block = s .block; class = s .class; lead = s .lead; kind = s .kind; interval = x; resolution = s .resolution; offset = s .offset; null = s .null }
-applied (Resolution x) s = record { block = s .block; class = s .class; lead = s .lead; kind = s .kind; interval = s .interval; resolution = x; offset = s .offset; null = s .null }
-applied (Offset x) s = record { block = s .block; class = s .class; lead = s .lead; kind = s .kind; interval = s .interval; resolution = s .resolution; offset = x; null = s .null }
-applied (Null x) s = record { block = s .block; class = s .class; lead = s .lead; kind = s .kind; interval = s .interval; resolution = s .resolution; offset = s .offset; null = x }
+applied (Block n) s = record { block = n; class = s .class; lead = s .lead; datatype = s .datatype; interval = s .interval; resolution = s .resolution; offset = s .offset; null = s .null }
+applied (Class n) s = record { block = s .block; class = n; lead = s .lead; datatype = s .datatype; interval = s .interval; resolution = s .resolution; offset = s .offset; null = s .null }
+applied (Lead n) s = record { block = s .block; class = s .class; lead = n; datatype = s .datatype; interval = s .interval; resolution = s .resolution; offset = s .offset; null = s .null }
+applied (DataType n) s = record { block = s .block; class = s .class; lead = s .lead; datatype = n; interval = s .interval; resolution = s .resolution; offset = s .offset; null = s .null }
+applied (Interval x) s = record { block = s .block; class = s .class; lead = s .lead; datatype = s .datatype; interval = x; resolution = s .resolution; offset = s .offset; null = s .null }
+applied (Resolution x) s = record { block = s .block; class = s .class; lead = s .lead; datatype = s .datatype; interval = s .interval; resolution = x; offset = s .offset; null = s .null }
+applied (Offset x) s = record { block = s .block; class = s .class; lead = s .lead; datatype = s .datatype; interval = s .interval; resolution = s .resolution; offset = x; null = s .null }
+applied (Null x) s = record { block = s .block; class = s .class; lead = s .lead; datatype = s .datatype; interval = s .interval; resolution = s .resolution; offset = s .offset; null = x }
 
 -- All records with one attribute changed.
 unfoldable pub allApplied : Change → List Settings → List Settings

@@ -21,7 +21,7 @@ pub struct Settings {
     pub block: u32,
     pub class: u16,
     pub lead: u16,
-    pub kind: u8,
+    pub datatype: u8,
     pub interval: Scale,
     pub resolution: Scale,
     pub offset: Bits,
@@ -36,7 +36,7 @@ impl Settings {
     pub const BLOCK_LIMIT: u32 = 1_048_576;
 
     // The last data type.
-    pub const LAST_KIND: u8 = 8;
+    pub const LAST_DATA_TYPE: u8 = 8;
 
     // The last unit of an interval.
     pub const LAST_INTERVAL_UNIT: u8 = 2;
@@ -52,7 +52,7 @@ impl Settings {
             block: 1,
             class: 0,
             lead: 0,
-            kind: 0,
+            datatype: 0,
             interval: Scale {
                 unit: 0,
                 exponent: 0,
@@ -93,7 +93,7 @@ pub enum Change {
     Block(u32),
     Class(u16),
     Lead(u16),
-    Kind(u8),
+    DataType(u8),
     Interval(Scale),
     Resolution(Scale),
     Offset(Bits),
@@ -115,8 +115,8 @@ pub fn apply(s: Settings, c: Change) -> Settings
         Change::Lead(n) => {
             t.lead = n;
         }
-        Change::Kind(n) => {
-            t.kind = n;
+        Change::DataType(n) => {
+            t.datatype = n;
         }
         Change::Interval(x) => {
             t.interval = x;

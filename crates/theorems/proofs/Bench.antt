@@ -117,12 +117,12 @@ refusedAt s number place line = record { input = s; checked = refusedAs number p
 
 -- The settings of a channel by its data type and the width of its offset; all else is as by default.
 abbrev settingsBy : ℕ → ℕ → Settings
-settingsBy kind width =
+settingsBy datatype width =
     record {
       block = 1;
       class = 0;
       lead = 0;
-      kind = kind;
+      datatype = datatype;
       interval = record { unit = 0; exponent = pos 0; mantissa = pos 1000 };
       resolution = record { unit = 0; exponent = negsuc 5; mantissa = pos 1 };
       offset = record { width = width; bits = 0 };
@@ -131,8 +131,8 @@ settingsBy kind width =
 
 -- The attributes of a channel by the frame's channels and sequences and by its data type and sample width; all else is as by default.
 abbrev typed : ℕ → ℕ → ℕ → ℕ → Answer Attributes
-typed channels sequences kind width =
-    answered (record { start = pos 0; channels = channels; sequences = sequences; settings = settingsBy kind width })
+typed channels sequences datatype width =
+    answered (record { start = pos 0; channels = channels; sequences = sequences; settings = settingsBy datatype width })
 
 -- A whole number at a place, with its bits.
 abbrev wholeAt : ℕ → ℕ → ℤ → Answer FoundSample

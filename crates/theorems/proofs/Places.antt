@@ -75,7 +75,7 @@ pub record InWaveform (s : List ℕ) (fs : List Frame) (a : NamedSample s) : Typ
   pub high : a .place + namedWidth fs (a .name) ≤ endOf (namedFrame fs (a .name))
   pub octets : take (namedWidth fs (a .name)) (drop (a .place) s) ≡ namedOctets fs (a .name)
   pub bits : a .bits ≡ numberOf (namedFrame fs (a .name) .little) (namedOctets fs (a .name))
-  pub value : a .value ≡ valueOf (namedSettings fs (a .name) .kind) (namedSettings fs (a .name) .null) (a .bits)
+  pub value : a .value ≡ valueOf (namedSettings fs (a .name) .datatype) (namedSettings fs (a .name) .null) (a .bits)
 
 -- Octet p of the file is one of a sample's, and of no other's.
 pub record OneSample (s : List ℕ) (fs : List Frame) (p : ℕ) : Type 0 where
@@ -137,7 +137,7 @@ module _ (s : List ℕ) (fs : List Frame) (e : verdict s ≡ accepted fs) where
         high = omega (arith, offset-fits s f l (h .sample));
         octets = rw p (octets-there s f l (h .sample));
         bits = b;
-        value = sym (ap (λ (y : FoundSample). y .value) (r .3)) ∙ ap (valueOf (c .kind) (c .null)) (sym b);
+        value = sym (ap (λ (y : FoundSample). y .value) (r .3)) ∙ ap (valueOf (c .datatype) (c .null)) (sym b);
       }
 
   -- ---- two samples

@@ -237,7 +237,7 @@ module _ (s : List ℕ) (x : State) (at : ℕ) (v : List ℕ) where
               (
                 attribute-takes Attribute.Lead (entryOf 0x09) refl (from-zero 34) (λ little u h. refl),
                 (
-                  attribute-takes Attribute.Kind (entryOf 0x0A) refl zero-one (λ little u h. refl),
+                  attribute-takes Attribute.DataType (entryOf 0x0A) refl zero-one (λ little u h. refl),
                   (
                     attribute-takes Attribute.Interval (entryOf 0x0B) refl (λ n. refl) (λ little u h. rw (short-mantissa u h)),
                     (

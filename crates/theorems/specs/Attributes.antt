@@ -8,7 +8,7 @@ use lib.Signed.{ltZ}
 use lib.ListN.{getD, drop}
 use Rattle.octets.specs.Pick.{pick, both, either}
 use Rattle.octets.specs.Number.{numberOf, signedOf}
-use Rattle.settings.specs.Settings.{channelLimit, blockLimit, lastKind, lastIntervalUnit, lastResolutionUnit}
+use Rattle.settings.specs.Settings.{channelLimit, blockLimit, lastDataType, lastIntervalUnit, lastResolutionUnit}
 
 -- An entry of the table: a tag, the lengths given for it, and which octets of such a length are a value, by the byte order that stands.
 pub record Entry : Type 0 where
@@ -62,7 +62,7 @@ attributes =
     ∷ entry 0x07 (between 0 4) any
     ∷ entry 0x08 (between 0 34) any
     ∷ entry 0x09 (between 0 34) any
-    ∷ entry 0x0A (among (0 ∷ 1 ∷ [])) (octetTo lastKind)
+    ∷ entry 0x0A (among (0 ∷ 1 ∷ [])) (octetTo lastDataType)
     ∷ entry 0x0B scaleLengths (unitTo lastIntervalUnit)
     ∷ entry 0x0C scaleLengths (unitTo lastResolutionUnit)
     ∷ entry 0x0D (among (0 ∷ 1 ∷ 2 ∷ 4 ∷ 8 ∷ [])) any

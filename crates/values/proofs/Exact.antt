@@ -17,7 +17,7 @@ use Rattle.octets.proofs.Pick.{pick-cases}
 use Rattle.values.specs.declared.Bits.{Bits}
 use Rattle.values.specs.declared.Value.{Value}
 use Rattle.values.specs.declared.Value.the-variants.{Whole, Status, Single, Double, NotNumber, Null}
-use Rattle.values.proofs.Laws.{kind-cases, plain-other}
+use Rattle.values.proofs.Laws.{type-cases, plain-other}
 use Rattle.values.specs.Sample.{Said, wholeSaid, nullSaid, valueSays, singleOf, doubleOf, plainOf, isNull, valueOf}
 
 -- ---- what a value says
@@ -69,26 +69,26 @@ plain-has : (k n : ℕ) → HasBits n (plainOf k n)
 unfolding plainOf
 plain-has k n =
     let w = whole-has n in
-    kind-cases (λ (j : ℕ). HasBits n (plainOf j n)) w w w w (omega arith, λ h. refl) w w (single-has n) (double-has n)
+    type-cases (λ (j : ℕ). HasBits n (plainOf j n)) w w w w (omega arith, λ h. refl) w w (single-has n) (double-has n)
     (λ j h. subst (HasBits n) (plain-other j n h) w) k
 
-module _ (kind : ℕ) (null : Bits) (bits : ℕ) where
+module _ (datatype : ℕ) (null : Bits) (bits : ℕ) where
   -- A value that is neither whole nor null.
-  pub value-bits : 0 < valueOf kind null bits .kind → valueOf kind null bits .kind < 5 → valueOf kind null bits .bits ≡ bits
+  pub value-bits : 0 < valueOf datatype null bits .kind → valueOf datatype null bits .kind < 5 → valueOf datatype null bits .bits ≡ bits
   unfolding valueOf
   value-bits =
       pick-cases (λ (x : Said). 0 < x .kind → x .kind < 5 → x .bits ≡ bits) (isNull null bits)
       (λ t l h. let z : ⊥ = omega arith in absurd z)
-      (λ t l h. plain-has kind bits .1 l)
+      (λ t l h. plain-has datatype bits .1 l)
 
   -- Null is answered where the sample's bits are null's, and nowhere else.
-  pub null-first : isNull null bits ≡ true → valueOf kind null bits ≡ nullSaid
+  pub null-first : isNull null bits ≡ true → valueOf datatype null bits ≡ nullSaid
   unfolding valueOf
   null-first h = rw h
 
-  pub null-only : valueOf kind null bits .kind ≡ 5 → isNull null bits ≡ true
+  pub null-only : valueOf datatype null bits .kind ≡ 5 → isNull null bits ≡ true
   unfolding valueOf
   null-only =
       pick-cases (λ (x : Said). x .kind ≡ 5 → isNull null bits ≡ true) (isNull null bits)
       (λ t e. t)
-      (λ t e. let z : ⊥ = omega (arith, plain-has kind bits .0) in absurd z)
+      (λ t e. let z : ⊥ = omega (arith, plain-has datatype bits .0) in absurd z)

@@ -1,6 +1,6 @@
 -- Laws of a sample's value.
 --     nan-yes, nan-no    the test that tells a float that is no number, for any format
---     kind-cases, width-cases    what holds of each data type, and of the widths that they have
+--     type-cases, width-cases    what holds of each data type, and of the widths that they have
 --     three, width-le, plain-signed, plain-unsigned    the tables by data type
 --     width-other, plain-other, past    and at a number that is no type
 --     low-bits, low-below    the bits of the sample's width
@@ -43,17 +43,17 @@ pub three : (P : ℕ → Type 0) {a b c k : ℕ} → P a → P b → P c → (k 
 three P p q r h = ⊎-elim (λ e. rw e p) (⊎-elim (λ e. rw e q) (λ e. rw e r)) h
 
 -- What holds of each data type, and of a number that is none, holds of every number.
-pub kind-cases : (P : ℕ → Type 0) → P 0 → P 1 → P 2 → P 3 → P 4 → P 5 → P 6 → P 7 → P 8 → ((k : ℕ) → 9 ≤ k → P k) → (k : ℕ) → P k
-kind-cases P p0 p1 p2 p3 p4 p5 p6 p7 p8 other zero = p0
-kind-cases P p0 p1 p2 p3 p4 p5 p6 p7 p8 other (suc zero) = p1
-kind-cases P p0 p1 p2 p3 p4 p5 p6 p7 p8 other (suc (suc zero)) = p2
-kind-cases P p0 p1 p2 p3 p4 p5 p6 p7 p8 other (suc (suc (suc zero))) = p3
-kind-cases P p0 p1 p2 p3 p4 p5 p6 p7 p8 other (suc (suc (suc (suc zero)))) = p4
-kind-cases P p0 p1 p2 p3 p4 p5 p6 p7 p8 other (suc (suc (suc (suc (suc zero))))) = p5
-kind-cases P p0 p1 p2 p3 p4 p5 p6 p7 p8 other (suc (suc (suc (suc (suc (suc zero)))))) = p6
-kind-cases P p0 p1 p2 p3 p4 p5 p6 p7 p8 other (suc (suc (suc (suc (suc (suc (suc zero))))))) = p7
-kind-cases P p0 p1 p2 p3 p4 p5 p6 p7 p8 other (suc (suc (suc (suc (suc (suc (suc (suc zero)))))))) = p8
-kind-cases P p0 p1 p2 p3 p4 p5 p6 p7 p8 other (suc (suc (suc (suc (suc (suc (suc (suc (suc k))))))))) = other _ (omega arith)
+pub type-cases : (P : ℕ → Type 0) → P 0 → P 1 → P 2 → P 3 → P 4 → P 5 → P 6 → P 7 → P 8 → ((k : ℕ) → 9 ≤ k → P k) → (k : ℕ) → P k
+type-cases P p0 p1 p2 p3 p4 p5 p6 p7 p8 other zero = p0
+type-cases P p0 p1 p2 p3 p4 p5 p6 p7 p8 other (suc zero) = p1
+type-cases P p0 p1 p2 p3 p4 p5 p6 p7 p8 other (suc (suc zero)) = p2
+type-cases P p0 p1 p2 p3 p4 p5 p6 p7 p8 other (suc (suc (suc zero))) = p3
+type-cases P p0 p1 p2 p3 p4 p5 p6 p7 p8 other (suc (suc (suc (suc zero)))) = p4
+type-cases P p0 p1 p2 p3 p4 p5 p6 p7 p8 other (suc (suc (suc (suc (suc zero))))) = p5
+type-cases P p0 p1 p2 p3 p4 p5 p6 p7 p8 other (suc (suc (suc (suc (suc (suc zero)))))) = p6
+type-cases P p0 p1 p2 p3 p4 p5 p6 p7 p8 other (suc (suc (suc (suc (suc (suc (suc zero))))))) = p7
+type-cases P p0 p1 p2 p3 p4 p5 p6 p7 p8 other (suc (suc (suc (suc (suc (suc (suc (suc zero)))))))) = p8
+type-cases P p0 p1 p2 p3 p4 p5 p6 p7 p8 other (suc (suc (suc (suc (suc (suc (suc (suc (suc k))))))))) = other _ (omega arith)
 
 -- At a number that is no data type.
 pub width-other : (k : ℕ) → 9 ≤ k → 0 ≡ widthOf k
@@ -68,7 +68,7 @@ plain-other k n h = rw List·getD-eq-default
 pub width-cases : (P : ℕ → Type 0) → P 1 → P 2 → P 4 → P 8 → (k : ℕ) → k ≤ 8 → P (widthOf k)
 unfolding widthOf
 width-cases P one two four eight =
-    kind-cases (λ (k : ℕ). k ≤ 8 → P (widthOf k))
+    type-cases (λ (k : ℕ). k ≤ 8 → P (widthOf k))
     (λ _. two) (λ _. two) (λ _. four) (λ _. one) (λ _. two) (λ _. one) (λ _. four) (λ _. four) (λ _. eight)
     (λ k h l. let z : ⊥ = omega arith in absurd z)
 

@@ -14,7 +14,7 @@ use Rattle.values.specs.declared.Value.the-variants.{Whole, Status, Sing
 
 -- Octets of a sample by its data type, 0 to 8; an accepted file has no other type, and for one the answer is 0.
 unfoldable pub widthOf : ℕ → ℕ
-widthOf kind = getD (2 ∷ 2 ∷ 4 ∷ 1 ∷ 2 ∷ 1 ∷ 4 ∷ 4 ∷ 8 ∷ []) kind 0
+widthOf datatype = getD (2 ∷ 2 ∷ 4 ∷ 1 ∷ 2 ∷ 1 ∷ 4 ∷ 4 ∷ 8 ∷ []) datatype 0
 
 -- ---- what a value says
 
@@ -64,10 +64,10 @@ doubleOf n = pick (nanBits binary64 n) (notNumberSaid n) (doubleSaid n)
 
 -- The value of a sample's bits, null aside, by its data type, 0 to 8; an accepted file has no other type. Types 0, 2 and 5 are signed.
 unfoldable pub plainOf : ℕ → ℕ → Said
-plainOf kind n =
-    let signed = wholeSaid (twos (widthOf kind) n) in
+plainOf datatype n =
+    let signed = wholeSaid (twos (widthOf datatype) n) in
     let unsigned = wholeSaid (pos n) in
-    getD (signed ∷ unsigned ∷ signed ∷ unsigned ∷ statusSaid n ∷ signed ∷ unsigned ∷ singleOf n ∷ doubleOf n ∷ []) kind (wholeSaid (pos 0))
+    getD (signed ∷ unsigned ∷ signed ∷ unsigned ∷ statusSaid n ∷ signed ∷ unsigned ∷ singleOf n ∷ doubleOf n ∷ []) datatype (wholeSaid (pos 0))
 
 -- The bits are null's: null is defined, and its bits are these. Widths need no comparison: 12 has refused a null of another width.
 unfoldable pub isNull : Bits → ℕ → Bool
@@ -75,8 +75,8 @@ isNull null n = both (not (eqb (null .width) 0)) (eqb (null .bits) n)
 
 -- The value of a sample's bits: null comes first, then the data type decides.
 unfoldable pub valueOf : ℕ → Bits → ℕ → Said
-valueOf kind null bits = pick (isNull null bits) nullSaid (plainOf kind bits)
+valueOf datatype null bits = pick (isNull null bits) nullSaid (plainOf datatype bits)
 
 -- Of a number that is wider than a sample of a data type, the bits that such a sample has: the lowest.
 abbrev pub lowBits : ℕ → ℕ → ℕ
-lowBits kind bits = lowOf (widthOf kind) bits
+lowBits datatype bits = lowOf (widthOf datatype) bits

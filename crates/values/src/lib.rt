@@ -27,10 +27,10 @@ pub struct Bits {
 }
 
 // Octets of a sample by its data type.
-pub fn width(kind: u8) -> usize
-    ensures { λ r. ⌜ r ≡ widthOf kind ⌝ }
+pub fn width(datatype: u8) -> usize
+    ensures { λ r. ⌜ r ≡ widthOf datatype ⌝ }
 {
-    match kind {
+    match datatype {
         0 => 2,
         1 => 2,
         2 => 4,
@@ -82,12 +82,12 @@ fn double(n: u64) -> Value
 }
 
 // A sample that is not null, of the bits n.
-fn plain(kind: u8, n: u64) -> Value
-    requires { ⌜ n < range (widthOf kind) ⌝ }
-    ensures { λ r. ⌜ valueSays r ≡ plainOf kind n ⌝ }
+fn plain(datatype: u8, n: u64) -> Value
+    requires { ⌜ n < range (widthOf datatype) ⌝ }
+    ensures { λ r. ⌜ valueSays r ≡ plainOf datatype n ⌝ }
 {
-    match kind {
-        0 | 2 | 5 => whole(n, width(kind)),
+    match datatype {
+        0 | 2 | 5 => whole(n, width(datatype)),
         1 | 3 | 6 => count(n),
         4 => Value::Status(n as u16),
         7 => single(n),
@@ -97,14 +97,14 @@ fn plain(kind: u8, n: u64) -> Value
 }
 
 // The value of a sample's bits; bits above its width are not looked at.
-pub fn sample_value(bits: u64, kind: u8, null: Bits) -> Value
-    ensures { λ r. ⌜ valueSays r ≡ valueOf kind null (lowBits kind bits) ⌝ }
+pub fn sample_value(bits: u64, datatype: u8, null: Bits) -> Value
+    ensures { λ r. ⌜ valueSays r ≡ valueOf datatype null (lowBits datatype bits) ⌝ }
 {
-    let n = octets::lowest(bits, width(kind));
+    let n = octets::lowest(bits, width(datatype));
     if null.width != 0 {
         if null.bits == n {
             return Value::Null;
         }
     }
-    plain(kind, n)
+    plain(datatype, n)
 }

@@ -203,7 +203,7 @@ fn expected_count(answer: &Result<usize, Refusal>) -> Filled {
 fn expected_attributes(answer: &Result<Attributes, Refusal>) -> Described {
     match answer {
         Ok(read) => {
-            let width = [2, 2, 4, 1, 2, 1, 4, 4, 8][usize::from(read.kind)];
+            let width = [2, 2, 4, 1, 2, 1, 4, 4, 8][usize::from(read.data_type)];
             let null_width = if read.null.is_some() { width } else { 0 };
             Described {
                 number: 0,
@@ -214,7 +214,7 @@ fn expected_attributes(answer: &Result<Attributes, Refusal>) -> Described {
                     read.block.into(),
                     read.class.into(),
                     read.lead.into(),
-                    read.kind.into(),
+                    read.data_type.into(),
                     read.interval.unit.into(),
                     read.interval.exponent.into(),
                     read.interval.mantissa.into(),

@@ -8,7 +8,7 @@ const CHANNEL_TAGS: [u8; 8] = [
     tag::BLOCK,
     tag::CLASS,
     tag::LEAD,
-    tag::KIND,
+    tag::DATA_TYPE,
     tag::INTERVAL,
     tag::RESOLUTION,
     tag::OFFSET,
@@ -144,7 +144,7 @@ impl Random {
 #[derive(Clone, Copy)]
 struct Shape {
     block: u32,
-    kind: u8,
+    data_type: u8,
     /// Octets of the offset, 0 where none is defined; of the null likewise.
     offset: u8,
     null: u8,
@@ -154,14 +154,14 @@ struct Shape {
 impl Shape {
     const DEFAULT: Shape = Shape {
         block: 1,
-        kind: 0,
+        data_type: 0,
         offset: 0,
         null: 0,
         null_bits: 0,
     };
 
     fn width(&self) -> u8 {
-        [2, 2, 4, 1, 2, 1, 4, 4, 8][usize::from(self.kind)]
+        [2, 2, 4, 1, 2, 1, 4, 4, 8][usize::from(self.data_type)]
     }
 
     fn block_octets(&self) -> u64 {
@@ -172,7 +172,7 @@ impl Shape {
     fn take_over(&mut self, tag: u8, from: &Shape) {
         match tag {
             tag::BLOCK => self.block = from.block,
-            tag::KIND => self.kind = from.kind,
+            tag::DATA_TYPE => self.data_type = from.data_type,
             tag::OFFSET => self.offset = from.offset,
             tag::NULL => (self.null, self.null_bits) = (from.null, from.null_bits),
             _ => {}
@@ -376,9 +376,9 @@ impl Maker {
                 shape.block = block as u32;
                 self.whole(block)
             }
-            tag::KIND => {
-                shape.kind = self.random.below(9) as u8;
-                vec![shape.kind]
+            tag::DATA_TYPE => {
+                shape.data_type = self.random.below(9) as u8;
+                vec![shape.data_type]
             }
             tag::INTERVAL => self.scale(2),
             tag::RESOLUTION => self.scale(22),
@@ -680,7 +680,7 @@ impl Maker {
             0x3FF0_0000_0000_0000,
         ];
         let shape = self.channels[channel];
-        let bits = match (self.random.below(4), shape.kind) {
+        let bits = match (self.random.below(4), shape.data_type) {
             (0, _) if shape.null > 0 => shape.null_bits,
             (0 | 1, 7) => self.random.pick(&SINGLES).into(),
             (0 | 1, 8) => self.random.pick(&DOUBLES),
@@ -762,7 +762,7 @@ impl Maker {
         self.set_count(Some(MOST_CHANNELS));
         for channel in 0..MOST_CHANNELS as usize {
             if self.random.one_in(3) {
-                let tag = self.random.pick(&[tag::KIND, tag::LEAD, tag::NULL]);
+                let tag = self.random.pick(&[tag::DATA_TYPE, tag::LEAD, tag::NULL]);
                 let item = self.channel_item(channel, tag);
                 let open = self.random.one_in(2);
                 let group = self.group(channel as u64, open, &item);
@@ -952,7 +952,7 @@ impl Maker {
         };
         let length = longer
             + match tag {
-                tag::BYTE_ORDER | tag::KIND => self.random.between(2, 5),
+                tag::BYTE_ORDER | tag::DATA_TYPE => self.random.between(2, 5),
                 tag::CLASS | tag::LEAD => self.random.between(35, 40),
                 tag::INTERVAL | tag::RESOLUTION => self.random.pick(&[1, 2, 7, 8]),
                 tag::OFFSET | tag::NULL => self.random.pick(&[3, 5, 6, 7, 9, 16]),
@@ -967,13 +967,14 @@ impl Maker {
         let around = self.around_looked_at();
         let tag = match around == Around::Nothing && self.random.one_in(2) {
             true => self.random.pick(&ROOT_TAGS[..3]),
-            false => self
-                .random
-                .pick(&[tag::BLOCK, tag::KIND, tag::INTERVAL, tag::RESOLUTION]),
+            false => {
+                self.random
+                    .pick(&[tag::BLOCK, tag::DATA_TYPE, tag::INTERVAL, tag::RESOLUTION])
+            }
         };
         let value = match tag {
             tag::BYTE_ORDER => vec![self.random.between(2, 255) as u8],
-            tag::KIND => vec![self.random.between(9, 255) as u8],
+            tag::DATA_TYPE => vec![self.random.between(9, 255) as u8],
             tag::BLOCK => self.number_fault(LAST_BLOCK),
             tag::CHANNELS => self.number_fault(MOST_CHANNELS),
             tag::SEQUENCES => self.number_fault(u32::MAX.into()),
@@ -1078,17 +1079,17 @@ impl Maker {
         let mut shape = self.channels[channel];
         if shape.defined(tag) > 0 && self.random.one_in(2) {
             // The type takes another width from under it.
-            let other = |kind: &u8| {
+            let other = |data_type: &u8| {
                 Shape {
-                    kind: *kind,
+                    data_type: *data_type,
                     ..shape
                 }
                 .width()
                     != shape.width()
             };
-            let kinds: Vec<u8> = (0..9).filter(other).collect();
-            let kind = self.random.pick(&kinds);
-            self.put_setting(channel, tag::KIND, &[kind]);
+            let data_types: Vec<u8> = (0..9).filter(other).collect();
+            let data_type = self.random.pick(&data_types);
+            self.put_setting(channel, tag::DATA_TYPE, &[data_type]);
         } else {
             let width = loop {
                 let width = self.random.pick(&WIDTHS);

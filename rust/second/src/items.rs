@@ -12,7 +12,7 @@ pub(crate) mod tag {
     pub const START: u8 = 0x07;
     pub const CLASS: u8 = 0x08;
     pub const LEAD: u8 = 0x09;
-    pub const KIND: u8 = 0x0A;
+    pub const DATA_TYPE: u8 = 0x0A;
     pub const INTERVAL: u8 = 0x0B;
     pub const RESOLUTION: u8 = 0x0C;
     pub const OFFSET: u8 = 0x0D;

@@ -55,7 +55,7 @@ pub struct Attributes {
     pub block: u32,
     pub class: u16,
     pub lead: u16,
-    pub kind: u8,
+    pub data_type: u8,
     pub interval: Scale,
     pub resolution: Scale,
     /// Zero bits where no offset is defined.
@@ -107,7 +107,7 @@ pub fn attributes(octets: &[u8], frame: u32, channel: u32) -> Result<Attributes,
         block: record.block,
         class: record.class,
         lead: record.lead,
-        kind: record.kind,
+        data_type: record.data_type,
         interval: record.interval,
         resolution: record.resolution,
         offset: record.offset.bits,
@@ -251,7 +251,7 @@ fn value(bits: u64, record: &Record) -> Value {
     if record.null() == Some(bits) {
         return Value::Null;
     }
-    match record.kind {
+    match record.data_type {
         0 => Value::Whole((bits as i16).into()),
         2 => Value::Whole((bits as i32).into()),
         5 => Value::Whole((bits as i8).into()),

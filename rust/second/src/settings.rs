@@ -24,7 +24,7 @@ pub(crate) struct Record {
     pub block: u32,
     pub class: u16,
     pub lead: u16,
-    pub kind: u8,
+    pub data_type: u8,
     pub interval: Scale,
     pub resolution: Scale,
     pub offset: Bits,
@@ -33,7 +33,7 @@ pub(crate) struct Record {
 
 impl Record {
     const BLOCK_LIMIT: u32 = 1_048_576;
-    const LAST_KIND: u8 = 8;
+    const LAST_DATA_TYPE: u8 = 8;
     const LAST_INTERVAL_UNIT: u8 = 2;
     const LAST_RESOLUTION_UNIT: u8 = 22;
     /// A code of two octets and 32 of text.
@@ -43,7 +43,7 @@ impl Record {
         block: 1,
         class: 0,
         lead: 0,
-        kind: 0,
+        data_type: 0,
         interval: Scale {
             unit: 0,
             exponent: 0,
@@ -60,7 +60,7 @@ impl Record {
 
     /// Octets per sample.
     pub fn width(&self) -> u8 {
-        match self.kind {
+        match self.data_type {
             3 | 5 => 1,
             2 | 6 | 7 => 4,
             8 => 8,
@@ -99,7 +99,10 @@ impl Record {
             }
             tag::CLASS => self.class = code(value, little)?.unwrap_or(fallback.class),
             tag::LEAD => self.lead = code(value, little)?.unwrap_or(fallback.lead),
-            tag::KIND => self.kind = choice(value, Record::LAST_KIND)?.unwrap_or(fallback.kind),
+            tag::DATA_TYPE => {
+                self.data_type =
+                    choice(value, Record::LAST_DATA_TYPE)?.unwrap_or(fallback.data_type)
+            }
             tag::INTERVAL => {
                 let interval = scale(value, Record::LAST_INTERVAL_UNIT, little)?;
                 self.interval = interval.unwrap_or(fallback.interval);

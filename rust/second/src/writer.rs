@@ -121,7 +121,7 @@ impl Output<'_> {
         self.item(tag::BLOCK, &record.block.to_be_bytes());
         self.item(tag::CLASS, &record.class.to_be_bytes());
         self.item(tag::LEAD, &record.lead.to_be_bytes());
-        self.item(tag::KIND, &[record.kind]);
+        self.item(tag::DATA_TYPE, &[record.data_type]);
         self.scale(tag::INTERVAL, record.interval);
         self.scale(tag::RESOLUTION, record.resolution);
         let unused = 8 - usize::from(record.width());

@@ -122,7 +122,7 @@ fn same_channel(source: &[u8], written: &[u8], frame: u32, channel: u32) {
 
 /// The value of bits, from the answers to the other questions.
 fn by_hand(bits: u64, read: second::reader::Attributes) -> Value {
-    match read.kind {
+    match read.data_type {
         _ if read.null == Some(bits) => Value::Null,
         0 => Value::Whole(i64::from(bits as u16 as i16)),
         1 | 3 | 6 => Value::Whole(bits as i64),
@@ -190,7 +190,7 @@ fn good_files_have_every_shape() {
             let channels = attributes(&file, frame, 0).unwrap().channels;
             for channel in some_of(channels.into(), 4) {
                 let read = attributes(&file, frame, channel as u32).unwrap();
-                seen.insert(format!("type {}", read.kind));
+                seen.insert(format!("type {}", read.data_type));
                 let mut note = |shape: &str, met: bool| {
                     if met {
                         seen.insert(shape.to_string());

@@ -163,7 +163,7 @@ fn block(past: &[Definition], channel: Option<u32>) -> u32 {
     holding(past, 0x04, channel).map_or(1, |found| found.bits() as u32)
 }
 
-fn kind(past: &[Definition], channel: Option<u32>) -> u8 {
+fn data_type(past: &[Definition], channel: Option<u32>) -> u8 {
     holding(past, 0x0A, channel).map_or(0, |found| found.value[0])
 }
 
@@ -174,7 +174,7 @@ fn channels(past: &[Definition]) -> u32 {
 fn sequences(past: &[Definition], waveform: usize) -> u32 {
     let octets: u64 = (0..channels(past))
         .map(|channel| {
-            let width = match kind(past, Some(channel)) {
+            let width = match data_type(past, Some(channel)) {
                 3 | 5 => 1,
                 0 | 1 | 4 => 2,
                 8 => 8,
@@ -208,7 +208,7 @@ fn looked_up(past: &[Definition], channel: u32, start: i64, sequences: u32) -> A
         block: block(past, Some(channel)),
         class: holding(0x08).map_or(0, Definition::code),
         lead: holding(0x09).map_or(0, Definition::code),
-        kind: kind(past, Some(channel)),
+        data_type: data_type(past, Some(channel)),
         interval: scale(0x0B, interval),
         resolution: scale(0x0C, resolution),
         offset: holding(0x0D).map_or(0, Definition::bits),

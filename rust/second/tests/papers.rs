@@ -15,7 +15,7 @@ const DEFAULTS: Attributes = Attributes {
     block: 1,
     class: 0,
     lead: 0,
-    kind: 0,
+    data_type: 0,
     interval: Scale {
         unit: 0,
         exponent: 0,
@@ -92,7 +92,7 @@ fn p4_forgets_a_channel_setting_after_a_root_one() {
     let file = octets(P4);
     assert_eq!(check(&file), Ok(1));
     for channel in 0..2 {
-        assert_eq!(attributes(&file, 0, channel).unwrap().kind, 5);
+        assert_eq!(attributes(&file, 0, channel).unwrap().data_type, 5);
     }
     assert_eq!(sample(&file, 0, 0, 0), Ok((14, Value::Whole(7))));
     assert_eq!(sample(&file, 0, 1, 0), Ok((15, Value::Whole(8))));
@@ -102,7 +102,7 @@ fn p4_forgets_a_channel_setting_after_a_root_one() {
 fn p5_ignores_the_group() {
     let file = octets(P5);
     assert_eq!(check(&file), Ok(1));
-    assert_eq!(attributes(&file, 0, 0).unwrap().kind, 0);
+    assert_eq!(attributes(&file, 0, 0).unwrap().data_type, 0);
     assert_eq!(attributes(&file, 0, 0).unwrap().sequences, 1);
     assert_eq!(sample(&file, 0, 0, 0), Ok((8, Value::Whole(9))));
     assert_eq!(sample(&file, 0, 0, 1), refused(22, 0));
@@ -137,8 +137,8 @@ fn p11_names_channel_255() {
     assert_eq!(canonical(&file), []);
     // With a frame after it the setting is seen.
     file.extend([0x1E, 0x00]);
-    assert_eq!(attributes(&file, 0, 254).unwrap().kind, 0);
-    assert_eq!(attributes(&file, 0, 255).unwrap().kind, 3);
+    assert_eq!(attributes(&file, 0, 254).unwrap().data_type, 0);
+    assert_eq!(attributes(&file, 0, 255).unwrap().data_type, 3);
     assert_eq!(attributes(&file, 0, 256), refused(21, 0));
 }
 
@@ -229,7 +229,7 @@ fn annex_a_reads_as_printed() {
 fn lengths_are_big_endian_always() {
     let [waveform, group, past] = LONG_LENGTHS.map(octets);
     assert_eq!(sample(&waveform, 0, 0, 0), Ok((7, Value::Whole(5))));
-    assert_eq!(attributes(&group, 0, 1).unwrap().kind, 3);
+    assert_eq!(attributes(&group, 0, 1).unwrap().data_type, 3);
     assert_eq!(check(&past), refused(3, 3));
 }
 
@@ -263,15 +263,18 @@ fn each_channel_steps_with_its_own_block() {
 #[test]
 fn settings_last_across_frames() {
     let file = octets(LASTING_TYPE);
-    for (frame, kinds) in (0..).zip([[0, 3], [0, 3], [5, 5]]) {
-        for (channel, kind) in (0..).zip(kinds) {
-            assert_eq!(attributes(&file, frame, channel).unwrap().kind, kind);
+    for (frame, data_types) in (0..).zip([[0, 3], [0, 3], [5, 5]]) {
+        for (channel, data_type) in (0..).zip(data_types) {
+            assert_eq!(
+                attributes(&file, frame, channel).unwrap().data_type,
+                data_type
+            );
         }
     }
     let file = octets(LASTING);
     let first = attributes(&file, 0, 1).unwrap();
     assert_eq!((first.channels, first.sequences), (2, 1));
-    assert_eq!((first.class, first.kind), (7, 1));
+    assert_eq!((first.class, first.data_type), (7, 1));
     assert_eq!((first.offset, first.null), (1, Some(0x1234)));
     let second = attributes(&file, 1, 1);
     assert_eq!(second, Ok(Attributes { start: 1, ..first }));

@@ -34,7 +34,7 @@ fn tags_without_meaning_are_stepped_over() {
 #[test]
 fn lengths_may_be_longer_than_needed() {
     for length in ["01", "81 01", "82 00 01", "83 00 00 01", "84 00 00 00 01"] {
-        assert_eq!(read(&format!("0A {length} 06 1E 00"), 0, 0).kind, 6);
+        assert_eq!(read(&format!("0A {length} 06 1E 00"), 0, 0).data_type, 6);
     }
 }
 
@@ -42,24 +42,24 @@ fn lengths_may_be_longer_than_needed() {
 fn channel_numbers_may_have_leading_octets() {
     for number in ["01", "80 01", "80 80 01", "80 80 80 01"] {
         let file = format!("05 01 02 3F {number} 03 0A 01 03 1E 00");
-        assert_eq!(read(&file, 0, 0).kind, 0);
-        assert_eq!(read(&file, 0, 1).kind, 3);
+        assert_eq!(read(&file, 0, 0).data_type, 0);
+        assert_eq!(read(&file, 0, 1).data_type, 3);
     }
     let file = "05 02 01 00 3F 81 00 03 0A 01 03 1E 00";
-    assert_eq!(read(file, 0, 127).kind, 0);
-    assert_eq!(read(file, 0, 128).kind, 3);
+    assert_eq!(read(file, 0, 127).data_type, 0);
+    assert_eq!(read(file, 0, 128).data_type, 3);
 }
 
 #[test]
 fn open_groups_end_with_any_form_of_the_mark() {
     for mark in ["00 00", "00 81 00", "00 82 00 00", "00 84 00 00 00 00"] {
         let file = format!("05 01 01 3F 00 80 0A 01 03 00 01 00 09 01 02 {mark} 1E 00");
-        assert_eq!(read(&file, 0, 0).kind, 3);
+        assert_eq!(read(&file, 0, 0).data_type, 3);
         assert_eq!(read(&file, 0, 0).lead, 2);
     }
     // Outside and in a definite group the mark is an item like any other.
     let file = "05 01 01 00 00 3F 00 05 00 00 0A 01 03 00 00 1E 00";
-    assert_eq!(read(file, 0, 0).kind, 3);
+    assert_eq!(read(file, 0, 0).data_type, 3);
     assert_eq!(
         check(&octets("05 01 01 3F 00 80 00 00 3F 00 00 1E 00")),
         Ok(1)
@@ -70,11 +70,11 @@ fn open_groups_end_with_any_form_of_the_mark() {
 fn groups_without_a_count_are_ignored() {
     // Wrong lengths, wrong values and high channel numbers do not matter there.
     let file = "3F FF FF FF 7F 06 0A 02 09 09 04 00 1E 00";
-    assert_eq!(read(file, 0, 0).kind, 0);
+    assert_eq!(read(file, 0, 0).data_type, 0);
     let file = "3F 00 80 0A 03 01 02 03 0B 01 00 00 00 1E 00";
-    assert_eq!(read(file, 0, 0).kind, 0);
+    assert_eq!(read(file, 0, 0).data_type, 0);
     let file = "05 01 02 0A 01 03 05 00 3F 00 03 0A 01 05 1E 00";
-    assert_eq!(read(file, 0, 0).kind, 3);
+    assert_eq!(read(file, 0, 0).data_type, 3);
     assert_eq!(read(file, 0, 0).channels, 1);
 }
 
@@ -219,7 +219,7 @@ fn bits_follow_the_order_that_stands_at_their_item() {
         assert_eq!(samples(&octets(file), 0, 0, 0, &mut bits), Ok(1));
         bits[0]
     };
-    for (kind, samples, big, little) in [
+    for (data_type, samples, big, little) in [
         ("00", "02 81 02", 0x8102, 0x0281),
         ("02", "04 81 02 03 04", 0x8102_0304, 0x0403_0281),
         ("03", "01 81", 0x81, 0x81),
@@ -230,14 +230,17 @@ fn bits_follow_the_order_that_stands_at_their_item() {
             0x0807_0605_0403_0281,
         ),
     ] {
-        assert_eq!(bits(&format!("0A 01 {kind} 1E {samples}")), big);
-        assert_eq!(bits(&format!("01 01 01 0A 01 {kind} 1E {samples}")), little);
+        assert_eq!(bits(&format!("0A 01 {data_type} 1E {samples}")), big);
+        assert_eq!(
+            bits(&format!("01 01 01 0A 01 {data_type} 1E {samples}")),
+            little
+        );
     }
 }
 
 #[test]
 fn values_by_type() {
-    for (kind, samples, value) in [
+    for (data_type, samples, value) in [
         ("00", "02 80 01", Value::Whole(-32_767)),
         ("01", "02 80 01", Value::Whole(32_769)),
         ("02", "04 80 00 00 01", Value::Whole(-2_147_483_647)),
@@ -263,9 +266,9 @@ fn values_by_type() {
             Value::NotNumber(0x7FF0_0000_0000_0001),
         ),
     ] {
-        assert_eq!(first(&format!("0A 01 {kind} 1E {samples}")), value);
+        assert_eq!(first(&format!("0A 01 {data_type} 1E {samples}")), value);
         // The same bits as null come first.
-        let file = format!("0A 01 {kind} 12 {samples} 1E {samples}");
+        let file = format!("0A 01 {data_type} 12 {samples} 1E {samples}");
         assert_eq!(first(&file), Value::Null);
     }
     // A zero of the other sign is not null.

@@ -10,7 +10,7 @@ use lib.ListN.{length}
 use Rattle.heads.specs.Answer.{answered, mapAnswer}
 use Rattle.reader.proofs.Answers.{placed-at}
 use Rattle.bulk.proofs.Walks.{length-bits}
-use Rattle.bulk.proofs.Reading.{block-some, rest-low, kind-seen, width-wide, in-blocks, seen-bits, read-samples, read-refused, kept, filled}
+use Rattle.bulk.proofs.Reading.{block-some, rest-low, type-seen, width-wide, in-blocks, seen-bits, read-samples, read-refused, kept, filled}
 use borrow.Author.Needs.{needs}
 use Rattle.bulk.proofs.samples.Statement.{statement}
 use Rattle.bulk.proofs.samples.Tie as tie
@@ -65,7 +65,7 @@ sub-fill c =
 fill-requires : tie.Need-fill-requires
 fill-requires c κs =
     let m = placed-at _ _ _ _ (c .before .before .before .before .before .before .before .before .before .place .ensures) (c .before .before .before .before .before .before .before .at .given .1) in
-    let wide = subst Wide (sym (c .before .before .before .width .ensures)) (width-wide _ (kind-seen (m .channelAt) (λ i. c .before .before .before .before .before .before .before .before .before .before .before .shared-slice-known .given i .fits))) in
+    let wide = subst Wide (sym (c .before .before .before .width .ensures)) (width-wide _ (type-seen (m .channelAt) (λ i. c .before .before .before .before .before .before .before .before .before .before .before .shared-slice-known .given i .fits))) in
     (wide, (in-blocks m _ (c .before .before .before .width .ensures) _ (omega (arith, c .before .fitting .ensures)), omega (arith, c .before .fitting .ensures)))
 
 returns : tie.Need-returns

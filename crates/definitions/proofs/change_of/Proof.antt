@@ -65,7 +65,7 @@ returns-3 : tie.Need-returns-3
 returns-3 c = ap Change.Lead (c .two2 .ensures) ∙ ap (λ (a : Attribute). changeOf a (c .before .before .before .before .args .little) (c .before .before .before .before .args .v .now)) (sym (c .before .enum-told3 .given .1))
 
 returns-4 : tie.Need-returns-4
-returns-4 c = ap Change.Kind (c .octet .ensures) ∙ ap (λ (a : Attribute). changeOf a (c .before .before .before .before .args .little) (c .before .before .before .before .args .v .now)) (sym (c .before .enum-told4 .given .1))
+returns-4 c = ap Change.DataType (c .octet .ensures) ∙ ap (λ (a : Attribute). changeOf a (c .before .before .before .before .args .little) (c .before .before .before .before .args .v .now)) (sym (c .before .enum-told4 .given .1))
 
 returns-5 : tie.Need-returns-5
 returns-5 c = ap Change.Interval (c .scale-of .ensures) ∙ ap (λ (a : Attribute). changeOf a (c .before .before .before .before .args .little) (c .before .before .before .before .args .v .now)) (sym (c .before .enum-told5 .given .1))

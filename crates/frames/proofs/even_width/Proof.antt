@@ -15,7 +15,7 @@ use Rattle.frames.proofs.even_width.Statement.{statement}
 use Rattle.frames.proofs.even_width.Tie as tie
 
 abbrev Inv-loop : tie.InvT-loop
-Inv-loop count table v i₀ i = (i ≤ count) × (count ≤ channelLimit) × (length table ≡ channelLimit) × ((k : ℕ) → k < i → widthOf (getD table k zeroSettings .kind) ≡ v)
+Inv-loop count table v i₀ i = (i ≤ count) × (count ≤ channelLimit) × (length table ≡ channelLimit) × ((k : ℕ) → k < i → widthOf (getD table k zeroSettings .datatype) ≡ v)
 
 abbrev μ-loop : tie.MeasureT-loop
 μ-loop count table v i₀ i = count - i
@@ -54,10 +54,10 @@ loop-again c =
     let inv = at-loop .loop .inv in
     (omega arith, inv .1, inv .2, below-more _ _ (inv .3) (sym (at-width2 .width2 .ensures) ∙ c .if1 .left))
 
-even-taken : (t : List Settings) (n i v : ℕ) → length t ≡ channelLimit → n ≤ channelLimit → n ≤ i → ((k : ℕ) → k < i → widthOf (getD t k zeroSettings .kind) ≡ v) → Even v (take n t)
+even-taken : (t : List Settings) (n i v : ℕ) → length t ≡ channelLimit → n ≤ channelLimit → n ≤ i → ((k : ℕ) → k < i → widthOf (getD t k zeroSettings .datatype) ≡ v) → Even v (take n t)
 even-taken t n i v e h l f j m =
     let k : j < n = omega (arith, taken-long t n e h) in
-    ap (λ (c : Settings). widthOf (c .kind)) (sym (nth t n j (taken-long t n e h) k .is)) ∙ f j (omega arith)
+    ap (λ (c : Settings). widthOf (c .datatype)) (sym (nth t n j (taken-long t n e h) k .is)) ∙ f j (omega arith)
 
 returns-2 : tie.Need-returns-2 Inv-loop μ-loop
 returns-2 c =

@@ -27,7 +27,7 @@ width-requires c κs = search needs
 cast-w : tie.Need-cast-w
 cast-w c =
     let at-start = c .before .before in
-    omega (arith, c .width .ensures, width-le (at-start .args .c .kind))
+    omega (arith, c .width .ensures, width-le (at-start .args .c .datatype))
 
 group-size-requires : tie.Need-group-size-requires
 group-size-requires c κs = search needs

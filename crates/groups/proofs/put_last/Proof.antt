@@ -29,7 +29,7 @@ width-requires c κs = search needs
 cast-w : tie.Need-cast-w
 cast-w c =
     let at-start = c .before .before .before .before in
-    omega (arith, c .width .ensures, width-le (at-start .args .c .kind))
+    omega (arith, c .width .ensures, width-le (at-start .args .c .datatype))
 
 null-size-requires : tie.Need-null-size-requires
 null-size-requires c κs = search needs
@@ -39,7 +39,7 @@ cast-n c =
     let at-width = c .before in
     let at-start = at-width .before .before .before .before in
     let w = at-width .width in
-    omega (arith, c .null-size .ensures, null-le (w .result) (at-start .args .c .null), w .ensures, width-le (at-start .args .c .kind))
+    omega (arith, c .null-size .ensures, null-le (w .result) (at-start .args .c .null), w .ensures, width-le (at-start .args .c .datatype))
 
 put-field-requires : tie.Need-put-field-requires
 put-field-requires c κs = search needs

@@ -14,7 +14,7 @@ width-requires c κs = search needs
 cast-t5 : tie.Need-cast-t5
 cast-t5 c =
     let at-start = c .before .before .before .before in
-    omega (arith, c .width .ensures, width-le (at-start .args .c .kind))
+    omega (arith, c .width .ensures, width-le (at-start .args .c .datatype))
 
 returns : tie.Need-returns
 unfolding offsetBits

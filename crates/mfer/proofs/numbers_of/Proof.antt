@@ -63,7 +63,7 @@ returns c =
     ∷ plain (s .block) (search needs) i
     ∷ plain (s .class) (search needs) i
     ∷ plain (s .lead) (search needs) i
-    ∷ plain (s .kind) (search needs) i
+    ∷ plain (s .datatype) (search needs) i
     ∷ plain (s .interval .unit) (search needs) i
     ∷ widened {w = w8} {z = s .interval .exponent} tt (search needs) i
     ∷ widened {w = w32} {z = s .interval .mantissa} tt (search needs) i

@@ -15,11 +15,11 @@ use Rattle.values.proofs.plain.Statement.{statement}
 use Rattle.values.proofs.plain.Tie as tie
 
 -- the bits are a number of at most w octets, where the sample has no more
-within : (kind n w : ℕ) → n < range (widthOf kind) → widthOf kind ≤ w → n < range w
-within kind n w b h = lt-of-lt-of-le b (cap _ _ h)
+within : (datatype n w : ℕ) → n < range (widthOf datatype) → widthOf datatype ≤ w → n < range w
+within datatype n w b h = lt-of-lt-of-le b (cap _ _ h)
 
 -- a number that no arm names is no data type
-no-type : (c : tie.At-match-rest) → 9 ≤ c .before .args .kind
+no-type : (c : tie.At-match-rest) → 9 ≤ c .before .args .datatype
 no-type c =
     let signed = c .match .rest .0 .0 .0 .0 .1 in
     let unsigned = c .match .rest .0 .0 .0 .1 in
@@ -45,15 +45,15 @@ whole-requires c κs =
 
 count-requires : tie.Need-count-requires
 unfolding widthOf
-count-requires c κs = within (c .before .args .kind) _ 4 (c .before .pre) (three (λ k. widthOf k ≤ 4) (lit≤ tt) (lit≤ tt) (lit≤ tt) (c .match .keys2))
+count-requires c κs = within (c .before .args .datatype) _ 4 (c .before .pre) (three (λ k. widthOf k ≤ 4) (lit≤ tt) (lit≤ tt) (lit≤ tt) (c .match .keys2))
 
 cast-t5 : tie.Need-cast-t5
 unfolding widthOf
-cast-t5 c = record { fits = within (c .before .args .kind) _ 2 (c .before .pre) (rw (c .match .keys3) (lit≤ tt)) }
+cast-t5 c = record { fits = within (c .before .args .datatype) _ 2 (c .before .pre) (rw (c .match .keys3) (lit≤ tt)) }
 
 single-requires : tie.Need-single-requires
 unfolding widthOf
-single-requires c κs = within (c .before .args .kind) _ 4 (c .before .pre) (rw (c .match .keys4) (lit≤ tt))
+single-requires c κs = within (c .before .args .datatype) _ 4 (c .before .pre) (rw (c .match .keys4) (lit≤ tt))
 
 double-requires : tie.Need-double-requires
 double-requires c κs = search needs

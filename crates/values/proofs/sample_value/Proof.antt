@@ -11,7 +11,7 @@ use Rattle.values.proofs.sample_value.Statement.{statement}
 use Rattle.values.proofs.sample_value.Tie as tie
 
 -- the bits that are looked at
-looked-at : (c : tie.After-lowest) → c .lowest .result ≡ lowBits (c .before .before .args .kind) (c .before .before .args .bits)
+looked-at : (c : tie.After-lowest) → c .lowest .result ≡ lowBits (c .before .before .args .datatype) (c .before .before .args .bits)
 looked-at c = c .lowest .ensures ∙ ap (λ (w : ℕ). lowOf w (c .before .before .args .bits)) (c .before .width .ensures)
 
 width-requires : tie.Need-width-requires
@@ -26,7 +26,7 @@ returns c =
     let at-if1 = c .before .before in
     let at-lowest = at-if1 .before .before in
     let at-start = at-lowest .before .before in
-    null-yes _ _ _ (at-if1 .if1 .taken) (c .if2 .taken) ∙ ap (valueOf (at-start .args .kind) (at-start .args .null)) (looked-at at-lowest)
+    null-yes _ _ _ (at-if1 .if1 .taken) (c .if2 .taken) ∙ ap (valueOf (at-start .args .datatype) (at-start .args .null)) (looked-at at-lowest)
 
 plain-requires : tie.Need-plain-requires
 plain-requires c κs = rw (looked-at (c .before .before)) (low-below _ _)
@@ -39,7 +39,7 @@ returns-2 : tie.Need-returns-2
 returns-2 c =
     let at-lowest = c .before .before .before in
     let at-start = at-lowest .before .before in
-    c .plain .ensures ∙ null-no _ _ _ (not-null (c .before)) ∙ ap (valueOf (at-start .args .kind) (at-start .args .null)) (looked-at at-lowest)
+    c .plain .ensures ∙ null-no _ _ _ (not-null (c .before)) ∙ ap (valueOf (at-start .args .datatype) (at-start .args .null)) (looked-at at-lowest)
 
 pub sample-value-spec : {M : Type 1} → statement M
 sample-value-spec = tie.close (tie.spec width-requires lowest-requires returns plain-requires returns-2)

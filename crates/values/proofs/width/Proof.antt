@@ -47,7 +47,7 @@ unfolding widthOf
 returns-9 c = ap widthOf (sym (c .match .keys9))
 
 returns-10 : tie.Need-returns-10
-returns-10 c = width-other (c .before .args .kind) (one-more _ 8 (one-more _ 7 (one-more _ 6 (one-more _ 5 (one-more _ 4 (one-more _ 3 (one-more _ 2 (one-more _ 1 (one-more _ 0 (omega arith) (c .match .rest .0 .0 .0 .0 .0 .0 .0 .0 .1)) (c .match .rest .0 .0 .0 .0 .0 .0 .0 .1)) (c .match .rest .0 .0 .0 .0 .0 .0 .1)) (c .match .rest .0 .0 .0 .0 .0 .1)) (c .match .rest .0 .0 .0 .0 .1)) (c .match .rest .0 .0 .0 .1)) (c .match .rest .0 .0 .1)) (c .match .rest .0 .1)) (c .match .rest .1))
+returns-10 c = width-other (c .before .args .datatype) (one-more _ 8 (one-more _ 7 (one-more _ 6 (one-more _ 5 (one-more _ 4 (one-more _ 3 (one-more _ 2 (one-more _ 1 (one-more _ 0 (omega arith) (c .match .rest .0 .0 .0 .0 .0 .0 .0 .0 .1)) (c .match .rest .0 .0 .0 .0 .0 .0 .0 .1)) (c .match .rest .0 .0 .0 .0 .0 .0 .1)) (c .match .rest .0 .0 .0 .0 .0 .1)) (c .match .rest .0 .0 .0 .0 .1)) (c .match .rest .0 .0 .0 .1)) (c .match .rest .0 .0 .1)) (c .match .rest .0 .1)) (c .match .rest .1))
 
 pub width-spec : {M : Type 1} → statement M
 width-spec =

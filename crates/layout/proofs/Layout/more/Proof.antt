@@ -14,7 +14,7 @@ use Rattle.layout.proofs.Layout.more.Statement.{statement}
 use Rattle.layout.proofs.Layout.more.Tie as tie
 
 narrow : (c : Settings) (w : ℕ) → w ≡ widthIn c → c .block * w ≤ c .block * 8
-narrow c w e = mul-le-mul-left (c .block) (rw e (width-le (c .kind)))
+narrow c w e = mul-le-mul-left (c .block) (rw e (width-le (c .datatype)))
 
 width-requires : tie.Need-width-requires
 width-requires c κs = search needs
@@ -22,7 +22,7 @@ width-requires c κs = search needs
 cast-w : tie.Need-cast-w
 cast-w c =
     let at-start = c .before in
-    omega (arith, c .width .ensures, width-le (at-start .args .c .kind))
+    omega (arith, c .width .ensures, width-le (at-start .args .c .datatype))
 
 cast-octets : tie.Need-cast-octets
 cast-octets c = search needs
