@@ -4,7 +4,7 @@
 --     Running, run-begins, run-there, run-turns, run-ends    a loop over evenly spaced samples, for any width
 --     spaced-is                  bits whose places are evenly spaced
 --     wide-eight, wide-small     widths
---     Blocking, blocks-begin, block-some, block-within, blocks-turn, blocks-end    a loop over blocks
+--     Blocking, blocks-begin, piece-some, block-within, blocks-turn, blocks-end    a loop over blocks
 --     joined-within, joined-is, single-within, single-is    blocks whose samples are evenly spaced
 -- Assumes nothing.
 use mathlib.Core.Path.{_≡_, refl, sym, ap, _∙_}
@@ -148,8 +148,8 @@ module _ (little : Bool) (w : ℕ) (s : List ℕ) (b g : ℕ) where
       record { small = h .small; apart = h .apart; low = h .low; near = omega (arith, h .starts); done = omega arith; each = λ j l. h .each j (omega arith); room = r; long = refl; rest = rw e }
 
   module _ {from first n : ℕ} {out₀ out : List ℕ} {start r p m : ℕ} (h : p < n) (e : m ≡ min (b - r) (n - p)) (k : Blocking from first n out₀ out start r p) where
-    pub block-some : 0 < m
-    block-some = omega (arith, k .low)
+    pub piece-some : 0 < m
+    piece-some = omega (arith, k .low)
 
     here : (j : ℕ) → j < m → start + ((r + j) / b * g + (r + j) % b * w) ≡ start + r * w + j * w
     here j l = in-block start b g w (r + j) (omega (arith, k .low)) ∙ rw add-mul (omega arith)
@@ -157,7 +157,7 @@ module _ (little : Bool) (w : ℕ) (s : List ℕ) (b g : ℕ) where
     -- The samples of the block that are read next are there.
     pub block-within : Wide w → InFile (length s) (start + r * w) w m w
     block-within v =
-        let f = rw (here 0 block-some) at (k .each 0 (omega arith)) in
+        let f = rw (here 0 piece-some) at (k .each 0 (omega arith)) in
         record { small = k .small; apart = omega (arith, wide-small v); starts = omega arith; each = λ j l. rw (here j l) at (k .each j (omega arith)) }
 
     later : (j : ℕ) → j < n - (p + m) → start + ((r + m + j) / b * g + (r + m + j) % b * w) ≡ start + g + ((0 + j) / b * g + (0 + j) % b * w)

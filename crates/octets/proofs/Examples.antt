@@ -31,6 +31,6 @@ pub least : twos 1 128 ≡ negsuc 127
 unfolding twos
 least = refl
 
-pub none : signedOf false [] ≡ pos 0
+pub no-octet : signedOf false [] ≡ pos 0
 unfolding signedOf numberOf bigFrom twos
-none = refl
+no-octet = refl

@@ -52,14 +52,14 @@ putting-kept {d} {vs} {at} h =
     let t = lt-leb (at + length vs) (length d) h in
     record { next = rw t; stored = rw t }
 
-none : (t : Bool) (d : List ℕ) (at : ℕ) → fitsIn d at [] ≡ t → Putting d at [] at d
+none-by : (t : Bool) (d : List ℕ) (at : ℕ) → fitsIn d at [] ≡ t → Putting d at [] at d
 unfolding placed storedIn
-none true d at e = record { next = rw (e, add-zero); stored = rw e }
-none false d at e = record { next = rw e; stored = rw e }
+none-by true d at e = record { next = rw (e, add-zero); stored = rw e }
+none-by false d at e = record { next = rw e; stored = rw e }
 
 -- The same where the list is empty.
 pub putting-none : (d : List ℕ) (at : ℕ) → Putting d at [] at d
-putting-none d at = none (fitsIn d at []) d at refl
+putting-none d at = none-by (fitsIn d at []) d at refl
 
 -- One list stored after another, where there is room for both, is the two appended.
 pub putting-then : {d e f u v : List ℕ} {at r t : ℕ} → at + (length u + length v) ≤ length d

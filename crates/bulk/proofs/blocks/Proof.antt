@@ -2,7 +2,7 @@
 use Prim.Native.Nat.{_-_}
 use native.Mathlib.Omega.{arith}
 use borrow.Author.Needs.{needs}
-use Rattle.bulk.proofs.Walks.{Blocking, blocks-begin, block-some, block-within, blocks-turn, blocks-end}
+use Rattle.bulk.proofs.Walks.{Blocking, blocks-begin, piece-some, block-within, blocks-turn, blocks-end}
 use Rattle.bulk.proofs.blocks.Statement.{statement}
 use Rattle.bulk.proofs.blocks.Tie as tie
 
@@ -64,7 +64,7 @@ loop-less c =
     let at-smaller = c .before .before .before .before in
     let at-loop-test = at-smaller .before in
     let at-loop = at-loop-test .before in
-    omega (arith, block-some _ _ _ _ _ (at-loop-test .loop-test .taken) (at-smaller .smaller .ensures) (at-loop .loop .inv))
+    omega (arith, piece-some _ _ _ _ _ (at-loop-test .loop-test .taken) (at-smaller .smaller .ensures) (at-loop .loop .inv))
 
 loop-again : tie.Need-loop-again Inv-loop μ-loop
 loop-again c =
