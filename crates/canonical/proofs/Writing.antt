@@ -63,7 +63,8 @@ use Rattle.pass.proofs.Steps.{meaning-steps, step-grown}
 use Rattle.pass.proofs.Bounds.{reached-bounded}
 use Rattle.framing.proofs.Framings.{pointer-small}
 use Rattle.settings.proofs.Shown.{shown, shown-none}
-use Rattle.pass.proofs.Scans.{frame-carried, taken-few, taken-root, shownBy, Records, Filling, frame-shown}
+use Rattle.pass.proofs.Scans.{frame-carried, taken-few, taken-root}
+use Rattle.canonical.proofs.Filled.{shownBy, Records, Filling, frame-shown}
 use Rattle.reader.proofs.Ordered.{Lies, accepted-lies, accepted-small}
 use Rattle.groups.specs.Item.{itemOctets}
 use Rattle.groups.specs.Head.{headItems}

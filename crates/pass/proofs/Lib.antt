@@ -6,4 +6,5 @@ pub mod Bounds
 pub mod Scans
 pub mod Turns
 pub mod Stretches
-pub mod Ahead
+pub mod Bare
+pub mod Records

@@ -11,7 +11,8 @@ use Rattle.settings.specs.Settings.{channelLimit, zeroSettings, applied}
 use Rattle.settings.proofs.Mapped.{mapped, mapped-put}
 use Rattle.stores.proofs.Stores.{put-long}
 use Rattle.pass.specs.Verdict.{carried, withFrame}
-use Rattle.pass.proofs.Scans.{Filling, filling-none, filling-more, reach-few, reached-one, reached-count, records-set, records-mapped, mapped-own, does-stands, does-count, does-all, does-one, does-outside, carried-by, found-as}
+use Rattle.pass.proofs.Scans.{found-as}
+use Rattle.canonical.proofs.Filled.{Filling, filling-none, filling-more, reach-few, reached-one, reached-count, records-set, records-mapped, mapped-own, does-stands, does-count, does-all, does-one, does-outside, carried-by}
 use Rattle.canonical.proofs.Writing.{Going, going-first, going-filled, going-counted, going-goes, going-carried, going-few, going-start, going-frame, written-done, never-refuses}
 use Rattle.canonical.proofs.write_frames.Statement.{statement}
 use Rattle.canonical.proofs.write_frames.Tie as tie
