@@ -46,7 +46,17 @@ each-timed (Offset n) m p e = record { block = e .block; class = e .class; lead 
 each-timed (Null n) m p e = record { block = e .block; class = e .class; lead = e .lead; datatype = e .datatype; interval = e .interval; resolution = e .resolution; offset = e .offset; null = p }
 
 each-map : {P Q : ℕ → Type 0} {t : Times} → ((n : ℕ) → P n → Q n) → Each P t → Each Q t
-each-map {t = t} f e = record { block = f (t .block) (e .block); class = f (t .class) (e .class); lead = f (t .lead) (e .lead); datatype = f (t .datatype) (e .datatype); interval = f (t .interval) (e .interval); resolution = f (t .resolution) (e .resolution); offset = f (t .offset) (e .offset); null = f (t .null) (e .null) }
+each-map {t = t} f e =
+    record {
+      block = f (t .block) (e .block);
+      class = f (t .class) (e .class);
+      lead = f (t .lead) (e .lead);
+      datatype = f (t .datatype) (e .datatype);
+      interval = f (t .interval) (e .interval);
+      resolution = f (t .resolution) (e .resolution);
+      offset = f (t .offset) (e .offset);
+      null = f (t .null) (e .null);
+    }
 
 -- Every time that was noted is before now.
 pub record Sound (d : Dates) : Type 0 where

@@ -4,20 +4,16 @@
 --     frame-carried, taken-..    a frame where the file's items lead: what the code computes of it is document 01's rule
 -- Assumes nothing.
 use mathlib.Core.Path.{_≡_, refl, sym, ap, _∙_}
-use mathlib.Core.Logic.{_⊎_, ⊎-elim}
 use mathlib.Core.List.{List, [], _∷_, _++_}
-use mathlib.Core.Bool.{Bool, not}
+use mathlib.Core.Bool.{Bool}
 use Prim.Native.Nat.{ℕ, _+_, _-_, _*_, _≤_, _<_, min, _^_}
 use native.Mathlib.Nat.{add-zero, add-assoc, zero-add}
 use native.Mathlib.Omega.{arith}
 use native.Mathlib.Decide.{decLt}
-use types.Run.{OneOf, miss}
-use mir.Val.{hasKey}
-use denote.Enum.Declared.{tagOf}
 use borrow.Author.Tests.{lt-ltb, le-ltb, ltb-true, eqb-true, eqb-false, eq-eqb, ne-eqb}
-use lib.Dec.{T, ltb, eqb}
-use lib.ListN.{length, getD, take, set, length-append, length-set, List·getD-append}
-use lib.Seq.{length-take-le, getD-append-seam, getD-take, set-out}
+use lib.Dec.{ltb, eqb}
+use lib.ListN.{length, getD, take, length-append, List·getD-append}
+use lib.Seq.{length-take-le, getD-append-seam, getD-take}
 use Rattle.octets.specs.Pick.{pick}
 use Rattle.octets.proofs.Pick.{pick-cases}
 use Rattle.items.specs.declared.Item.{Item}
@@ -30,10 +26,7 @@ use Rattle.heads.specs.Refusals.{longFile}
 use Rattle.items.specs.Walk.{nextOf, itemsFrom, cursor, refusal}
 use Rattle.items.proofs.Walks.{items-found, items-end, items-refused}
 use Rattle.settings.specs.declared.Settings.{Settings}
-use Rattle.settings.specs.declared.Change.{Change}
-use Rattle.settings.specs.Settings.{channelLimit, defaultSettings, defaultTable, zeroSettings, applied, allApplied}
-use Rattle.settings.proofs.Mapped.{mapped, mapped-long}
-use Rattle.settings.proofs.Shown.{shown, shown-none, shown-long, shown-fill, shown-map, shown-set, shown-get, shown-take}
+use Rattle.settings.specs.Settings.{channelLimit, defaultSettings, defaultTable, zeroSettings}
 use Rattle.layout.specs.declared.Layout.{Layout}
 use Rattle.layout.specs.Frame.{Frame, channelIn}
 use Rattle.layout.specs.Size.{frameSize}
@@ -47,13 +40,11 @@ use Rattle.pass.specs.declared.Asked.{Asked}
 use Rattle.pass.specs.declared.Found.{Found}
 use Rattle.pass.specs.declared.Checked.{Checked}
 use Rattle.standing.specs.Standing.{octetsLimit, framesLimit, firstStanding}
-use Rattle.effects.specs.Effects.{effectOf, standingAfter}
-use Rattle.effects.proofs.Effect.{the-type}
-use Rattle.effects.specs.Reach.{reachOf}
+use Rattle.effects.specs.Effects.{effectOf}
 use Rattle.framing.specs.Framing.{channelsOf, framedAs}
 use Rattle.framing.specs.AnyNumbers.{framedBy}
 use Rattle.framing.proofs.Framings.{framed-same}
-use Rattle.pass.specs.Verdict.{State, state, goes, refuses, oneChanged, frameAt, withFrame, carried, placeAt, accepted, refused, interpret, verdict}
+use Rattle.pass.specs.Verdict.{State, state, refuses, frameAt, withFrame, carried, placeAt, accepted, refused, interpret, verdict}
 use Rattle.pass.specs.declared.Met.{Met}
 use Rattle.pass.specs.Reached.{Reached, begin, behind}
 use Rattle.pass.specs.Passing.{Scanning, noneMet, metScan, viewMet, metWith}

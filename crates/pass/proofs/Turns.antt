@@ -159,6 +159,7 @@ module _ {s : List ℕ} {q : Asked} {table : List Settings} {c : Cursor} {st : S
         → (m' ≡ metWith q st sequences start l v m) × (frameSize sequences (l .groups) (sequences * l .octets) < 2 ^ 32)
         → (x .root ≡ st .root) × Scanning s q table d x m'
     framing-taken {v = v} ev em =
-        let seen = ap (λ (y : Settings). pick (ltb (q .channel) (channelsOf (st .counted))) y defaultSettings) ev in
-        (taken-root (scanning .long) (scanning .reached) (scanning .count) (q .channel) l (f .laid) i (f .turn .asks) (f .gives) g,
-        rw (em .0) (scanning-frame scanning l (f .laid) i (f .turn .asks) (f .gives) g v (f .turn .found) seen (em .1)))
+        let seen = ap (λ (y : Settings). pick (ltb (q .channel) (channelsOf (st .counted))) y defaultSettings) ev in (
+          taken-root (scanning .long) (scanning .reached) (scanning .count) (q .channel) l (f .laid) i (f .turn .asks) (f .gives) g,
+          rw (em .0) (scanning-frame scanning l (f .laid) i (f .turn .asks) (f .gives) g v (f .turn .found) seen (em .1)),
+        )

@@ -1,5 +1,4 @@
 -- By the two tests: the root settings, the record itself, or each attribute by itself.
-use mathlib.Core.Path.{_∙_}
 use borrow.Author.Tests.{le-leb, lt-leb, eq-eqb, ne-eqb}
 use Rattle.dated.specs.Dated.{settledAt}
 use borrow.Author.Needs.{needs}

@@ -28,14 +28,22 @@ either-bits-requires-2 : tie.Need-either-bits-requires-2
 either-bits-requires-2 c κs = search needs
 
 returns : tie.Need-returns
-returns c = λ k. record {
-      block = c .before .before .before .before .before .before .before .before .before .before .before .before .before .before .before .before .before .before .before .before .before .either-number .ensures k;
-      class = c .before .before .before .before .before .before .before .before .before .before .before .before .before .before .before .before .before .before .either-code .ensures k;
-      lead = c .before .before .before .before .before .before .before .before .before .before .before .before .before .before .before .either-code2 .ensures k;
-      datatype = c .before .before .before .before .before .before .before .before .before .before .before .before .either-octet .ensures k;
-      interval = c .before .before .before .before .before .before .before .before .before .either-scale .ensures k;
-      resolution = c .before .before .before .before .before .before .either-scale2 .ensures k;
-      offset = c .before .before .before .either-bits .ensures k;
+returns c =
+    let at-offset = c .before .before .before in
+    let at-resolution = at-offset .before .before .before in
+    let at-interval = at-resolution .before .before .before in
+    let at-datatype = at-interval .before .before .before in
+    let at-lead = at-datatype .before .before .before in
+    let at-class = at-lead .before .before .before in
+    let at-block = at-class .before .before .before in
+    λ k. record {
+      block = at-block .either-number .ensures k;
+      class = at-class .either-code .ensures k;
+      lead = at-lead .either-code2 .ensures k;
+      datatype = at-datatype .either-octet .ensures k;
+      interval = at-interval .either-scale .ensures k;
+      resolution = at-resolution .either-scale2 .ensures k;
+      offset = at-offset .either-bits .ensures k;
       null = c .either-bits2 .ensures k;
     }
 

@@ -1,15 +1,14 @@
 -- Each turn is a law of the pass over the records: the items up to the cursor behind the item lead to what stands then.
-use mathlib.Core.Path.{_≡_, refl, sym, ap, _∙_}
+use mathlib.Core.Path.{refl, sym, ap, _∙_}
 use mathlib.Core.List.{List, [], _∷_}
 use mathlib.Core.Logic.{inl}
 use native.Mathlib.Omega.{arith}
 use borrow.Author.Needs.{needs}
-use Prim.Native.Nat.{ℕ, _≤_, _<_, _+_, _-_}
-use lib.ListN.{length, getD}
+use Prim.Native.Nat.{ℕ, _-_}
+use lib.ListN.{length}
 use Rattle.items.specs.declared.Cursor.{Cursor}
 use Rattle.items.specs.declared.Item.{Item}
 use Rattle.settings.specs.declared.Settings.{Settings}
-use Rattle.settings.specs.Settings.{channelLimit}
 use Rattle.stretch.specs.Stretch.{stretchOf}
 use Rattle.dated.specs.Dated.{settledIn}
 use Rattle.effects.specs.Effects.{effectOf}

@@ -11,7 +11,7 @@ use Rattle.items.specs.Walk.{cursor}
 use Rattle.settings.specs.Settings.{channelLimit}
 use Rattle.effects.specs.Effects.{standingAfter}
 use Rattle.pass.proofs.Scans.{scanning-counted, scanned-end, scanned-fault}
-use Rattle.pass.proofs.Turns.{Turn, turn-later, turn-stands, turn-refused, Framing, turn-framing, framing-refused, framing-room}
+use Rattle.pass.proofs.Turns.{Turn, turn-later, turn-stands, turn-refused, turn-framing, framing-refused, framing-room}
 use Rattle.pass.proofs.Stretches.{begins-root}
 use Rattle.pass.proofs.Bare.{Bare, bare-first, bare-on, bare-at, bare-all, bare-root, bare-taken}
 use Rattle.pass.proofs.scan_root.Statement.{statement}
