@@ -31,8 +31,8 @@ use Rattle.effects.specs.Effects.{effectOf, standingAfter}
 use Rattle.effects.proofs.Effect.{the-type}
 use Rattle.effects.specs.Reach.{reachOf}
 use Rattle.framing.specs.Framing.{channelsOf}
-use Rattle.pass.specs.Verdict.{State, state, goes, oneChanged, carried}
-use Rattle.pass.proofs.Bounds.{channels-between}
+use Rattle.verdict.specs.Verdict.{State, state, goes, oneChanged, carried}
+use Rattle.verdict.proofs.Bounds.{channels-between}
 use Rattle.pass.proofs.Turns.{Plain}
 
 -- ---- the records

@@ -17,7 +17,7 @@ use heads::Refusal;
 use items::Cursor;
 use items::Next;
 use pass::Asked;
-use pass::Checked;
+use verdict::Checked;
 use settings::Settings;
 use standing::Standing;
 

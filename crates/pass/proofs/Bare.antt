@@ -30,8 +30,8 @@ use Rattle.stretch.specs.declared.Stretch.{Stretch}
 use Rattle.stretch.specs.Stretch.{stretchOf}
 use Rattle.pass.specs.declared.Asked.{Asked}
 use Rattle.pass.specs.declared.Met.{Met}
-use Rattle.pass.specs.Verdict.{state}
-use Rattle.pass.specs.Reached.{Reached}
+use Rattle.verdict.specs.Verdict.{state}
+use Rattle.verdict.specs.Reached.{Reached}
 use Rattle.pass.specs.Passing.{Scanning, noneMet, metWith}
 use Rattle.pass.proofs.Scans.{scanning-first, scanning-on}
 use Rattle.pass.proofs.Turns.{Turn, turn-all, Framing, framing-taken}

@@ -1,8 +1,3 @@
-pub mod Keeps
-pub mod Steps
-pub mod Every
-pub mod Tables
-pub mod Bounds
 pub mod Scans
 pub mod Turns
 pub mod Stretches

@@ -33,8 +33,8 @@ use Rattle.stretch.specs.declared.Stretch.{Stretch}
 use Rattle.stretch.specs.Stretch.{stretchOf}
 use Rattle.pass.specs.declared.Asked.{Asked}
 use Rattle.pass.specs.declared.Met.{Met}
-use Rattle.pass.specs.Verdict.{state, oneChanged}
-use Rattle.pass.specs.Reached.{Reached}
+use Rattle.verdict.specs.Verdict.{state, oneChanged}
+use Rattle.verdict.specs.Reached.{Reached}
 use Rattle.pass.specs.Passing.{Scanning}
 use Rattle.pass.proofs.Scans.{scanning-on}
 use Rattle.pass.proofs.Turns.{Turn, turn-later, turn-count, turn-all, turn-one}

@@ -1,7 +1,6 @@
 -- Laws of the one pass over a file.
 --     scanning-first, -on, -frame    before the first item, behind items that give no frame, behind a frame
 --     scanned-end, -refuses, -fault    the three ways out
---     frame-carried, taken-..    a frame where the file's items lead: what the code computes of it is document 01's rule
 -- Assumes nothing.
 use mathlib.Core.Path.{_≡_, refl, sym, ap, _∙_}
 use mathlib.Core.List.{List, [], _∷_, _++_}
@@ -31,26 +30,24 @@ use Rattle.layout.specs.declared.Layout.{Layout}
 use Rattle.layout.specs.Frame.{Frame, channelIn}
 use Rattle.layout.specs.Size.{frameSize}
 use Rattle.layout.specs.Measure.{layoutOf}
-use Rattle.layout.proofs.Laws.{groups-few}
 use Rattle.standing.specs.declared.Standing.{Standing}
 use Rattle.effects.specs.declared.Effect.{Effect}
 use Rattle.framing.specs.declared.Framed.{Framed}
 use Rattle.framing.specs.declared.Framed.the-variants.{Taken}
 use Rattle.pass.specs.declared.Asked.{Asked}
 use Rattle.pass.specs.declared.Found.{Found}
-use Rattle.pass.specs.declared.Checked.{Checked}
+use Rattle.verdict.specs.declared.Checked.{Checked}
 use Rattle.standing.specs.Standing.{octetsLimit, framesLimit, firstStanding}
 use Rattle.effects.specs.Effects.{effectOf}
-use Rattle.framing.specs.Framing.{channelsOf, framedAs}
+use Rattle.framing.specs.Framing.{channelsOf}
 use Rattle.framing.specs.AnyNumbers.{framedBy}
-use Rattle.framing.proofs.Framings.{framed-same}
-use Rattle.pass.specs.Verdict.{State, state, refuses, frameAt, withFrame, carried, placeAt, accepted, refused, interpret, verdict}
+use Rattle.verdict.specs.Verdict.{State, state, refuses, frameAt, withFrame, carried, placeAt, accepted, refused, interpret, verdict}
 use Rattle.pass.specs.declared.Met.{Met}
-use Rattle.pass.specs.Reached.{Reached, begin, behind}
+use Rattle.verdict.specs.Reached.{Reached, begin, behind}
 use Rattle.pass.specs.Passing.{Scanning, noneMet, metScan, viewMet, metWith}
-use Rattle.pass.proofs.Keeps.{interpret-refuses, reached-verdict}
-use Rattle.pass.proofs.Steps.{TakenBy, taken-found, waveform-found, waveform-short}
-use Rattle.pass.proofs.Bounds.{Bounded, reached-bounded, channels-between, octets-some}
+use Rattle.verdict.proofs.Keeps.{interpret-refuses, reached-verdict}
+use Rattle.verdict.proofs.Frames.{frame-carried, count-few, counts-there}
+use Rattle.verdict.proofs.Bounds.{Bounded, reached-bounded}
 use Rattle.pass.specs.Scan.{zeroFrame, viewOf, foundIn, sizeOf, sizes, refusedScan, scannedIn, scanOf}
 
 -- ---- the pass
@@ -154,58 +151,6 @@ channel-seen channel count table h l =
     let m : min channel (channelLimit - 1) ≡ channel = omega arith in
     simp (t, m, getD-take count table channel zeroSettings k))
     (λ t. simp t))
-
--- What is known of a frame where the file's items lead: l is the layout of its channels.
-module _ {s : List ℕ} {table : List Settings} {c : Cursor} {st : Standing} {met : List Frame} (long : length s ≤ octetsLimit) (reached : Reached s (state st table met) c)
-    {frames : ℕ} (counts : frames ≡ length met) (channel : ℕ) (l : Layout) (el : l ≡ layoutOf channel (take (channelsOf (st .counted)) table)) where
-  abbrev framed-state : State
-  framed-state = state st table met
-
-  abbrev count : ℕ
-  count = channelsOf (st .counted)
-
-  bounded : Bounded framed-state
-  bounded = reached-bounded s reached
-
-  octets-here : 0 < l .octets
-  unfolding layoutOf
-  octets-here = rw el (octets-some framed-state bounded)
-
-  -- A file's frame, of which `frame_of` answers document 01's rule.
-  framed-here : (i : Item) (start len : ℕ) → Effect.Frame start len ≡ effectOf s st i → framedBy frames st (l .agree) (l .octets) len ≡ framedAs frames st (l .agree) (l .octets) len
-  framed-here i start len a = framed-same frames st (l .agree) (l .octets) len octets-here (omega (arith, waveform-short s (waveform-found s st i a refl)))
-
-  -- What the frame's waveform gives, as the pass computes it.
-  pub frame-carried : (i : Item) (start len : ℕ) {r f : Framed} → Effect.Frame start len ≡ effectOf s st i → r ≡ framedBy frames st (l .agree) (l .octets) len → r ≡ f → carried s framed-state (effectOf s st i) ≡ withFrame s framed-state start len f
-  unfolding carried layoutOf
-  frame-carried i start len a u v =
-      ap (carried s framed-state) (sym a)
-      ∙ ap (withFrame s framed-state start len) (sym (rw (el, counts) at (u ∙ framed-here i start len a)) ∙ v)
-
-  count-few : count ≤ channelLimit
-  count-few = channels-between (st .counted) (bounded .counted) .1
-
-  counts-there : length (take count table) ≡ count
-  counts-there = length-take-le count table (omega (arith, count-few, bounded .full))
-
-  -- What the waveform and its groups take is small.
-  pub groups-small : l .groups ≤ channelLimit * 64
-  unfolding layoutOf
-  groups-small = rw el (omega (arith, groups-few 0 (take count table), counts-there, count-few))
-
-  module _ (i : Item) {start len sequences : ℕ} {x : Standing} {r : Framed}
-      (ee : Effect.Frame start len ≡ effectOf s st i) (er : r ≡ framedBy frames st (l .agree) (l .octets) len) (fr : r ≡ Taken sequences x) where
-    taken : TakenBy frames st (l .agree) (l .octets) len sequences x
-    taken = taken-found frames st (l .agree) (l .octets) len (er ∙ framed-here i start len ee) fr
-
-    pub taken-few : frames < framesLimit
-    taken-few = taken .few
-
-    pub taken-small : sequences * l .octets ≤ octetsLimit
-    taken-small = omega (arith, taken .fits, waveform-short s (waveform-found s st i ee refl))
-
-    pub taken-root : x .root ≡ st .root
-    taken-root = ap (λ (y : Standing). y .root) (taken .after)
 
 module _ {s : List ℕ} {q : Asked} {table : List Settings} {c : Cursor} {st : Standing} {m : Met} (p : Scanning s q table c st m)
     (l : Layout) (el : l ≡ layoutOf (q .channel) (take (channelsOf (st .counted)) table))

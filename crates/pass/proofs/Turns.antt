@@ -34,11 +34,12 @@ use Rattle.framing.specs.Framing.{channelsOf}
 use Rattle.framing.specs.AnyNumbers.{framedBy}
 use Rattle.pass.specs.declared.Asked.{Asked}
 use Rattle.pass.specs.declared.Met.{Met}
-use Rattle.pass.specs.Verdict.{State, state, goes, oneChanged, withFrame, carried, placeAt}
-use Rattle.pass.specs.Reached.{behind}
+use Rattle.verdict.specs.Verdict.{State, state, goes, oneChanged, withFrame, carried, placeAt}
+use Rattle.verdict.specs.Reached.{behind}
 use Rattle.pass.specs.Passing.{Scanning, metWith, Room}
 use Rattle.pass.specs.Scan.{refusedScan, scanOf}
-use Rattle.pass.proofs.Scans.{scanning-on, scanning-few, scanning-frame, scanned-refuses, frame-carried, groups-small, taken-small, taken-root}
+use Rattle.verdict.proofs.Frames.{frame-carried, groups-small, taken-small, taken-root}
+use Rattle.pass.proofs.Scans.{scanning-on, scanning-few, scanning-frame, scanned-refuses}
 
 -- ---- effects that set nothing but what stands
 

@@ -4,7 +4,7 @@
 // number and place, what it kept of the frame and channel that are asked for, and how many octets the canonical file's frames take.
 // Up to the first definition in a group it needs no channel records (`scan_root`), from there on it keeps them as they stood at a time (`scan_channels`). Both take
 // definitions in stretches where they can, and every other item by what crate effects says of it.
-// Read first: specs/Verdict.antt (the file), specs/Scan.antt (what a pass answers), then specs/Passing.antt (what it knows on its way).
+// Read first: crate verdict (the file), specs/Scan.antt (what a pass answers), then specs/Passing.antt (what it knows on its way).
 ghost use mathlib.Core.Path.{_≡_};
 ghost use Prim.Native.Nat.{_+_, _*_, _-_, _^_, _≤_, _<_, min};
 ghost use Rattle.octets.specs.Pick.{pick};
@@ -16,7 +16,7 @@ ghost use Rattle.layout.specs.Size.{frameSize};
 ghost use Rattle.layout.specs.Measure.{layoutOf};
 ghost use Rattle.standing.specs.Standing.{octetsLimit};
 ghost use Rattle.framing.specs.Framing.{channelsOf};
-ghost use Rattle.pass.specs.Verdict.{placeAt};
+ghost use Rattle.verdict.specs.Verdict.{placeAt};
 ghost use Rattle.pass.specs.Scan.{refusedScan, scanOf};
 ghost use Rattle.pass.specs.Passing.{Scanning, Room, openedBy, beginsAt, noneMet, metScan, metWith, viewMet};
 use dated::Dated;
@@ -32,12 +32,7 @@ use layout::Layout;
 use settings::Settings;
 use standing::Standing;
 use stretch::Stretch;
-
-// The answer of the check: the number of frames, or the refusal.
-pub enum Checked {
-    Frames(u32),
-    Refused(Refusal),
-}
+use verdict::Checked;
 
 // The frame and the channel that a question names.
 pub struct Asked {
@@ -81,36 +76,13 @@ fn refused_scan(x: Refusal) -> Scan
     }
 }
 
-// The place of an item's tag.
-fn place_of(item: Item) -> usize
-    ensures { λ r. ⌜ r ≡ placeAt item ⌝ }
-{
-    match item {
-        Item::Plain {
-            place,
-            tag: _,
-            start: _,
-            len: _,
-        } => place,
-        Item::Group { place, channel: _ } => place,
-        Item::Member {
-            place,
-            channel: _,
-            tag: _,
-            start: _,
-            len: _,
-        } => place,
-        Item::Mark { place } => place,
-    }
-}
-
 // A refused item decides at its place.
 fn refused_item(number: u8, item: Item) -> Scan
     ensures { λ r. ⌜ r ≡ refusedScan (refusal number (placeAt item)) ⌝ }
 {
     refused_scan(Refusal {
         number,
-        place: place_of(item),
+        place: verdict::place_of(item),
     })
 }
 

@@ -7,11 +7,11 @@
 ghost use mathlib.Core.Path.{_≡_};
 ghost use Prim.Native.Nat.{_^_, _<_};
 ghost use Rattle.layout.specs.Frame.{reported};
-ghost use Rattle.pass.specs.Verdict.{checkedSays, checkOf};
+ghost use Rattle.verdict.specs.Verdict.{checkedSays, checkOf};
 ghost use Rattle.reader.specs.Answer.{describedSays, sampledSays, lookedUpSays, placedSays, attributesWith, attributesOf, placeSeen, placedOf, sampleOf, seenOf};
 use heads::Refusal;
 use pass::Asked;
-use pass::Checked;
+use verdict::Checked;
 use pass::Found;
 use pass::View;
 use settings::Settings;

@@ -14,7 +14,7 @@ use Rattle.dated.specs.Dated.{settledIn}
 use Rattle.effects.specs.Effects.{effectOf}
 use Rattle.layout.proofs.Laws.{Summing, summing-none, summed-up}
 use Rattle.pass.specs.declared.Asked.{Asked}
-use Rattle.pass.proofs.Bounds.{channels-between}
+use Rattle.verdict.proofs.Bounds.{channels-between}
 use Rattle.pass.proofs.Scans.{found-as, scanning-counted, scanned-end, scanned-fault}
 use Rattle.pass.proofs.Turns.{Turn, turn-later, turn-nothing, turn-stands, turn-refused, Framing, turn-framing, framing-refused, framing-room, framing-taken}
 use Rattle.pass.proofs.Stretches.{Opened, opened-group, opened-nothing, opened-counted, group-entered, stretch-on}

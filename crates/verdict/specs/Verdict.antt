@@ -14,8 +14,8 @@ use Rattle.settings.specs.Settings.{channelLimit, defaultTable, zeroSettings, a
 use Rattle.standing.specs.declared.Standing.{Standing}
 use Rattle.effects.specs.declared.Effect.{Effect}
 use Rattle.framing.specs.declared.Framed.{Framed}
-use Rattle.pass.specs.declared.Checked.{Checked}
-use Rattle.pass.specs.declared.Checked.the-variants.{Frames}
+use Rattle.verdict.specs.declared.Checked.{Checked}
+use Rattle.verdict.specs.declared.Checked.the-variants.{Frames}
 use Rattle.standing.specs.Standing.{octetsLimit, firstStanding}
 use Rattle.effects.specs.Effects.{valueAt, effectOf, standingAfter}
 use Rattle.layout.specs.Frame.{Frame, sequenceOctets, allAgree}

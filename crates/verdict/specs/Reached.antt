@@ -8,7 +8,7 @@ use Rattle.items.specs.declared.Within.the-variants.{Root}
 use Rattle.items.specs.declared.Next.{Next}
 use Rattle.items.specs.Walk.{cursor, nextOf}
 use Rattle.effects.specs.Effects.{effectOf}
-use Rattle.pass.specs.Verdict.{State, firstState, goes, carried}
+use Rattle.verdict.specs.Verdict.{State, firstState, goes, carried}
 
 -- Every item ahead of the cursor was taken, and together they lead to this state.
 pub data Reached (s : List ℕ) : State → Cursor → Type 0 where

@@ -16,9 +16,9 @@ use Rattle.settings.specs.declared.Change.{Change}
 use Rattle.settings.specs.Settings.{channelLimit, defaultSettings, zeroSettings, applied, allApplied}
 use Rattle.definitions.specs.Define.{lengthFits, changeOf, standingIn, inRange}
 use Rattle.effects.specs.Effects.{valueAt}
-use Rattle.pass.specs.Verdict.{State, firstState, oneChanged}
-use Rattle.pass.proofs.Every.{Every, every-replicate, every-changed, every-map}
-use Rattle.pass.proofs.Steps.{DefinedChange, back, new, ItemStep, passes, stands, resets, changes, sets, frames}
+use Rattle.verdict.specs.Verdict.{State, firstState, oneChanged}
+use Rattle.verdict.proofs.Every.{Every, every-replicate, every-changed, every-map}
+use Rattle.verdict.proofs.Steps.{DefinedChange, back, new, ItemStep, passes, stands, resets, changes, sets, frames}
 
 -- P holds of each attribute of a record.
 pub record EachAttribute (P : Change → Type 0) (c : Settings) : Type 0 where

@@ -26,8 +26,8 @@ use Rattle.items.proofs.Walks.{next-later, items-found, items-end, items-refuse
 use Rattle.layout.specs.Frame.{Frame}
 use Rattle.effects.specs.Effects.{effectOf}
 use Rattle.standing.specs.Standing.{octetsLimit}
-use Rattle.pass.specs.Verdict.{State, firstState, Outcome, goes, refuses, carried, placeAt, Verdict, accepted, refused, afterItem, interpret, verdict}
-use Rattle.pass.specs.Reached.{Reached, begin, behind}
+use Rattle.verdict.specs.Verdict.{State, firstState, Outcome, goes, refuses, carried, placeAt, Verdict, accepted, refused, afterItem, interpret, verdict}
+use Rattle.verdict.specs.Reached.{Reached, begin, behind}
 
 -- What an item does.
 abbrev pub meaning : List ℕ → State → Item → Outcome

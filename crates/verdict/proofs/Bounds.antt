@@ -24,12 +24,12 @@ use Rattle.definitions.specs.Define.{inRange}
 use Rattle.layout.specs.Frame.{blockOctets, sequenceOctets}
 use Rattle.standing.specs.Standing.{framesLimit}
 use Rattle.framing.specs.Framing.{channelsOf}
-use Rattle.pass.specs.Verdict.{State, firstState, oneChanged, frameChannels}
-use Rattle.pass.specs.Reached.{Reached}
-use Rattle.pass.proofs.Keeps.{reached-keeps}
-use Rattle.pass.proofs.Steps.{ItemStep, passes, stands, resets, changes, sets, frames, meaning-steps}
-use Rattle.pass.proofs.Every.{Every, every-take}
-use Rattle.pass.proofs.Tables.{EachAttribute, Table, table-step, table-first}
+use Rattle.verdict.specs.Verdict.{State, firstState, oneChanged, frameChannels}
+use Rattle.verdict.specs.Reached.{Reached}
+use Rattle.verdict.proofs.Keeps.{reached-keeps}
+use Rattle.verdict.proofs.Steps.{ItemStep, passes, stands, resets, changes, sets, frames, meaning-steps}
+use Rattle.verdict.proofs.Every.{Every, every-take}
+use Rattle.verdict.proofs.Tables.{EachAttribute, Table, table-step, table-first}
 
 -- ---- a record in its ranges
 

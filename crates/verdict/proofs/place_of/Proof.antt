@@ -1,9 +1,9 @@
 -- By the arm of the match.
 use mathlib.Core.Path.{ap, sym}
-use Rattle.pass.specs.Verdict.{placeAt}
+use Rattle.verdict.specs.Verdict.{placeAt}
 use borrow.Author.Needs.{needs}
-use Rattle.pass.proofs.place_of.Statement.{statement}
-use Rattle.pass.proofs.place_of.Tie as tie
+use Rattle.verdict.proofs.place_of.Statement.{statement}
+use Rattle.verdict.proofs.place_of.Tie as tie
 
 enum-known-item : tie.Need-enum-known-item
 enum-known-item c = search needs

@@ -33,8 +33,8 @@ use Rattle.framing.specs.declared.Framed.{Framed}
 use Rattle.standing.specs.Standing.{framesLimit, withOrder, withCount, withSequences, withStart, withRoot, withContinued}
 use Rattle.effects.specs.Effects.{orderEffect, countEffect, sequencesEffect, startEffect, compressedEffect, allEffect, oneEffect, rootEffect, plainEffect, memberEffect, groupEffect, valueAt, effectOf}
 use Rattle.framing.specs.Framing.{sequencesOf, pointerFits, pointerAfter, framedAs}
-use Rattle.pass.specs.Verdict.{State, state, Outcome, goes, refuses, oneChanged, frameChannels, frameAt, withFrame, carried}
-use Rattle.pass.proofs.Keeps.{meaning}
+use Rattle.verdict.specs.Verdict.{State, state, Outcome, goes, refuses, oneChanged, frameChannels, frameAt, withFrame, carried}
+use Rattle.verdict.proofs.Keeps.{meaning}
 
 -- ---- definitions
 
