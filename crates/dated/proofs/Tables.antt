@@ -3,13 +3,14 @@
 --     table-first, table-cleared    every channel has the root settings: before the first item, and after tag 05
 --     table-root            a definition outside a group
 --     table-set, table-at   a record stored, and one looked at
+--     default-at            each place of the table holds the default settings
 -- Assumes nothing.
 use mathlib.Core.Path.{_≡_, refl, ap, _∙_}
 use mathlib.Core.List.{List, [], _∷_, map}
 use Prim.Native.Nat.{ℕ, zero, suc, _+_, _^_, _≤_, _<_}
 use native.Mathlib.Nat.{not-suc-le-zero, le-of-suc-le-suc}
 use native.Mathlib.Omega.{arith}
-use lib.ListN.{length, set, getD, replicate}
+use lib.ListN.{length, set, getD, replicate, getD-replicate}
 use Rattle.settings.specs.declared.Settings.{Settings}
 use Rattle.settings.specs.declared.Change.{Change}
 use Rattle.settings.specs.Settings.{channelLimit, defaultSettings, applied, allApplied}
@@ -111,3 +112,7 @@ first-all root s (suc n) = ap (λ (u : List Settings). root ∷ u) (first-all ro
 
 pub table-first : (root : Settings) → settledIn root firstDates datedTable ≡ replicate channelLimit root
 table-first root = first-all root defaultSettings channelLimit
+
+-- Each place of the table holds the default settings.
+pub default-at : (i : ℕ) (x : Dated) → i < channelLimit → getD datedTable i x .settings ≡ defaultSettings
+default-at i x h = ap (λ (y : Dated). y .settings) (getD-replicate channelLimit i (noted 0 defaultSettings) x h)
