@@ -156,8 +156,8 @@ records-are u v xs l n h =
     let m : recordsHeld v ≡ recordsHeld u = ap (λ (n : ℕ). n / recordWords) l in
     ext-getD zeroDated (recordsIn v) xs (records-long v ∙ m ∙ sym n)
     (λ k b.
-      let c : k < recordsHeld v = omega (arith, records-long v) in
-      records-at v k zeroDated c ∙ h k (omega (arith, m)))
+    let c : k < recordsHeld v = omega (arith, records-long v) in
+    records-at v k zeroDated c ∙ h k (omega (arith, m)))
 
 -- ---- one record stored
 

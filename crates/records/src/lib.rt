@@ -114,7 +114,11 @@ fn record_at(t: &[u64], i: usize) -> Dated
 fn zeros() -> Dated
     ensures { λ r. ⌜ r ≡ zeroDated ⌝ }
 {
-    let scale = Scale { unit: 0, exponent: 0, mantissa: 0 };
+    let scale = Scale {
+        unit: 0,
+        exponent: 0,
+        mantissa: 0,
+    };
     let bits = Bits { width: 0, bits: 0 };
     Dated {
         settings: Settings {

@@ -1,53 +1,51 @@
+-- The loop's invariant: the times of the records before k are 0.
+use Prim.Native.Nat.{_-_, _≤_}
+use mathlib.Core.Path.{_≡_}
+use native.Mathlib.Omega.{arith}
+use borrow.Author.Needs.{needs}
+use Rattle.records.specs.Records.{recordsHeld}
+use Rattle.records.proofs.Laws.{Clearing, clearing-none, clearing-more, clearing-all}
 use Rattle.records.proofs.clear.Statement.{statement}
 use Rattle.records.proofs.clear.Tie as tie
-use Rattle.records.proofs.clear.Reads as reads
-use Rattle.records.proofs.clear.Lts as lts
 
 abbrev Inv-loop : tie.InvT-loop
-Inv-loop t₀ n k₀ t k = ?
+Inv-loop t₀ n k₀ t k = (n ≡ recordsHeld t₀) × (k ≤ n) × Clearing t₀ k t
 
 abbrev μ-loop : tie.MeasureT-loop
-μ-loop t₀ n k₀ t k = ?
+μ-loop t₀ n k₀ t k = n - k
 
--- src/lib.rt:210:5
 loop-holds : tie.Need-loop-holds Inv-loop μ-loop
-loop-holds c = ?
+loop-holds c = search needs
 
--- src/lib.rt:211:11
 mul-t : tie.Need-mul-t Inv-loop μ-loop
-mul-t c = ?
+mul-t c = search needs
 
--- src/lib.rt:211:11
 add-t : tie.Need-add-t Inv-loop μ-loop
-add-t c = ?
+add-t c = search needs
 
--- src/lib.rt:211:9
 mul-t-2 : tie.Need-mul-t-2 Inv-loop μ-loop
-mul-t-2 c = ?
+mul-t-2 c = search needs
 
--- src/lib.rt:211:9
 slice-write-t : tie.Need-slice-write-t Inv-loop μ-loop
-slice-write-t c = ?
+slice-write-t c = search needs
 
--- src/lib.rt:212:9
 add-k : tie.Need-add-k Inv-loop μ-loop
-add-k c = ?
+add-k c = search needs
 
--- src/lib.rt:210:5
 loop-less : tie.Need-loop-less Inv-loop μ-loop
-loop-less c = ?
+loop-less c = search needs
 
--- src/lib.rt:210:5
 loop-again : tie.Need-loop-again Inv-loop μ-loop
-loop-again c = ?
+loop-again c = let at-loop = c .before in (at-loop .loop .inv .0, omega arith, clearing-more (omega arith) (at-loop .loop .inv .2))
 
--- src/lib.rt:205:1
 same-length : tie.Need-same-length Inv-loop μ-loop
-same-length c = ?
+same-length c = search needs
 
--- src/lib.rt:205:1
 returns : tie.Need-returns Inv-loop μ-loop
-returns c = ?
+returns c =
+    let at-loop = c .before in
+    let e : at-loop .loop .k ≡ recordsHeld (at-loop .before .args .t .now) = omega arith in
+    clearing-all (rw e at (at-loop .loop .inv .2))
 
 pub clear-spec : {M : Type 1} → statement M
 clear-spec =
