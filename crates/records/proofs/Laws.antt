@@ -2,29 +2,35 @@
 --     one-back, four-back           the lowest octets of a signed number's word give it back
 --     overlaid-none, overlaid-more    words stored one after the other
 --     records-long                  how many there are
+--     records-full                  a record for each channel of a frame
 --     records-at, records-past      one that is there, and one that is not
 --     holding-none                  nothing stored
 --     holding-put                   one stored
 --     Clearing, clearing-..         the times of the first ones set back
+--     kept-outdated, table-outdated    all times set back: no record is after now, and every channel has the root settings
 -- Assumes nothing.
 use mathlib.Core.Path.{_≡_, refl, sym, ap, _∙_}
-use mathlib.Core.List.{List, map}
+use mathlib.Core.List.{List, [], _∷_, map}
 use mathlib.Core.Bool.{Bool, true, false}
 use mathlib.Core.Logic.{_⊎_, inl, inr}
 use Prim.Native.Nat.{ℕ, zero, suc, _+_, _*_, _-_, _/_, _%_, _^_, _≤_, _<_}
 use native.Mathlib.Nat.{add-zero, zero-add}
 use native.Mathlib.Omega.{arith}
-use borrow.Author.Tests.{lt-ltb, le-ltb, ltb-true, ltb-false, eqb-true, eqb-false}
+use borrow.Author.Tests.{lt-ltb, le-ltb, ltb-true, ltb-false, le-leb, eqb-true, eqb-false}
 use lib.Dec.{ltb, eqb, lit<}
 use lib.IntN.{ℤ}
 use lib.Signed.{mag}
-use lib.ListN.{length, getD, set, length-set, length-map, List·getD-map, List·getD-eq-default}
+use lib.ListN.{length, getD, set, replicate, length-set, length-map, List·getD-map, List·getD-eq-default}
 use lib.Seq.{getD-set-same, getD-set-other, set-out, ext-getD}
 use Rattle.octets.specs.Number.{range, lowOf, twos}
+use Rattle.settings.specs.declared.Settings.{Settings}
 use Rattle.settings.specs.Settings.{channelLimit}
 use Rattle.dated.specs.declared.Dated.{Dated}
-use Rattle.dated.specs.Dated.{noted, zeroDated}
-use Rattle.records.specs.Records.{recordWords, recordNumbers, tableWords, recordBy, scaleBy, bitsBy, wordsAt, recordAt, recordsFrom, recordsHeld, recordsIn, outdated}
+use Rattle.dated.specs.declared.Dates.{Dates}
+use Rattle.dated.specs.Dated.{noted, zeroDated, settledAt, settledIn}
+use Rattle.dated.proofs.Tables.{Until, none, more, Kept}
+use Rattle.records.specs.Records.{recordWords, recordNumbers, timeWord, tableWords, scaleBy, bitsBy, recordBy, wordsAt, recordAt}
+use Rattle.records.specs.Records.{recordsFrom, recordsHeld, recordsIn, outdated}
 use Rattle.records.specs.Records.{Holding, Overlaid}
 
 -- ---- the word of a signed number
@@ -98,7 +104,7 @@ module _ (f g : ℕ → ℕ) where
   same-bits : (a : ℕ) → f a ≡ g a → f (a + 1) ≡ g (a + 1) → bitsBy f a ≡ bitsBy g a
   same-bits a p q = λ i. record { width = lowOf 1 (p i); bits = q i }
 
-  same-settings : ((a : ℕ) → a < 14 → f a ≡ g a) → recordBy f .settings ≡ recordBy g .settings
+  same-settings : ((a : ℕ) → a < timeWord → f a ≡ g a) → recordBy f .settings ≡ recordBy g .settings
   same-settings h =
       λ i. record {
         block = lowOf 4 (h 0 (lit< tt) i);
@@ -112,10 +118,10 @@ module _ (f g : ℕ → ℕ) where
       }
 
   same-by : ((a : ℕ) → a < recordNumbers → f a ≡ g a) → recordBy f ≡ recordBy g
-  same-by h = λ i. noted (lowOf 4 (h 14 (lit< tt) i)) (same-settings (λ a l. h a (omega arith)) i)
+  same-by h = λ i. noted (lowOf 4 (h timeWord (lit< tt) i)) (same-settings (λ a l. h a (omega arith)) i)
 
   -- The same but for the time, which is 0.
-  outdated-by : ((a : ℕ) → a < 14 → f a ≡ g a) → f 14 ≡ 0 → recordBy f ≡ outdated (recordBy g)
+  outdated-by : ((a : ℕ) → a < timeWord → f a ≡ g a) → f timeWord ≡ 0 → recordBy f ≡ outdated (recordBy g)
   outdated-by h e = λ i. noted (lowOf 4 (e i)) (same-settings h i)
 
 -- ---- all records
@@ -211,34 +217,34 @@ module _ (u : List ℕ) (k : ℕ) (x : Dated) where
 -- The times of the first k records are 0, and all else is as it was.
 pub record Clearing (u : List ℕ) (k : ℕ) (v : List ℕ) : Type 0 where
   pub long : length v ≡ length u
-  pub times : (j : ℕ) → j < k → getD v (place j + 14) 0 ≡ 0
-  pub others : (m : ℕ) → (m % recordWords ≡ 14 → ⊥) ⊎ (place k ≤ m) → getD v m 0 ≡ getD u m 0
+  pub times : (j : ℕ) → j < k → getD v (place j + timeWord) 0 ≡ 0
+  pub others : (m : ℕ) → (m % recordWords ≡ timeWord → ⊥) ⊎ (place k ≤ m) → getD v m 0 ≡ getD u m 0
 
 pub clearing-none : (u : List ℕ) → Clearing u 0 u
 clearing-none u = record { long = refl; times = λ j h. let z : ⊥ = omega arith in absurd z; others = λ m h. refl }
 
-pub clearing-more : {u v : List ℕ} {k : ℕ} → k < recordsHeld u → Clearing u k v → Clearing u (k + 1) (set v (place k + 14) 0)
+pub clearing-more : {u v : List ℕ} {k : ℕ} → k < recordsHeld u → Clearing u k v → Clearing u (k + 1) (set v (place k + timeWord) 0)
 clearing-more {u} {v} {k} h c =
     record {
-      long = length-set v (place k + 14) 0 ∙ c .long;
+      long = length-set v (place k + timeWord) 0 ∙ c .long;
       times = λ j l. by-place j l (ltb j k) refl;
-      others = λ m l. getD-set-other v (place k + 14) m 0 0 (away m l) ∙ c .others m (further m l);
+      others = λ m l. getD-set-other v (place k + timeWord) m 0 0 (away m l) ∙ c .others m (further m l);
     }
   where
-    by-place : (j : ℕ) → j < k + 1 → (t : Bool) → ltb j k ≡ t → getD (set v (place k + 14) 0) (place j + 14) 0 ≡ 0
+    by-place : (j : ℕ) → j < k + 1 → (t : Bool) → ltb j k ≡ t → getD (set v (place k + timeWord) 0) (place j + timeWord) 0 ≡ 0
     by-place j l true q =
         let b = ltb-true j k q in
-        getD-set-other v (place k + 14) (place j + 14) 0 0 (λ p. let z : ⊥ = omega arith in z) ∙ c .times j b
+        getD-set-other v (place k + timeWord) (place j + timeWord) 0 0 (λ p. let z : ⊥ = omega arith in z) ∙ c .times j b
     by-place j l false q =
         let b = ltb-false j k q in
         let e : j ≡ k = omega arith in
-        rw e (getD-set-same v (place k + 14) 0 0 (omega (arith, c .long)))
+        rw e (getD-set-same v (place k + timeWord) 0 0 (omega (arith, c .long)))
 
-    away : (m : ℕ) → (m % recordWords ≡ 14 → ⊥) ⊎ (place (k + 1) ≤ m) → m ≡ place k + 14 → ⊥
+    away : (m : ℕ) → (m % recordWords ≡ timeWord → ⊥) ⊎ (place (k + 1) ≤ m) → m ≡ place k + timeWord → ⊥
     away m (inl l) q = l (omega arith)
     away m (inr l) q = omega arith
 
-    further : (m : ℕ) → (m % recordWords ≡ 14 → ⊥) ⊎ (place (k + 1) ≤ m) → (m % recordWords ≡ 14 → ⊥) ⊎ (place k ≤ m)
+    further : (m : ℕ) → (m % recordWords ≡ timeWord → ⊥) ⊎ (place (k + 1) ≤ m) → (m % recordWords ≡ timeWord → ⊥) ⊎ (place k ≤ m)
     further m (inl l) = inl l
     further m (inr l) = inr (omega arith)
 
@@ -256,6 +262,22 @@ clearing-all {u} {v} c =
         (λ a l. c .others (place k + a) (inl (λ e. let z : ⊥ = omega arith in z))) (c .times k h)
         ∙ sym (List·getD-map outdated (recordsIn u) k zeroDated ∙ ap outdated (records-at u k zeroDated h))
 
-    aside : (m : ℕ) → (recordNumbers ≤ m % recordWords) ⊎ (place (recordsHeld u) ≤ m) → (m % recordWords ≡ 14 → ⊥) ⊎ (place (recordsHeld u) ≤ m)
+    aside : (m : ℕ) → (recordNumbers ≤ m % recordWords) ⊎ (place (recordsHeld u) ≤ m) → (m % recordWords ≡ timeWord → ⊥) ⊎ (place (recordsHeld u) ≤ m)
     aside m (inl l) = inl (λ e. let z : ⊥ = omega arith in z)
     aside m (inr l) = inr l
+
+-- ---- what stands for the channels then
+
+until-outdated : (n : ℕ) (xs : List Dated) → Until n (map outdated xs)
+until-outdated n [] = none
+until-outdated n (x ∷ xs) = more {x = outdated x} (omega arith) (until-outdated n xs)
+
+pub kept-outdated : {b : ℕ} {d : Dates} {t : List Dated} (xs : List Dated) → Kept b d t → Kept b d (map outdated xs)
+kept-outdated {d = d} xs k = record { sound = k .sound; until = until-outdated (d .now) xs; low = k .low }
+
+pub table-outdated : (root : Settings) (d : Dates) (xs : List Dated) → settledIn root d (map outdated xs) ≡ replicate (length xs) root
+unfolding settledIn settledAt
+table-outdated root d [] = refl
+table-outdated root d (x ∷ xs) =
+    let first : settledAt root d (outdated x) ≡ root = rw (le-leb 0 (d .cleared) (omega arith)) in
+    λ i. first i ∷ table-outdated root d xs i

@@ -19,6 +19,10 @@ recordWords = 16
 abbrev pub recordNumbers : ℕ
 recordNumbers = 15
 
+-- The place of a record's time among its numbers.
+abbrev pub timeWord : ℕ
+timeWord = 14
+
 -- The words of a record for each channel that a frame may have.
 abbrev pub tableWords : ℕ
 tableWords = channelLimit * recordWords
@@ -31,10 +35,10 @@ scaleBy g a = record { unit = lowOf 1 (g a); exponent = twos 1 (lowOf 1 (g (a + 
 abbrev pub bitsBy : (ℕ → ℕ) → ℕ → Bits
 bitsBy g a = record { width = lowOf 1 (g a); bits = g (a + 1) }
 
--- The record of the words g 0 to g 14. A number is that of the lowest octets of its word, so that any words are a record.
+-- The record of the words g 0 to g 14, one for each number. A number is that of the lowest octets of its word, so that any words are a record.
 abbrev pub recordBy : (ℕ → ℕ) → Dated
 recordBy g =
-    noted (lowOf 4 (g 14))
+    noted (lowOf 4 (g timeWord))
     (record {
       block = lowOf 4 (g 0);
       class = lowOf 2 (g 1);

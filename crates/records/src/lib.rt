@@ -139,10 +139,10 @@ fn zeros() -> Dated
 pub fn get(t: &[u64], k: usize) -> Dated
     ensures { λ r. ⌜ r ≡ getD (recordsIn (now (t .entry))) k zeroDated ⌝ }
 {
-    if t.len() / Records::WORDS <= k {
-        return zeros();
+    if k < t.len() / Records::WORDS {
+        return record_at(t, k * Records::WORDS);
     }
-    record_at(t, k * Records::WORDS)
+    zeros()
 }
 
 // The word of a signed number: its two's complement.

@@ -58,7 +58,10 @@ cast-result-2 : tie.Need-cast-result-2
 cast-result-2 c = rw (read c) (tt, omega (arith, c .before .fits .z .sfits))
 
 returns-2 : tie.Need-returns-2
-returns-2 c = ap (λ (z : ℤ). twos 8 (natAbs z)) (read c) ∙ same (mag (c .before .args .z)) (c .before .fits .z .sfits) ∙ sym (read c) ∙ toZ-ofZ (c .before .fits .z)
+returns-2 c =
+    let z = c .before .args .z in
+    let f = c .before .fits .z in
+    ap (λ (y : ℤ). twos 8 (natAbs y)) (read c) ∙ same (mag z) (f .sfits) ∙ sym (read c) ∙ toZ-ofZ f
 
 pub signed-word-spec : {M : Type 1} → statement M
 signed-word-spec = tie.close (tie.spec cast-result sub-result returns cast-result-2 returns-2)

@@ -62,7 +62,10 @@ signed-word-requires : tie.Need-signed-word-requires
 signed-word-requires c κs = search needs
 
 cast-signed-word-2 : tie.Need-cast-signed-word-2
-cast-signed-word-2 c = wide tt (interval-mantissa (c .before .before .before .before .before .before .before .before .before .before .before .before .before .before .before))
+cast-signed-word-2 c =
+    let at-word = c .before .before in
+    let at-start = at-word .before .before .before .before .before .before .before .before .before .before .before .before .before in
+    wide tt (interval-mantissa at-start)
 
 signed-word-requires-2 : tie.Need-signed-word-requires-2
 signed-word-requires-2 c κs = search needs
@@ -71,13 +74,22 @@ cast-t16 : tie.Need-cast-t16
 cast-t16 c = search needs
 
 cast-signed-word-3 : tie.Need-cast-signed-word-3
-cast-signed-word-3 c = wide tt (resolution-exponent (c .before .before .before .before .before .before .before .before .before .before .before .before .before .before .before .before .before .before .before))
+cast-signed-word-3 c =
+    let at-word2 = c .before .before .before in
+    let at-word = at-word2 .before .before .before in
+    let at-start = at-word .before .before .before .before .before .before .before .before .before .before .before .before .before in
+    wide tt (resolution-exponent at-start)
 
 signed-word-requires-3 : tie.Need-signed-word-requires-3
 signed-word-requires-3 c κs = search needs
 
 cast-signed-word-4 : tie.Need-cast-signed-word-4
-cast-signed-word-4 c = wide tt (resolution-mantissa (c .before .before .before .before .before .before .before .before .before .before .before .before .before .before .before .before .before .before .before .before .before .before))
+cast-signed-word-4 c =
+    let at-word3 = c .before .before in
+    let at-word2 = at-word3 .before .before .before .before in
+    let at-word = at-word2 .before .before .before in
+    let at-start = at-word .before .before .before .before .before .before .before .before .before .before .before .before .before in
+    wide tt (resolution-mantissa at-start)
 
 signed-word-requires-4 : tie.Need-signed-word-requires-4
 signed-word-requires-4 c κs = search needs
