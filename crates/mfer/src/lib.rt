@@ -13,11 +13,11 @@ ghost use Rattle.mfer.specs.Answers.{outputs, countOut, CanonicalOut, nu
 ghost use lib.ListN.{length};
 use bulk::Read;
 use canonical::Written;
-use verdict::Checked;
 use reader::Attributes;
 use reader::Described;
 use reader::Sampled;
 use values::Value;
+use verdict::Checked;
 
 // Checks a file: how many frames it has.
 #[no_mangle]

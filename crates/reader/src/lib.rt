@@ -11,11 +11,11 @@ ghost use Rattle.verdict.specs.Verdict.{checkedSays, checkOf};
 ghost use Rattle.reader.specs.Answer.{describedSays, sampledSays, lookedUpSays, placedSays, attributesWith, attributesOf, placeSeen, placedOf, sampleOf, seenOf};
 use heads::Refusal;
 use pass::Asked;
-use verdict::Checked;
 use pass::Found;
 use pass::View;
 use settings::Settings;
 use values::Value;
+use verdict::Checked;
 
 // The attributes of a channel in a frame. The offset of its settings has the sample's width; a null of width 0 is none.
 pub struct Attributes {

@@ -130,6 +130,14 @@ advanceOf s x = advanceIn (suc (length s - x .cursor .at)) s x
 abbrev pub standOf : Head → List ℕ → Stand
 standOf h u = stand (h .cursor) (h .standing) (h .dates) (recordsIn u) (h .items) (h .frames)
 
+-- A walk that has come to a step.
+abbrev pub movedTo : Step → Cursor → Standing → Dates → ℕ → ℕ → Moved
+movedTo k c st d items frames = record { step = k; head = record { cursor = c; standing = st; dates = d; items = items; frames = frames } }
+
+-- Before the first item.
+abbrev pub firstHead : Head
+firstHead = record { cursor = cursor 0 Root; standing = firstStanding; dates = firstDates; items = 0; frames = 0 }
+
 -- What an advance answers, and how it leaves the words.
 pub record Advances (s : List ℕ) (h : Head) (u : List ℕ) (r : Moved) (v : List ℕ) : Type 0 where
   pub same : stop (r .step) (standOf (r .head) v) ≡ advanceOf s (standOf h u)

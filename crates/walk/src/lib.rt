@@ -6,7 +6,7 @@
 // from there on are the verdict's (proofs/Joins.antt).
 // Read first: specs/Advance.antt, then specs/Joined.antt.
 ghost use mathlib.Core.Path.{_≡_};
-ghost use Prim.Native.Nat.{min};
+ghost use Prim.Native.Nat.{_≤_, min};
 ghost use lib.ListN.{length, take};
 ghost use Rattle.items.specs.Walk.{refusal};
 ghost use Rattle.settings.specs.Settings.{channelLimit};
@@ -15,7 +15,7 @@ ghost use Rattle.layout.specs.Measure.{layoutOf};
 ghost use Rattle.framing.specs.Framing.{channelsOf};
 ghost use Rattle.verdict.specs.Verdict.{placeAt};
 ghost use Rattle.records.specs.Records.{recordsIn};
-ghost use Rattle.walk.specs.Advance.{stand, stop, firstStand, standOf, waveformBy, Advances};
+ghost use Rattle.walk.specs.Advance.{waveformBy, movedTo, firstHead, Advances};
 use dated::Dates;
 use effects::Effect;
 use framing::Framed;
@@ -80,16 +80,155 @@ fn channels_in(t: &[u64], counted: u32) -> usize
     if n < held { n } else { held }
 }
 
-// The layout of a frame's channels.
+// The layout of the first n channels.
 fn layout_in(t: &[u64], n: usize, root: Settings, dates: Dates) -> Layout
-    ensures { λ r. ⌜ r ≡ layoutOf 0 (take (min n channelLimit) (settledIn root dates (recordsIn (now (t .entry))))) ⌝ }
+    requires { ⌜ (n ≤ channelLimit) × (n ≤ length (recordsIn (now t))) ⌝ }
+    ensures { λ r. ⌜ r ≡ layoutOf 0 (take n (settledIn root dates (recordsIn (now (t .entry))))) ⌝ }
 {
-    let m = Settings::at_most(n);
     let mut l = Layout::none();
     let mut i = 0usize;
-    while i < m {
+    while i < n {
         l = l.more(i, 0, dated::settle(root, dates, records::get(t, i)));
         i += 1;
     }
     l
+}
+
+// A frame that is taken.
+fn taken(st: Standing, n: usize, sequences: u32, start: usize, len: usize, octets: u64) -> Waveform
+    requires { ⌜ n ≤ channelLimit ⌝ }
+    ensures { λ r. ⌜ r ≡ waveformBy st n sequences start len octets ⌝ }
+{
+    Waveform {
+        start: st.start,
+        channels: n as u32,
+        sequences,
+        little: st.little,
+        place: start,
+        len,
+        octets,
+    }
+}
+
+// A walk that has come to a step.
+fn come_to(
+    step: Step,
+    cursor: Cursor,
+    standing: Standing,
+    dates: Dates,
+    items: u64,
+    frames: u32,
+) -> Moved
+    ensures { λ r. ⌜ r ≡ movedTo step cursor standing dates items frames ⌝ }
+{
+    Moved {
+        step,
+        head: Head {
+            cursor,
+            standing,
+            dates,
+            items,
+            frames,
+        },
+    }
+}
+
+impl Head {
+    // Before the first item of a file.
+    pub fn first() -> Head
+        ensures { λ r. ⌜ r ≡ firstHead ⌝ }
+    {
+        let cursor = Cursor::first();
+        let standing = Standing::first();
+        let dates = Dates::first();
+        Head {
+            cursor,
+            standing,
+            dates,
+            items: 0,
+            frames: 0,
+        }
+    }
+}
+
+// From where a walk stands to the next frame, the end or the refusal.
+pub fn advance(s: &[u8], h: Head, t: &mut [u64]) -> Moved
+    ensures { λ r. ⌜ Advances (now (s .entry)) h (now (t .entry)) r (now (t .exit)) ⌝ }
+{
+    let mut c = h.cursor;
+    let mut st = h.standing;
+    let mut dates = h.dates;
+    let mut items = h.items;
+    let frames = h.frames;
+    loop {
+        match items::next_item(s, c) {
+            Next::End => {
+                return come_to(Step::Ended, c, st, dates, items, frames);
+            }
+            Next::Refused(x) => {
+                return come_to(Step::Refused(x), c, st, dates, items, frames);
+            }
+            Next::Found(item, next) => {
+                let d = next.renewed();
+                let count = std::num::wrapping_add_u64(items, 1);
+                let effect = effects::item_effect(s, st, item);
+                match effect {
+                    Effect::Count(_) => {
+                        dates = dates.cleared();
+                        st = effects::standing_after(st, effect);
+                        c = d;
+                        items = count;
+                    }
+                    Effect::All(change) => {
+                        dates = dates.defined(change);
+                        st = effects::standing_after(st, effect);
+                        c = d;
+                        items = count;
+                    }
+                    Effect::One(channel, change) => {
+                        let k = channel as usize;
+                        let stood = dated::settle(st.root, dates, records::get(t, k));
+                        records::put(t, k, dates.note(settings::apply(stood, change)));
+                        c = d;
+                        items = count;
+                    }
+                    Effect::Frame { start, len } => {
+                        let n = channels_in(t, st.counted);
+                        let l = layout_in(t, n, st.root, dates);
+                        match framing::frame_of(frames, st, l.agree, l.octets, len) {
+                            Framed::Refused(number) => {
+                                return come_to(
+                                    refused_at(number, item),
+                                    c,
+                                    st,
+                                    dates,
+                                    items,
+                                    frames,
+                                );
+                            }
+                            Framed::Taken(sequences, after) => {
+                                let frame = taken(st, n, sequences, start, len, l.octets);
+                                return come_to(
+                                    Step::Frame(frame),
+                                    d,
+                                    after,
+                                    dates,
+                                    count,
+                                    frames + 1,
+                                );
+                            }
+                        }
+                    }
+                    Effect::Refused(number) => {
+                        return come_to(refused_at(number, item), c, st, dates, items, frames);
+                    }
+                    _ => {
+                        st = effects::standing_after(st, effect);
+                        c = d;
+                        items = count;
+                    }
+                }
+            }
+        }
+    }
 }
