@@ -1,13 +1,11 @@
 -- Laws of the records that words hold.
---     one-back, four-back           the lowest octets of a signed number's word give it back
---     overlaid-none, overlaid-more    words stored one after the other
---     records-long                  how many there are
---     records-full                  a record for each channel of a frame
---     records-at, records-past      one that is there, and one that is not
---     holding-none                  nothing stored
---     holding-put                   one stored
---     Clearing, clearing-..         the times of the first ones set back
---     kept-outdated, table-outdated    all times set back: no record is after now, and every channel has the root settings
+--     one-back, four-back    the lowest octets of a signed number's word give it back
+--     overlaid-more          one word more stored
+--     records-long, records-full     how many there are; one for each channel of a frame
+--     records-at, records-past       one that is there, and one that is not
+--     holding-none, holding-put      nothing stored, and one record stored
+--     Clearing, clearing-more, clearing-all    the times of the first records set back, one more, and all
+--     kept-outdated, table-outdated            with all times set back no record is after now, and every channel has the root settings
 -- Assumes nothing.
 use mathlib.Core.Path.{_≡_, refl, sym, ap, _∙_}
 use mathlib.Core.List.{List, [], _∷_, map}
@@ -61,9 +59,6 @@ pub four-back : (r : ℕ) {z : ℤ} → r < 2 ^ 64 → mag z < 2147483648 → tw
 four-back r f h e = lowest-back 4 r e (λ k m. (omega arith, omega arith)) (λ k m. (omega arith, omega arith))
 
 -- ---- words stored one after the other
-
-pub overlaid-none : (u : List ℕ) (i : ℕ) (w : List ℕ) → Overlaid u i w 0 u
-overlaid-none u i w = record { long = refl; inside = λ a h. let z : ⊥ = omega arith in absurd z; outside = λ m h. refl }
 
 pub overlaid-more : {u w v : List ℕ} {i n : ℕ} → i + n < length u → Overlaid u i w n v → Overlaid u i w (n + 1) (set v (i + n) (getD w n 0))
 overlaid-more {u} {w} {v} {i} {n} h o =
@@ -219,9 +214,6 @@ pub record Clearing (u : List ℕ) (k : ℕ) (v : List ℕ) : Type 0 where
   pub long : length v ≡ length u
   pub times : (j : ℕ) → j < k → getD v (place j + timeWord) 0 ≡ 0
   pub others : (m : ℕ) → (m % recordWords ≡ timeWord → ⊥) ⊎ (place k ≤ m) → getD v m 0 ≡ getD u m 0
-
-pub clearing-none : (u : List ℕ) → Clearing u 0 u
-clearing-none u = record { long = refl; times = λ j h. let z : ⊥ = omega arith in absurd z; others = λ m h. refl }
 
 pub clearing-more : {u v : List ℕ} {k : ℕ} → k < recordsHeld u → Clearing u k v → Clearing u (k + 1) (set v (place k + timeWord) 0)
 clearing-more {u} {v} {k} h c =

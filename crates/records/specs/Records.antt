@@ -50,7 +50,7 @@ recordBy g =
       null = bitsBy g 12;
     })
 
--- The words from place i on.
+-- The words from place i on; past the end they are 0.
 abbrev pub wordsAt : List ℕ → ℕ → ℕ → ℕ
 wordsAt u i a = getD u (i + a) 0
 

@@ -17,6 +17,7 @@ use settings::Scale;
 use settings::Settings;
 use values::Bits;
 
+// The sizes of records kept in words.
 pub struct Records {}
 
 impl Records {

@@ -5,7 +5,7 @@ use native.Mathlib.Omega.{arith}
 use lib.ListN.{length}
 use borrow.Author.Needs.{needs}
 use Rattle.records.specs.Records.{recordNumbers, Overlaid}
-use Rattle.records.proofs.Laws.{overlaid-none, overlaid-more}
+use Rattle.records.proofs.Laws.{overlaid-more}
 use Rattle.records.proofs.overlay.Statement.{statement}
 use Rattle.records.proofs.overlay.Tie as tie
 

@@ -8,17 +8,11 @@ use lib.IntN.{ℤ, pos, negsuc, natAbs}
 use lib.Signed.{ltZ, mag}
 use mir.Syntax.{w64}
 use mir.Val.{SFits, toZ, ofZ}
-use mir.Facts.{toZ-pos, toZ-ofZ}
+use mir.Facts.{toZ-ofZ}
 use Rattle.octets.specs.Number.{twos}
+use Rattle.octets.proofs.Machine.{complement}
 use Rattle.records.proofs.signed_word.Statement.{statement}
 use Rattle.records.proofs.signed_word.Tie as tie
-
-complement : (z : ℤ) → SFits w64 z → ltZ z (pos 0) ≡ true → toZ w64 (18446744073709551615 - ofZ w64 z) ≡ pos (mag z)
-complement (pos n) f t = let g = ltb-true n 0 t in let a : ⊥ = omega arith in absurd a
-complement (negsuc k) f t =
-    let h : k < 9223372036854775808 = f .sfits in
-    let e : 18446744073709551615 - (18446744073709551616 - suc k) ≡ k = omega arith in
-    ap (toZ w64) e ∙ toZ-pos w64 h
 
 below : (z : ℤ) → SFits w64 z → ltZ z (pos 0) ≡ true → twos 8 (18446744073709551615 - mag z) ≡ z
 unfolding twos
