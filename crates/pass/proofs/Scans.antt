@@ -186,7 +186,3 @@ module _ {s : List ℕ} {q : Asked} {table : List Settings} {c : Cursor} {st : S
 pub scanned-large : (s : List ℕ) (q : Asked) → octetsLimit < length s → refusedScan (refusal longFile 0) ≡ scanOf q s
 unfolding scanOf scannedIn verdict
 scanned-large s q h = simp (lt-ltb octetsLimit (length s) h)
-
--- An item is found with the cursor behind it, however that is kept.
-pub found-as : {n : Next} {i : Item} {d d' : Cursor} → n ≡ FoundItem i d → d' ≡ d → n ≡ FoundItem i d'
-found-as {i = i} e f = e ∙ ap (FoundItem i) (sym f)

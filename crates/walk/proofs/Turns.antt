@@ -2,16 +2,22 @@
 --     layout-more           the layout of a frame's channels, one channel more
 --     advance-on, -stops    one item further; where the walk stops
 --     Turning, turning-..   an item met and what it asks for: what the walk does with it
+--     Framing, framing-..   the same of a waveform; channels-few, how many channels it has
+--     answered              the answer of an advance
 -- Assumes nothing.
 use mathlib.Core.Path.{_≡_, refl, sym, ap, subst, _∙_}
-use mathlib.Core.Bool.{not}
+use mathlib.Core.Bool.{Bool, not}
 use mathlib.Core.List.{List, [], _∷_}
-use Prim.Native.Nat.{ℕ, zero, suc, _+_, _-_, _%_, _^_, _≤_, _<_, min}
+use Prim.Native.Nat.{ℕ, zero, suc, _+_, _-_, _*_, _%_, _^_, _≤_, _<_, min}
 use native.Mathlib.Omega.{arith}
+use native.Mathlib.Decide.{decLt}
 use types.Run.{OneOf, miss}
 use denote.Enum.Declared.{tagOf}
-use lib.ListN.{length, take, getD, set}
-use lib.Seq.{length-take-le, take-all}
+use borrow.Author.Tests.{leb-false}
+use lib.Dec.{eqb, ltb, leb}
+use lib.ListN.{length, take, getD, set, length-take}
+use lib.Seq.{take-all}
+use Rattle.octets.proofs.Pick.{pick-cases}
 use Rattle.heads.specs.declared.Refusal.{Refusal}
 use Rattle.items.specs.declared.Item.{Item}
 use Rattle.items.specs.declared.Cursor.{Cursor}
@@ -31,15 +37,20 @@ use Rattle.layout.specs.Frame.{sequenceOctets, allAgree}
 use Rattle.layout.specs.Measure.{More, layoutOf}
 use Rattle.layout.proofs.Laws.{Summing, summing-more}
 use Rattle.standing.specs.declared.Standing.{Standing}
+use Rattle.standing.specs.Standing.{octetsLimit, framesLimit}
 use Rattle.effects.specs.declared.Effect.{Effect}
 use Rattle.effects.specs.Effects.{effectOf, standingAfter}
 use Rattle.effects.proofs.Effect.{the-type}
 use Rattle.framing.specs.declared.Framed.{Framed}
-use Rattle.framing.specs.Framing.{channelsOf}
+use Rattle.framing.specs.Framing.{channelsOf, sequencesOf, pointerFits, framedAs}
 use Rattle.framing.specs.AnyNumbers.{framedBy}
 use Rattle.verdict.specs.Verdict.{placeAt}
+use Rattle.records.specs.Records.{recordsIn}
+use Rattle.walk.specs.declared.Waveform.{Waveform}
 use Rattle.walk.specs.declared.Step.{Step}
-use Rattle.walk.specs.Advance.{Stand, stand, Stop, stop, Turn, on, stops, behind, channelsAt, waveformBy, framedTurn, goesOn, oneNoted, effectTurn, nextTurn, turnOf, turned, advanceIn, advanceOf}
+use Rattle.walk.specs.declared.Head.{Head}
+use Rattle.walk.specs.declared.Moved.{Moved}
+use Rattle.walk.specs.Advance.{Stand, stand, standsFor, Stop, stop, Turn, on, stops, behind, channelsAt, waveformBy, framedTurn, goesOn, oneNoted, effectTurn, nextTurn, turnOf, turned, advanceIn, advanceOf, standOf, movedTo, Advances}
 
 pub layout-more : (root : Settings) (d : Dates) (t : List Dated) {channel n i : ℕ} {l : Layout} {v : Settings} → n ≤ length t → Summing channel (settledIn root d t) n i l → (m : Layout) → i < n
     → v ≡ settledAt root d (getD t i zeroDated) → More i channel v l m → Summing channel (settledIn root d t) n (i + 1) m
@@ -179,3 +190,79 @@ module _ {s : List ℕ} {x : Stand} {i : Item} {d : Cursor} {e : Effect} (t : Tu
   pub turning-refused : {n : ℕ} → e ≡ Effect.Refused n → stop (Step.Refused (refusal n (placeAt i))) x ≡ advanceOf s x
   unfolding effectTurn
   turning-refused {n = n} b = sym (advance-stops s x (stop (Step.Refused (refusal n (placeAt i))) x) (turns ∙ ap (effectTurn x d (placeAt i)) b))
+
+-- ---- a waveform
+
+-- A frame that is taken is not one too many.
+abbrev Few : ℕ → Framed → Type 0
+Few frames (Framed.Taken n st) = frames < framesLimit
+Few frames (Framed.Refused n) = Unit {0}
+
+framed-few : (frames : ℕ) (st : Standing) (agree : Bool) (octets long : ℕ) → Few frames (framedBy frames st agree octets long)
+unfolding framedBy framedAs
+framed-few frames st agree octets long =
+    let P = Few frames in
+    pick-cases P (eqb octets 0) (λ _. tt)
+    (λ _. pick-cases P (ltb octetsLimit long) (λ _. tt)
+    (λ _. pick-cases P (leb framesLimit frames) (λ _. tt)
+    (λ h. pick-cases P (not agree) (λ _. tt)
+    (λ _. pick-cases P (not (pointerFits (st .start))) (λ _. tt)
+    (λ _. pick-cases P (ltb long (sequencesOf (st .sequences) long octets * octets)) (λ _. tt)
+    (λ _. leb-false framesLimit frames h))))))
+
+-- The frame's channels are the first n records, and l is their layout.
+pub record Framing (s : List ℕ) (x : Stand) (i : Item) (d : Cursor) (start len n : ℕ) (l : Layout) (r : Framed) : Type 0 where
+  pub turn : Turning s x i d (Effect.Frame start len)
+  pub counts : n ≡ min (min (channelsOf (x .standing .counted)) channelLimit) (length (x .records))
+  pub laid : l ≡ layoutOf 0 (take n (standsFor x))
+  pub gives : r ≡ framedBy (x .frames) (x .standing) (l .agree) (l .octets) len
+
+-- There are so many channels and so many records.
+pub channels-few : {n : ℕ} (m k : ℕ) → n ≡ min (min m channelLimit) k → (n ≤ channelLimit) × (n ≤ k)
+channels-few m k e = (omega arith, omega arith)
+
+take-there : (m : ℕ) (cs : List Settings) → take (min m (length cs)) cs ≡ take m cs
+take-there m cs = by (decLt m (length cs))
+  where
+    by : Dec (m < length cs) → take (min m (length cs)) cs ≡ take m cs
+    by (yes h) = let e : min m (length cs) ≡ m = omega arith in rw e
+    by (no h) = let e : min m (length cs) ≡ length cs = omega arith in rw e (take-all (length cs) cs (omega arith) ∙ sym (take-all m cs (omega arith)))
+
+module _ {s : List ℕ} {x : Stand} {i : Item} {d : Cursor} {start len n : ℕ} {l : Layout} {r : Framed} (f : Framing s x i d start len n l r) where
+  counts-shown : n ≡ min (min (channelsOf (x .standing .counted)) channelLimit) (length (standsFor x))
+  counts-shown = f .counts ∙ ap (min (min (channelsOf (x .standing .counted)) channelLimit)) (sym (table-long (x .standing .root) (x .dates) (x .records)))
+
+  here : l ≡ layoutOf 0 (channelsAt x)
+  here = f .laid ∙ ap (λ (k : ℕ). layoutOf 0 (take k (standsFor x))) counts-shown ∙ ap (layoutOf 0) (take-there (min (channelsOf (x .standing .counted)) channelLimit) (standsFor x))
+
+  counted : n ≡ length (channelsAt x)
+  counted = counts-shown ∙ sym (length-take (min (channelsOf (x .standing .counted)) channelLimit) (standsFor x))
+
+  framed : effectTurn x d (placeAt i) (Effect.Frame start len) ≡ framedTurn x d (placeAt i) start len r
+  unfolding effectTurn layoutOf
+  framed = ap (framedTurn x d (placeAt i) start len) (sym (f .gives ∙ (λ k. framedBy (x .frames) (x .standing) (here k .agree) (here k .octets) len)))
+
+  pub framing-refused : {number : ℕ} → r ≡ Framed.Refused number → stop (Step.Refused (refusal number (placeAt i))) x ≡ advanceOf s x
+  unfolding framedTurn
+  framing-refused {number = number} g = sym (advance-stops s x (stop (Step.Refused (refusal number (placeAt i))) x) (turns (f .turn) ∙ framed ∙ ap (framedTurn x d (placeAt i) start len) g))
+
+  module _ {sequences : ℕ} {after : Standing} (g : r ≡ Framed.Taken sequences after) where
+    pub framing-last : x .frames < framesLimit
+    framing-last = subst (Few (x .frames)) (sym (f .gives) ∙ g) (framed-few (x .frames) (x .standing) (l .agree) (l .octets) len)
+
+    pub framing-taken : {w : Waveform} {items : ℕ} → w ≡ waveformBy (x .standing) n sequences start len (l .octets) → items ≡ (x .items + 1) % 2 ^ 64
+        → stop (Step.Frame w) (stand d after (x .dates) (x .records) items (x .frames + 1)) ≡ advanceOf s x
+    unfolding framedTurn layoutOf
+    framing-taken ew ei =
+        (λ k. stop (Step.Frame (ew k)) (stand d after (x .dates) (x .records) (ei k) (x .frames + 1)))
+        ∙ (λ k. stop (Step.Frame (waveformBy (x .standing) (counted k) sequences start len (here k .octets))) (behind x d after (x .dates) (x .records) (x .frames + 1)))
+        ∙ sym
+        (advance-stops s x
+        (stop (Step.Frame (waveformBy (x .standing) (length (channelsAt x)) sequences start len (sequenceOctets (channelsAt x)))) (behind x d after (x .dates) (x .records) (x .frames + 1)))
+        (turns (f .turn) ∙ framed ∙ ap (framedTurn x d (placeAt i) start len) g))
+
+-- ---- the answer
+
+pub answered : {s u v : List ℕ} {h : Head} {r : Moved} {j k : Step} {c : Cursor} {st : Standing} {d : Dates} {items frames : ℕ} → r ≡ movedTo j c st d items frames → j ≡ k
+    → stop k (stand c st d (recordsIn v) items frames) ≡ advanceOf s (standOf h u) → length v ≡ length u → Advances s h u r v
+answered e f same long = rw (e, f) (record { same = same; long = long })

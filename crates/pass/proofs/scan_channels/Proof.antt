@@ -6,6 +6,7 @@ use native.Mathlib.Omega.{arith}
 use borrow.Author.Needs.{needs}
 use Prim.Native.Nat.{ℕ, _-_}
 use lib.ListN.{length}
+use Rattle.items.proofs.Walks.{found-as}
 use Rattle.items.specs.declared.Cursor.{Cursor}
 use Rattle.items.specs.declared.Item.{Item}
 use Rattle.settings.specs.declared.Settings.{Settings}
@@ -15,7 +16,7 @@ use Rattle.effects.specs.Effects.{effectOf}
 use Rattle.layout.proofs.Laws.{Summing, summing-none, summed-up}
 use Rattle.pass.specs.declared.Asked.{Asked}
 use Rattle.verdict.proofs.Bounds.{channels-between}
-use Rattle.pass.proofs.Scans.{found-as, scanning-counted, scanned-end, scanned-fault}
+use Rattle.pass.proofs.Scans.{scanning-counted, scanned-end, scanned-fault}
 use Rattle.pass.proofs.Turns.{Turn, turn-later, turn-nothing, turn-stands, turn-refused, Framing, turn-framing, framing-refused, framing-room, framing-taken}
 use Rattle.pass.proofs.Stretches.{Opened, opened-group, opened-nothing, opened-counted, group-entered, stretch-on}
 use Rattle.pass.proofs.Records.{Passing, passing-from, passing-at, passing-on, passing-count, passing-all, passing-one, passing-outside, passing-group, settled-more, settled-seen, stands-full}
