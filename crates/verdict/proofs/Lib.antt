@@ -4,3 +4,4 @@ pub mod Every
 pub mod Tables
 pub mod Bounds
 pub mod Frames
+pub mod Settled
