@@ -18,11 +18,11 @@ use Rattle.items.specs.declared.Cursor.{Cursor}
 use Rattle.items.specs.Walk.{cursor}
 use Rattle.settings.specs.declared.Settings.{Settings}
 use Rattle.settings.specs.declared.Change.{Change}
-use Rattle.settings.specs.Settings.{channelLimit, defaultSettings, zeroSettings, applied, allApplied}
+use Rattle.settings.specs.Settings.{channelLimit, defaultSettings, zeroSettings, applied}
 use Rattle.dated.specs.declared.Dated.{Dated}
 use Rattle.dated.specs.declared.Dates.{Dates}
 use Rattle.dated.specs.Dated.{noted, datedTable, zeroDated, firstDates, rootDefined, allCleared, settledAt, settledIn}
-use Rattle.dated.proofs.Tables.{Kept, kept-first, kept-longer, kept-set, kept-root, kept-cleared, table-long, table-first, table-root, table-cleared, table-set, table-at}
+use Rattle.dated.proofs.Tables.{Kept, kept-first, kept-longer, kept-set, kept-root, kept-cleared, table-long, table-first, table-set, table-at}
 use Rattle.layout.specs.declared.Layout.{Layout}
 use Rattle.layout.specs.Measure.{More}
 use Rattle.layout.proofs.Laws.{Summing, summing-more}
@@ -33,11 +33,12 @@ use Rattle.stretch.specs.declared.Stretch.{Stretch}
 use Rattle.stretch.specs.Stretch.{stretchOf}
 use Rattle.pass.specs.declared.Asked.{Asked}
 use Rattle.pass.specs.declared.Met.{Met}
-use Rattle.verdict.specs.Verdict.{state, oneChanged}
+use Rattle.verdict.specs.Verdict.{state, carried}
+use Rattle.verdict.proofs.Settled.{carried-count, carried-all, carried-one}
 use Rattle.verdict.specs.Reached.{Reached}
 use Rattle.pass.specs.Passing.{Scanning}
 use Rattle.pass.proofs.Scans.{scanning-on}
-use Rattle.pass.proofs.Turns.{Turn, turn-later, turn-count, turn-all, turn-one}
+use Rattle.pass.proofs.Turns.{Turn, turn-later, turn-goes}
 use Rattle.pass.proofs.Stretches.{InGroup, group-law, stretch-on}
 
 pub record Passing (s : List ℕ) (q : Asked) (table : List Dated) (dates : Dates) (c : Cursor) (st : Standing) (m : Met) : Type 0 where
@@ -90,49 +91,53 @@ module _ {s : List ℕ} {q : Asked} {table : List Dated} {dates : Dates} {c : Cu
           pass = subst (λ (r : Settings). Scanning s q (settledIn r dates table) d st' m') (sym (k .0)) (k .1);
         }
 
+    -- The effect carried out, by what it is.
+    does : {f : Effect} → e ≡ f → carried s (state st stands (t .before .met)) e ≡ carried s (state st stands (t .before .met)) f
+    does b = ap (carried s (state st stands (t .before .met))) b
+
     pub passing-count : {n : ℕ} {st' : Standing} {dates' : Dates} → e ≡ Effect.Count n → st' ≡ standingAfter st e → dates' ≡ allCleared dates → Passing s q table dates' d st' m
-    passing-count {st' = st'} b w ed =
-        let k = turn-count t b w in
-        let same : replicate channelLimit (st .root) ≡ settledIn (st' .root) (allCleared dates) table =
-        ap (λ (n : ℕ). replicate n (st .root)) (sym (p .full)) ∙ sym (table-cleared (st .root) dates (p .kept)) ∙ ap (λ (r : Settings). settledIn r (allCleared dates) table) (sym (k .0)) in
+    passing-count {n = n} {st' = st'} b w ed =
+        let v = w ∙ ap (standingAfter st) b in
         rw ed
         (record {
           full = p .full;
           kept = kept-longer (kept-cleared (p .kept) room) on;
-          pass = subst (λ (u : List Settings). Scanning s q u d st' m) same (k .1);
+          pass = subst (λ (r : Settings). Scanning s q (settledIn r (allCleared dates) table) d st' m) (sym (ap (λ (x : Standing). x .root) v))
+              (turn-goes t v (does b ∙ carried-count s st dates table (t .before .met) (p .kept) (p .full) n));
         })
 
     pub passing-all : {ch : Change} {st' : Standing} {dates' : Dates} → e ≡ Effect.All ch → st' ≡ standingAfter st (Effect.All ch) → dates' ≡ rootDefined ch dates → Passing s q table dates' d st' m
     passing-all {ch = ch} {st' = st'} b w ed =
-        let k = turn-all t b w in
-        let same : allApplied ch stands ≡ settledIn (st' .root) (rootDefined ch dates) table =
-        sym (table-root (st .root) dates (p .kept) ch room) ∙ ap (λ (r : Settings). settledIn r (rootDefined ch dates) table) (sym (k .0)) in
         rw ed
         (record {
           full = p .full;
           kept = kept-longer (kept-root (p .kept) room ch) on;
-          pass = subst (λ (u : List Settings). Scanning s q u d st' m) same (k .1);
+          pass = subst (λ (r : Settings). Scanning s q (settledIn r (rootDefined ch dates) table) d st' m) (sym (ap (λ (x : Standing). x .root) w))
+              (turn-goes t w (does b ∙ carried-all s st dates table (t .before .met) (p .kept) (p .full) ch room));
         })
 
-    pub passing-one : {channel : ℕ} {ch : Change} {stood v : Settings} {x : Dated} → e ≡ Effect.One channel ch → channel < channelLimit
+    -- The record of a channel, brought up to date and changed.
+    abbrev changed : ℕ → Change → Dated
+    changed channel ch = noted (dates .now) (applied ch (settledAt (st .root) dates (getD table channel zeroDated)))
+
+    one-set : {channel : ℕ} {ch : Change} → e ≡ Effect.One channel ch → Scanning s q (settledIn (st .root) dates (set table channel (changed channel ch))) d st m
+    one-set {channel = channel} {ch = ch} b = turn-goes t refl (does b ∙ carried-one s st dates table (t .before .met) (p .kept) (p .full) channel ch)
+
+    pub passing-one : {channel : ℕ} {ch : Change} {stood v : Settings} {x : Dated} → e ≡ Effect.One channel ch
         → stood ≡ settledAt (st .root) dates (getD table channel zeroDated) → v ≡ applied ch stood → x ≡ noted (dates .now) v
         → Passing s q (set table channel x) dates d st m
-    unfolding oneChanged
-    passing-one {channel = channel} {ch = ch} {v = v} b h es ev ex =
-        rw ex
+    passing-one {channel = channel} {ch = ch} b es ev ex =
+        rw (ex ∙ ap (noted (dates .now)) (ev ∙ ap (applied ch) es))
         (record {
-          full = length-set table channel (noted (dates .now) v) ∙ p .full;
-          kept = kept-longer (kept-set (p .kept) channel v) (omega (arith, on));
-          pass = subst (λ (u : List Settings). Scanning s q u d st m)
-              (ap (λ (y : Settings). set stands channel (applied ch y)) (stands-at h ∙ sym es) ∙ ap (set stands channel) (sym ev) ∙ stands-set channel v)
-              (turn-one t b);
+          full = length-set table channel (changed channel ch) ∙ p .full;
+          kept = kept-longer (kept-set (p .kept) channel (changed channel ch .settings)) (omega (arith, on));
+          pass = one-set b;
         })
 
     -- A channel that has no record.
     pub passing-outside : {channel : ℕ} {ch : Change} → e ≡ Effect.One channel ch → channelLimit ≤ channel → Passing s q table dates d st m
-    unfolding oneChanged
     passing-outside {channel = channel} {ch = ch} b h =
-        passing-on (refl, subst (λ (u : List Settings). Scanning s q u d st m) (set-out stands channel (applied ch (getD stands channel zeroSettings)) (rw stands-full h)) (turn-one t b))
+        passing-on (refl, subst (λ (u : List Dated). Scanning s q (settledIn (st .root) dates u) d st m) (set-out table channel (changed channel ch) (rw (p .full) h)) (one-set b))
 
   -- ---- behind the definitions at the front of a group
 

@@ -34,7 +34,7 @@ use Rattle.framing.specs.Framing.{channelsOf}
 use Rattle.framing.specs.AnyNumbers.{framedBy}
 use Rattle.pass.specs.declared.Asked.{Asked}
 use Rattle.pass.specs.declared.Met.{Met}
-use Rattle.verdict.specs.Verdict.{State, state, goes, oneChanged, withFrame, carried, placeAt}
+use Rattle.verdict.specs.Verdict.{State, state, goes, withFrame, carried, placeAt}
 use Rattle.verdict.specs.Reached.{behind}
 use Rattle.pass.specs.Passing.{Scanning, metWith, Room}
 use Rattle.pass.specs.Scan.{refusedScan, scanOf}
@@ -84,39 +84,24 @@ module _ {s : List ℕ} {q : Asked} {table : List Settings} {c : Cursor} {st : S
   abbrev here : State
   here = state st table (t .before .met)
 
-  abbrev Goes : List Settings → Standing → Type 0
-  Goes table' st' = carried s here e ≡ goes (state st' table' (t .before .met))
-
-  -- An item that gives no frame.
-  goes-on : {table' : List Settings} {st' : Standing} → Goes table' st' → Scanning s q table' d st' m
-  goes-on g = scanning-on (t .before) (behind (t .before .reached) (t .found) (ap (carried s here) (sym (t .asks)) ∙ g))
-
-  -- The same standing, however it is kept.
-  goes-as : {table' : List Settings} {st' st'' : Standing} → st'' ≡ st' → Goes table' st' → Goes table' st''
-  goes-as {table' = table'} w g = g ∙ ap (λ (x : Standing). goes (state x table' (t .before .met))) (sym w)
+  -- An item that gives no frame; what stands after it is known, however that is kept.
+  pub turn-goes : {table' : List Settings} {st' st'' : Standing} → st'' ≡ st' → carried s here e ≡ goes (state st' table' (t .before .met)) → Scanning s q table' d st'' m
+  turn-goes {table' = table'} w g =
+      scanning-on (t .before)
+      (behind (t .before .reached) (t .found) (ap (carried s here) (sym (t .asks)) ∙ g ∙ ap (λ (x : Standing). goes (state x table' (t .before .met))) (sym w)))
 
   pub turn-nothing : e ≡ Effect.Pass → Scanning s q table d st m
   unfolding carried
-  turn-nothing b = goes-on (ap (carried s here) b)
+  turn-nothing b = turn-goes refl (ap (carried s here) b)
 
   pub turn-stands : (ks : List ℕ) → Plain ks → T (not (hasKey ks 2)) ⊎ (table ≡ replicate channelLimit (st .root)) → {st' : Standing} → OneOf ks (tagOf the-type e) → st' ≡ standingAfter st e → (st' .root ≡ st .root) × Scanning s q table d st' m
   turn-stands ks h u b w =
       let k = stood ks h s here u e b in
-      (ap (λ (x : Standing). x .root) w ∙ k .root, goes-on (goes-as w (k .carries)))
-
-  pub turn-count : {n : ℕ} {st' : Standing} → e ≡ Effect.Count n → st' ≡ standingAfter st e → (st' .root ≡ st .root) × Scanning s q (replicate channelLimit (st .root)) d st' m
-  unfolding carried
-  turn-count b w =
-      let v = w ∙ ap (standingAfter st) b in
-      (ap (λ (x : Standing). x .root) v, goes-on (goes-as v (ap (carried s here) b)))
+      (ap (λ (x : Standing). x .root) w ∙ k .root, turn-goes w (k .carries))
 
   pub turn-all : {ch : Change} {st' : Standing} → e ≡ Effect.All ch → st' ≡ standingAfter st (Effect.All ch) → (st' .root ≡ applied ch (st .root)) × Scanning s q (allApplied ch table) d st' m
   unfolding carried
-  turn-all b w = (ap (λ (x : Standing). x .root) w, goes-on (goes-as w (ap (carried s here) b)))
-
-  pub turn-one : {channel : ℕ} {ch : Change} → e ≡ Effect.One channel ch → Scanning s q (oneChanged channel (applied ch) table) d st m
-  unfolding carried
-  turn-one b = goes-on (ap (carried s here) b)
+  turn-all b w = (ap (λ (x : Standing). x .root) w, turn-goes w (ap (carried s here) b))
 
   pub turn-refused : {n : ℕ} → e ≡ Effect.Refused n → refusedScan (refusal n (placeAt i)) ≡ scanOf q s
   unfolding carried

@@ -8,7 +8,7 @@ use mathlib.Core.Path.{_≡_, refl, sym, ap, subst, _∙_}
 use mathlib.Core.List.{List, [], _∷_, _++_}
 use Prim.Native.Nat.{ℕ, zero, suc, _+_, _-_, _%_, _^_, _≤_, _<_, min}
 use native.Mathlib.Omega.{arith}
-use lib.ListN.{length, take, drop, getD, set, length-append, length-set, length-replicate}
+use lib.ListN.{length, take, drop, length-append, length-set, length-replicate}
 use Rattle.items.specs.declared.Item.{Item}
 use Rattle.items.specs.declared.Cursor.{Cursor}
 use Rattle.items.specs.declared.Next.{Next}
@@ -19,25 +19,25 @@ use Rattle.settings.specs.declared.Settings.{Settings}
 use Rattle.settings.specs.Settings.{channelLimit, defaultSettings, applied}
 use Rattle.dated.specs.declared.Dated.{Dated}
 use Rattle.dated.specs.declared.Dates.{Dates}
-use Rattle.dated.specs.Dated.{noted, rootDefined, allCleared, settledAt, settledIn}
+use Rattle.dated.specs.Dated.{noted, rootDefined, allCleared, settledIn}
 use Rattle.dated.proofs.Tables.{Kept, kept-first, kept-longer, kept-set, kept-root, kept-cleared, table-first}
 use Rattle.layout.specs.declared.Layout.{Layout}
 use Rattle.layout.specs.Frame.{Frame, sequenceOctets, allAgree}
 use Rattle.layout.specs.Measure.{layoutOf}
 use Rattle.standing.specs.declared.Standing.{Standing}
-use Rattle.standing.specs.Standing.{octetsLimit, firstStanding}
+use Rattle.standing.specs.Standing.{octetsLimit}
 use Rattle.effects.specs.declared.Effect.{Effect}
 use Rattle.effects.specs.Effects.{effectOf, standingAfter}
 use Rattle.framing.specs.declared.Framed.{Framed}
 use Rattle.framing.specs.Framing.{channelsOf}
 use Rattle.framing.specs.AnyNumbers.{framedBy}
-use Rattle.verdict.specs.Verdict.{State, state, goes, refuses, frameAt, withFrame, carried, placeAt, accepted, refused, interpret, verdict}
+use Rattle.verdict.specs.Verdict.{State, state, goes, refuses, withFrame, carried, placeAt, accepted, refused, interpret, verdict}
 use Rattle.verdict.specs.Reached.{Reached, begin, behind as one-behind}
 use Rattle.verdict.proofs.Keeps.{interpret-refuses, reached-verdict}
 use Rattle.verdict.proofs.Frames.{frame-carried, count-few, taken-root}
 use Rattle.verdict.proofs.Settled.{carried-count, carried-all, carried-one}
 use Rattle.walk.specs.declared.Step.{Step}
-use Rattle.walk.specs.Advance.{Stand, stand, firstStand, standsFor, channelsAt, Stop, stop, Turn, on, stops, behind, waveformBy, framedTurn, oneNoted, effectTurn, nextTurn, turnOf, advanceOf}
+use Rattle.walk.specs.Advance.{Stand, firstStand, standsFor, channelsAt, Turn, on, stops, behind, framedTurn, oneNoted, effectTurn, nextTurn, turnOf, advanceOf}
 use Rattle.walk.specs.Joined.{frameBy, joinedBy, joinedIn, joined}
 use Rattle.walk.proofs.Turns.{Later, turn-later, advance-on, advance-stops}
 
@@ -132,28 +132,30 @@ module _ {s : List ℕ} {met : List Frame} {x : Stand} (p : Reaches s met x) whe
           let root = taken-root (p .long) (p .reached) (p .count) 0 laid refl i a refl e in
           let same : standsFor x ≡ settledIn (st .root) (x .dates) (x .records) = ap (λ (r : Settings). settledIn r (x .dates) (x .records)) (sym root) in
           let channels : take count (standsFor x) ≡ take (length (channelsAt x)) (settledIn (st .root) (x .dates) (x .records)) =
-          sym shown ∙ sym (take-again (min count channelLimit) (standsFor x)) ∙ ap (take (length (channelsAt x))) same in
-          (forward .1, forward .2,
-          record {
-            long = p .long;
-            full = p .full;
-            kept = kept-longer (p .kept) (omega (arith, further));
-            items = more-items;
-            count = rw length-append (omega (arith, p .count));
-            reached = one-behind (p .reached) found
-                (g
-                ∙ (λ k. goes
-                (state st (same k)
-                (met
-                ++ (record {
-                  start = x .standing .start;
-                  place = start;
-                  little = x .standing .little;
-                  sequences = n;
-                  channels = channels k;
-                  waveform = take len (drop start s);
-                } ∷ [])))));
-          })
+          sym shown ∙ sym (take-again (min count channelLimit) (standsFor x)) ∙ ap (take (length (channelsAt x))) same in (
+            forward .1,
+            forward .2,
+            record {
+              long = p .long;
+              full = p .full;
+              kept = kept-longer (p .kept) (omega (arith, further));
+              items = more-items;
+              count = rw length-append (omega (arith, p .count));
+              reached = one-behind (p .reached) found
+                  (g
+                  ∙ (λ k. goes
+                  (state st (same k)
+                  (met
+                  ++ (record {
+                    start = x .standing .start;
+                    place = start;
+                    little = x .standing .little;
+                    sequences = n;
+                    channels = channels k;
+                    waveform = take len (drop start s);
+                  } ∷ [])))));
+            },
+          )
       framed-reaches (Framed.Refused n) e = refuses-here n (frame-carried (p .long) (p .reached) (p .count) 0 laid refl i start len a refl e)
 
     effect-reaches : (e : Effect) → e ≡ effectOf s (x .standing) i → TurnReaches s met (x .cursor .at) (effectTurn x d (placeAt i) e)

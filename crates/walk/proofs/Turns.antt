@@ -33,7 +33,7 @@ use Rattle.dated.specs.declared.Dates.{Dates}
 use Rattle.dated.specs.Dated.{noted, zeroDated, rootDefined, allCleared, settledAt, settledIn}
 use Rattle.dated.proofs.Tables.{table-long, table-at}
 use Rattle.layout.specs.declared.Layout.{Layout}
-use Rattle.layout.specs.Frame.{sequenceOctets, allAgree}
+use Rattle.layout.specs.Frame.{sequenceOctets}
 use Rattle.layout.specs.Measure.{More, layoutOf}
 use Rattle.layout.proofs.Laws.{Summing, summing-more}
 use Rattle.standing.specs.declared.Standing.{Standing}
@@ -50,7 +50,7 @@ use Rattle.walk.specs.declared.Waveform.{Waveform}
 use Rattle.walk.specs.declared.Step.{Step}
 use Rattle.walk.specs.declared.Head.{Head}
 use Rattle.walk.specs.declared.Moved.{Moved}
-use Rattle.walk.specs.Advance.{Stand, stand, standsFor, Stop, stop, Turn, on, stops, behind, channelsAt, waveformBy, framedTurn, goesOn, oneNoted, effectTurn, nextTurn, turnOf, turned, advanceIn, advanceOf, standOf, movedTo, Advances}
+use Rattle.walk.specs.Advance.{Stand, stand, standsFor, Stop, stop, Turn, on, stops, behind, channelsAt, waveformBy, framedTurn, goesOn, effectTurn, nextTurn, turnOf, turned, advanceIn, advanceOf, standOf, movedTo, Advances}
 
 pub layout-more : (root : Settings) (d : Dates) (t : List Dated) {channel n i : ℕ} {l : Layout} {v : Settings} → n ≤ length t → Summing channel (settledIn root d t) n i l → (m : Layout) → i < n
     → v ≡ settledAt root d (getD t i zeroDated) → More i channel v l m → Summing channel (settledIn root d t) n (i + 1) m
@@ -162,29 +162,42 @@ module _ {s : List ℕ} {x : Stand} {i : Item} {d : Cursor} {e : Effect} (t : Tu
   on-to : {y : Stand} → effectTurn x d (placeAt i) e ≡ on y → advanceOf s y ≡ advanceOf s x
   on-to {y = y} g = sym (advance-on s x y (turns ∙ g))
 
+  -- One item more is read.
+  abbrev Counted : ℕ → Type 0
+  Counted items = items ≡ (x .items + 1) % 2 ^ 64
+
+  -- What is left behind the item gives the same.
+  abbrev Same : Standing → Dates → List Dated → ℕ → Type 0
+  Same st dates records items = advanceOf s (stand d st dates records items (x .frames)) ≡ advanceOf s x
+
   -- The stand behind the item, however its parts are kept.
-  goes-to : {st : Standing} {dates : Dates} {records : List Dated} {items : ℕ} → effectTurn x d (placeAt i) e ≡ goesOn x d e dates records → st ≡ standingAfter (x .standing) e → items ≡ (x .items + 1) % 2 ^ 64
-      → advanceOf s (stand d st dates records items (x .frames)) ≡ advanceOf s x
+  goes-to : {st : Standing} {dates : Dates} {records : List Dated} {items : ℕ} → effectTurn x d (placeAt i) e ≡ goesOn x d e dates records → st ≡ standingAfter (x .standing) e → Counted items → Same st dates records items
   goes-to {dates = dates} {records = records} g es ei = (λ k. advanceOf s (stand d (es k) dates records (ei k) (x .frames))) ∙ on-to g
 
-  pub turning-stands : {st : Standing} {items : ℕ} → OneOf plain-keys (tagOf the-type e) → st ≡ standingAfter (x .standing) e → items ≡ (x .items + 1) % 2 ^ 64 → advanceOf s (stand d st (x .dates) (x .records) items (x .frames)) ≡ advanceOf s x
+  pub turning-stands : {st : Standing} {items : ℕ} → OneOf plain-keys (tagOf the-type e) → st ≡ standingAfter (x .standing) e → Counted items → Same st (x .dates) (x .records) items
   turning-stands b es ei = goes-to (plain-goes x d (placeAt i) e b) es ei
 
-  pub turning-count : {n : ℕ} {st : Standing} {dates : Dates} {items : ℕ} → e ≡ Effect.Count n → st ≡ standingAfter (x .standing) e → dates ≡ allCleared (x .dates) → items ≡ (x .items + 1) % 2 ^ 64 → advanceOf s (stand d st dates (x .records) items (x .frames)) ≡ advanceOf s x
+  pub turning-count : {n : ℕ} {st : Standing} {dates : Dates} {items : ℕ} → e ≡ Effect.Count n → st ≡ standingAfter (x .standing) e → dates ≡ allCleared (x .dates) → Counted items → Same st dates (x .records) items
   unfolding effectTurn
-  turning-count b es ed ei = rw ed (goes-to (ap (effectTurn x d (placeAt i)) b ∙ ap (λ (f : Effect). goesOn x d f (allCleared (x .dates)) (x .records)) (sym b)) es ei)
+  turning-count b es ed ei =
+      rw ed (goes-to (ap (effectTurn x d (placeAt i)) b ∙ ap (λ (f : Effect). goesOn x d f (allCleared (x .dates)) (x .records)) (sym b)) es ei)
 
-  pub turning-all : {ch : Change} {st : Standing} {dates : Dates} {items : ℕ} → e ≡ Effect.All ch → st ≡ standingAfter (x .standing) (Effect.All ch) → dates ≡ rootDefined ch (x .dates) → items ≡ (x .items + 1) % 2 ^ 64 → advanceOf s (stand d st dates (x .records) items (x .frames)) ≡ advanceOf s x
+  pub turning-all : {ch : Change} {st : Standing} {dates : Dates} {items : ℕ} → e ≡ Effect.All ch → st ≡ standingAfter (x .standing) (Effect.All ch) → dates ≡ rootDefined ch (x .dates) → Counted items
+      → Same st dates (x .records) items
   unfolding effectTurn
-  turning-all {ch = ch} b es ed ei = rw ed (goes-to (ap (effectTurn x d (placeAt i)) b ∙ ap (λ (f : Effect). goesOn x d f (rootDefined ch (x .dates)) (x .records)) (sym b)) (es ∙ ap (standingAfter (x .standing)) (sym b)) ei)
+  turning-all {ch = ch} b es ed ei =
+      rw ed
+      (goes-to (ap (effectTurn x d (placeAt i)) b ∙ ap (λ (f : Effect). goesOn x d f (rootDefined ch (x .dates)) (x .records)) (sym b))
+      (es ∙ ap (standingAfter (x .standing)) (sym b)) ei)
 
   pub turning-one : {channel : ℕ} {ch : Change} {old : Dated} {stood v : Settings} {new : Dated} {records : List Dated} {items : ℕ} → e ≡ Effect.One channel ch
-      → old ≡ getD (x .records) channel zeroDated → stood ≡ settledAt (x .standing .root) (x .dates) old → v ≡ applied ch stood → new ≡ noted (x .dates .now) v → records ≡ set (x .records) channel new → items ≡ (x .items + 1) % 2 ^ 64
-      → advanceOf s (stand d (x .standing) (x .dates) records items (x .frames)) ≡ advanceOf s x
+      → old ≡ getD (x .records) channel zeroDated → stood ≡ settledAt (x .standing .root) (x .dates) old → v ≡ applied ch stood → new ≡ noted (x .dates .now) v → records ≡ set (x .records) channel new
+      → Counted items → Same (x .standing) (x .dates) records items
   unfolding effectTurn
   turning-one {channel = channel} {ch = ch} b eo es ev en er ei =
+      let changed = en ∙ ap (noted (x .dates .now)) (ev ∙ ap (applied ch) (es ∙ ap (settledAt (x .standing .root) (x .dates)) eo)) in
       rw er
-      ((λ k. advanceOf s (stand d (x .standing) (x .dates) (set (x .records) channel ((en ∙ ap (noted (x .dates .now)) (ev ∙ ap (applied ch) (es ∙ ap (settledAt (x .standing .root) (x .dates)) eo))) k)) (ei k) (x .frames)))
+      ((λ k. advanceOf s (stand d (x .standing) (x .dates) (set (x .records) channel (changed k)) (ei k) (x .frames)))
       ∙ on-to (ap (effectTurn x d (placeAt i)) b))
 
   pub turning-refused : {n : ℕ} → e ≡ Effect.Refused n → stop (Step.Refused (refusal n (placeAt i))) x ≡ advanceOf s x

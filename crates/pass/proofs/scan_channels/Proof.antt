@@ -264,7 +264,7 @@ loop-again-4 c =
     let at-stood = c .before .before in
     let at-one = at-stood .before .before .before .before in
     let k = at-one .before .before in
-    passing-one (passing k) (turn k) (at-one .effect2 .given .1) (c .before .before .before .before .if2 .taken) (at-stood .settle2 .ensures) (c .before .apply .ensures) (c .note2 .ensures)
+    passing-one (passing k) (turn k) (at-one .effect2 .given .1) (at-stood .settle2 .ensures) (c .before .apply .ensures) (c .note2 .ensures)
 
 loop-less-5 : tie.Need-loop-less-5 Inv-loop2 μ-loop2 Inv-loop μ-loop
 loop-less-5 c = omega (arith, turn-later (turn (c .before .before .before .before)))

@@ -1,18 +1,14 @@
 -- Each turn is a law of the walk: what is left from where it stands gives the answer.
-use mathlib.Core.Path.{_≡_, refl, sym, ap, _∙_}
+use mathlib.Core.Path.{_≡_, refl, sym, _∙_}
 use mathlib.Core.List.{List}
 use Prim.Native.Nat.{ℕ, _-_}
 use native.Mathlib.Omega.{arith}
 use borrow.Author.Needs.{needs}
-use lib.ListN.{length, getD, set}
-use Rattle.items.specs.declared.Cursor.{Cursor}
+use lib.ListN.{length}
 use Rattle.items.specs.declared.Item.{Item}
-use Rattle.items.specs.Walk.{refusal}
 use Rattle.items.proofs.Walks.{found-as}
-use Rattle.verdict.specs.Verdict.{placeAt}
 use Rattle.records.specs.Records.{recordsIn}
-use Rattle.walk.specs.declared.Step.{Step}
-use Rattle.walk.specs.Advance.{Stand, stand, stop, advanceOf, movedTo}
+use Rattle.walk.specs.Advance.{Stand, stand, advanceOf}
 use Rattle.walk.proofs.Turns.{advance-end, advance-fault, Turning, turning-later, turning-stands, turning-count, turning-all, turning-one, turning-refused, Framing, channels-few, framing-refused, framing-last, framing-taken, answered}
 use Rattle.walk.proofs.advance.Statement.{statement}
 use Rattle.walk.proofs.advance.Tie as tie

@@ -1,16 +1,12 @@
 -- Summed up channel by channel.
 use borrow.Author.Needs.{needs}
-use mathlib.Core.Path.{_≡_, refl, sym, subst, ap, _∙_}
-use Prim.Native.Nat.{ℕ, _≤_, _-_}
+use mathlib.Core.Path.{refl, ap, _∙_}
+use Prim.Native.Nat.{_≤_, _-_}
 use native.Mathlib.Omega.{arith}
-use lib.ListN.{length, getD}
-use Rattle.settings.specs.declared.Settings.{Settings}
-use Rattle.settings.specs.Settings.{zeroSettings}
-use Rattle.dated.specs.declared.Dated.{Dated}
-use Rattle.dated.specs.Dated.{zeroDated, settledAt, settledIn}
-use Rattle.dated.proofs.Tables.{table-long, table-at}
-use Rattle.layout.specs.Measure.{More}
-use Rattle.layout.proofs.Laws.{Summing, summing-start, summing-more, summed-up}
+use lib.ListN.{length}
+use Rattle.dated.specs.Dated.{settledAt, settledIn}
+use Rattle.dated.proofs.Tables.{table-long}
+use Rattle.layout.proofs.Laws.{Summing, summing-start, summed-up}
 use Rattle.walk.proofs.Turns.{layout-more}
 use Rattle.records.specs.Records.{recordsIn}
 use Rattle.walk.proofs.layout_in.Statement.{statement}
