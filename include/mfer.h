@@ -1,7 +1,8 @@
 /*
  * mfer.h: reads medical waveform files (MFER) and writes them in canonical form.
  *
- * The library, libmfer.a, is for x86-64. Link it with nothing but the C library:
+ * The header is C99 and C++11. The library, libmfer.a, is for x86-64. Link it with nothing but the C
+ * library:
  *
  *     cc -I include viewer.c target/staticlib/libmfer.a
  *
@@ -13,8 +14,8 @@
  *
  * ANSWERS AND REFUSALS
  *
- * Every function returns 0 where it has an answer, else the number of a refusal (MFER_..., below).
- * Every output is set in every case:
+ * Every function returns 0 where it has an answer, else the number of a refusal (MFER_..., below);
+ * mfer_words says a refusal in words. Every output is set in every case:
  *
  *   - with an answer: as each function says; `*place` is 0 but in mfer_sample;
  *   - at a refusal: `*place` is the refusal's place, every other output is 0, and a buffer keeps
@@ -53,6 +54,9 @@
  * buffer afterwards are what its contract in crates/mfer/src/lib.rt defines. docs/SPECIFICATION.md
  * lists the definitions, docs/TRUST.md says what that rests on.
  *
+ * This and all above is about the functions of the library. mfer_words and mfer_kind_name are none of
+ * them: they stand in this header, and are only tested.
+ *
  * EXAMPLE
  *
  * Prints the first channel of the first frame:
@@ -72,15 +76,14 @@
  *             if (refusal == MFER_NO_SAMPLE)
  *                 return 0;
  *             if (refusal != MFER_OK) {
- *                 fprintf(stderr, "refused %" PRIu32 " at %" PRIu64 "\n", refusal, place);
+ *                 fprintf(stderr, "refused %" PRIu32 " at %" PRIu64 ": %s\n", refusal, place,
+ *                         mfer_words(refusal));
  *                 return 1;
  *             }
  *             if (kind == MFER_WHOLE)
  *                 printf("%" PRId64 "\n", whole);
- *             else if (kind == MFER_NULL)
- *                 printf("null\n");
  *             else
- *                 printf("bits %" PRIX64 "\n", bits);
+ *                 printf("%s %" PRIX64 "\n", mfer_kind_name(kind), bits);
  *             number++;
  *         }
  *     }
@@ -103,37 +106,55 @@
 extern "C" {
 #endif
 
+/* The version of the header and of the library that goes with it. */
+#define MFER_VERSION_MAJOR 0
+#define MFER_VERSION_MINOR 1
+#define MFER_VERSION_PATCH 0
+#define MFER_VERSION "0.1.0"
+
 /*
- * Refusals, in the words of document 01, whose table of attributes has the lengths and values of
- * each tag. Where several apply to a file, 15 comes first; then the first refused item in file order
- * decides, and within an item the order 1, 5, channel number (4 or 3 as met), 2, 3, 9, 8, 6, 7; at
- * a waveform 11, 12, 13, 14.
+ * Refusals: MFER_REFUSALS(X) is X(constant, number, words) for each. The words are those of document
+ * 01, whose table of attributes has the lengths and values of each tag. Where several apply to a
+ * file, 15 comes first; then the first refused item in file order decides, and within an item the
+ * order 1, 5, channel number (4 or 3 as met), 2, 3, 9, 8, 6, 7; at a waveform 11, 12, 13, 14.
  */
-#define MFER_OK 0u              /* no refusal */
-#define MFER_CONTEXT_TAG 1u     /* context tag other than 3Fh */
-#define MFER_LENGTH_OCTET 2u    /* length octet 85h to FFh, or 80h not on 3Fh */
-#define MFER_PAST_END 3u        /* channel number, length or value runs past the file or definite
-                                   group around it */
-#define MFER_LONG_CHANNEL 4u    /* fourth channel octet has its top bit set */
-#define MFER_BARRED_TAG 5u      /* tag 01, 05, 06, 07, 0E, 1E or 3F inside a group */
-#define MFER_UNFIT_LENGTH 6u    /* length of a tag in the table of attributes that isn't among
-                                   those given there */
-#define MFER_UNFIT_VALUE 7u     /* value not in the table of attributes */
-#define MFER_CHANNEL_NUMBER 8u  /* channel number not below the channel count */
-#define MFER_COMPRESSED 9u      /* 0Eh of length above 0 (compressed data) */
-#define MFER_UNENDED_GROUP 10u  /* open group: file ends between two of its items */
-#define MFER_MANY_FRAMES 11u    /* a frame after 4,096 frames */
-#define MFER_SAMPLE_WIDTH 12u   /* a channel below the count whose defined offset or null hasn't
-                                   its sample width */
-#define MFER_START_RANGE 13u    /* start pointer outside signed 32 bits */
-#define MFER_SHORT_WAVEFORM 14u /* waveform shorter than sequences times G (the octets of a
-                                   sequence) */
-#define MFER_LONG_FILE 15u      /* file above 2,147,483,647 octets */
-#define MFER_NO_FRAME 20u       /* no such frame */
-#define MFER_NO_CHANNEL 21u     /* no such channel */
-#define MFER_NO_SAMPLE 22u      /* no such sample */
-#define MFER_NO_ROOM 23u        /* canonical file longer than the output buffer or than 15's
-                                   limit (2,147,483,647 octets) */
+#define MFER_REFUSALS(X) \
+    X(MFER_CONTEXT_TAG, 1, "context tag other than 3Fh") \
+    X(MFER_LENGTH_OCTET, 2, "length octet 85h to FFh, or 80h not on 3Fh") \
+    X(MFER_PAST_END, 3, "channel number, length or value runs past the file or definite group around it") \
+    X(MFER_LONG_CHANNEL, 4, "fourth channel octet has its top bit set") \
+    X(MFER_BARRED_TAG, 5, "tag 01, 05, 06, 07, 0E, 1E or 3F inside a group") \
+    X(MFER_UNFIT_LENGTH, 6, "length of a tag in the table of attributes that isn't among those given there") \
+    X(MFER_UNFIT_VALUE, 7, "value not in the table of attributes") \
+    X(MFER_CHANNEL_NUMBER, 8, "channel number not below the channel count") \
+    X(MFER_COMPRESSED, 9, "0Eh of length above 0 (compressed data)") \
+    X(MFER_UNENDED_GROUP, 10, "open group: file ends between two of its items") \
+    X(MFER_MANY_FRAMES, 11, "a frame after 4,096 frames") \
+    X(MFER_SAMPLE_WIDTH, 12, "a channel below the count whose defined offset or null hasn't its sample width") \
+    X(MFER_START_RANGE, 13, "start pointer outside signed 32 bits") \
+    X(MFER_SHORT_WAVEFORM, 14, "waveform shorter than sequences times G (the octets of a sequence)") \
+    X(MFER_LONG_FILE, 15, "file above 2,147,483,647 octets") \
+    X(MFER_NO_FRAME, 20, "no such frame") \
+    X(MFER_NO_CHANNEL, 21, "no such channel") \
+    X(MFER_NO_SAMPLE, 22, "no such sample") \
+    X(MFER_NO_ROOM, 23, "canonical file longer than the output buffer or than 15's limit (2,147,483,647 octets)") \
+    /* end */
+
+/* What is made of an entry of MFER_REFUSALS or MFER_KINDS: its constant, and the case of its number. */
+#define MFER_CONSTANT(name, number, words) name = number,
+#define MFER_CASE(name, number, words) case name: return words;
+
+enum { MFER_OK = 0, MFER_REFUSALS(MFER_CONSTANT) };
+
+/* The words for a number that a function returned. They are a constant string, for any number. */
+static inline const char *mfer_words(uint32_t refusal)
+{
+    switch (refusal) {
+    case MFER_OK: return "no refusal";
+    MFER_REFUSALS(MFER_CASE)
+    default: return "unknown refusal";
+    }
+}
 
 /* Limits. */
 #define MFER_MAX_OCTETS 2147483647u    /* octets of a file */
@@ -191,19 +212,35 @@ uint32_t mfer_check(const uint8_t *file, size_t file_len, uint64_t *frames, uint
 uint32_t mfer_attributes(const uint8_t *file, size_t file_len, uint32_t frame, uint32_t channel,
                          int64_t numbers[MFER_NUMBERS], uint64_t bits[2], uint64_t *place);
 
-/* Kinds of values. */
-#define MFER_WHOLE 0u      /* whole: a number of the types 0 to 3, 5 and 6 */
-#define MFER_STATUS 1u     /* status: sixteen bits, of type 4 */
-#define MFER_SINGLE 2u     /* single: IEEE 754, 32 bits, of type 7; infinities are among them */
-#define MFER_DOUBLE 3u     /* double: IEEE 754, 64 bits, of type 8; infinities are among them */
-#define MFER_NOT_NUMBER 4u /* not-a-number: a single or double that is no number */
-#define MFER_NULL 5u       /* null: the sample's bits are the null bits, whatever its type */
+/* Kinds of values: MFER_KINDS(X) is X(constant, number, name) for each. */
+#define MFER_KINDS(X) \
+    X(MFER_WHOLE, 0, "whole")             /* a number of the types 0 to 3, 5 and 6 */ \
+    X(MFER_STATUS, 1, "status")           /* sixteen bits, of type 4 */ \
+    X(MFER_SINGLE, 2, "single")           /* IEEE 754, 32 bits, of type 7; infinities are among them */ \
+    X(MFER_DOUBLE, 3, "double")           /* IEEE 754, 64 bits, of type 8; infinities are among them */ \
+    X(MFER_NOT_NUMBER, 4, "not-a-number") /* a single or double that is no number */ \
+    X(MFER_NULL, 5, "null")               /* the sample's bits are the null bits, whatever its type */ \
+    /* end */
+
+enum { MFER_KINDS(MFER_CONSTANT) };
+
+/* The name of a kind. It is a constant string, for any number. */
+static inline const char *mfer_kind_name(uint32_t kind)
+{
+    switch (kind) {
+    MFER_KINDS(MFER_CASE)
+    default: return "unknown kind";
+    }
+}
+
+#undef MFER_CONSTANT
+#undef MFER_CASE
 
 /*
  * The place and value of a sample. Values are raw: neither offset nor resolution is applied.
  *
  * *place   the sample's place (at a refusal, the refusal's)
- * *kind    MFER_WHOLE to MFER_NULL
+ * *kind    one of the kinds above
  * *whole   the number, where *kind is MFER_WHOLE; else 0
  * *bits    the sample's bits, highest octet first: those of a file with the octets 01 02 are 0102
  *          in big-endian order and 0201 in little-endian order; zeros are above them

@@ -294,6 +294,46 @@ static void canonical(void)
     expect_canonical_refusal(P6, sizeof P6, 100, MFER_CHANNEL_NUMBER, 3);
 }
 
+static int same(const char *a, const char *b)
+{
+    return strcmp(a, b) == 0;
+}
+
+/* Each number of the header's table has the words there; any other is unknown. */
+static void words_of_refusals(void)
+{
+#define EXPECTED(constant, number, words) expected[number] = words;
+    const char *expected[1000];
+    uint32_t i;
+    for (i = 0; i < SIZE(expected); i++)
+        expected[i] = "unknown refusal";
+    expected[MFER_OK] = "no refusal";
+    MFER_REFUSALS(EXPECTED)
+    for (i = 0; i < SIZE(expected); i++)
+        EXPECT(same(mfer_words(i), expected[i]));
+    EXPECT(same(mfer_words(UINT32_MAX), "unknown refusal"));
+    EXPECT(same(mfer_words(8), "channel number not below the channel count"));
+    EXPECT(same(mfer_words(MFER_NO_FRAME), "no such frame"));
+#undef EXPECTED
+}
+
+static void names_of_kinds(void)
+{
+    static const char *const names[] = {"whole", "status", "single", "double", "not-a-number", "null"};
+    uint32_t i;
+    for (i = 0; i < 1000; i++)
+        EXPECT(same(mfer_kind_name(i), i < SIZE(names) ? names[i] : "unknown kind"));
+    EXPECT(same(mfer_kind_name(UINT32_MAX), "unknown kind"));
+    EXPECT(same(mfer_kind_name(MFER_NULL), "null"));
+}
+
+static void version(void)
+{
+    char parts[40];
+    snprintf(parts, sizeof parts, "%d.%d.%d", MFER_VERSION_MAJOR, MFER_VERSION_MINOR, MFER_VERSION_PATCH);
+    EXPECT(same(MFER_VERSION, parts));
+}
+
 static void run(const char *name, void (*test)(void))
 {
     ok = 1;
@@ -320,6 +360,9 @@ int main(int argc, char **argv)
     run("one_sample", one_sample);
     run("samples_in_bulk", samples_in_bulk);
     run("canonical", canonical);
+    run("words_of_refusals", words_of_refusals);
+    run("names_of_kinds", names_of_kinds);
+    run("version", version);
     printf("%d passed, %d failed\n", passed, failed);
     return failed != 0;
 }

@@ -32,7 +32,7 @@ if compile cxx "$cxx" -std=c++11 -x c++ tests/interface.c; then
     add last_line "$work/cxx"
 fi
 
-# The examples in the header's first comment, on document 01's P2: the first is a function, the second the body of one.
+# The examples in the header's first comment, on document 01's P2 and P6: the first is a function, the second the body of one.
 comment() {
     sed -n "$1" include/mfer.h | sed 's/^ \* \{0,5\}//'
 }
@@ -53,15 +53,18 @@ BETWEEN
 }
 int main(void)
 {
-    static const uint8_t file[] = {0x01, 0x01, 0x01, 0x04, 0x01, 0x02, 0x05, 0x01, 0x02, 0x3F, 0x01, 0x03,
-                                   0x04, 0x01, 0x01, 0x1E, 0x06, 0x01, 0x00, 0x02, 0x00, 0xFF, 0xFF};
-    print_bulk(file, sizeof file);
-    return print_first(file, sizeof file);
+    static const uint8_t p2[] = {0x01, 0x01, 0x01, 0x04, 0x01, 0x02, 0x05, 0x01, 0x02, 0x3F, 0x01, 0x03,
+                                 0x04, 0x01, 0x01, 0x1E, 0x06, 0x01, 0x00, 0x02, 0x00, 0xFF, 0xFF};
+    static const uint8_t p6[] = {0x05, 0x01, 0x02, 0x3F, 0x02, 0x00};
+    print_bulk(p2, sizeof p2);
+    return print_first(p2, sizeof p2) != 0 || print_first(p6, sizeof p6) != 1;
 }
 MAIN
 } > "$work/example.c"
 if compile example "$cc" -std=c99 "$work/example.c"; then
-    [ "$("$work/example")" = "$(printf 'bits 1\nbits 2\n1\n2')" ]
+    says=$("$work/example" 2>"$work/refusal") &&
+        [ "$says" = "$(printf 'bits 1\nbits 2\n1\n2')" ] &&
+        [ "$(cat "$work/refusal")" = 'refused 8 at 3: channel number not below the channel count' ]
     count "the header's examples" $?
 fi
 

@@ -22,14 +22,14 @@ use Rattle.layout.specs.Frame.{widthIn, blockOctets, sequenceOctets, channelIn,
 use Rattle.laid.specs.Laid.{sampleBits}
 use Rattle.laid.proofs.Places.{row-fits, below-fits, offset-inside}
 use Rattle.pass.specs.declared.View.{View}
-use Rattle.pass.specs.Verdict.{verdict}
+use Rattle.verdict.specs.Verdict.{verdict}
 use Rattle.pass.specs.Scan.{viewOf}
 use Rattle.reader.specs.declared.Placed.{Placed}
 use Rattle.reader.specs.Answer.{placedSays, placeSeen, placedOf}
 use Rattle.reader.proofs.Answers.{Located, PlacedAt, countSeen, frameIn, settings-seen, count-seen, place-is, bits-seen}
 use Rattle.reader.proofs.Answers as answers
 use Rattle.reader.proofs.Order.{sample-found, sample-refused}
-use Rattle.pass.proofs.Every.{every-at}
+use Rattle.verdict.proofs.Every.{every-at}
 use Rattle.reader.proofs.Good.{GoodSettings, accepted-good}
 use Rattle.reader.proofs.Ordered.{accepted-lies, accepted-small}
 use Rattle.settings.specs.Settings.{zeroSettings}

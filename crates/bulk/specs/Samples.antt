@@ -5,7 +5,7 @@ use lib.ListN.{length}
 use Rattle.heads.specs.Answer.{Answer, answered, refusedBy, mapAnswer}
 use Rattle.layout.specs.Frame.{samplesOf}
 use Rattle.laid.specs.Laid.{sampleBits}
-use Rattle.pass.specs.Verdict.{verdict}
+use Rattle.verdict.specs.Verdict.{verdict}
 use Rattle.reader.specs.Answer.{askedSample}
 use Rattle.bulk.specs.declared.Read.{Read}
 use Rattle.bulk.specs.declared.Read.the-variants.{Samples}

@@ -22,11 +22,11 @@ use Rattle.settings.specs.declared.Settings.{Settings}
 use Rattle.settings.specs.Settings.{zeroSettings}
 use Rattle.layout.specs.Frame.{offsetBits, Frame, widthIn, channelIn, samplesOf, widthAgrees, channelAgrees, offsetOf, reported}
 use Rattle.laid.specs.Laid.{sampleBits}
-use Rattle.pass.specs.Verdict.{accepted, verdict}
-use Rattle.pass.proofs.Every.{Every}
+use Rattle.verdict.specs.Verdict.{accepted, verdict}
+use Rattle.verdict.proofs.Every.{Every}
 use Rattle.reader.proofs.Ordered.{Lies, every-lies}
 use Rattle.reader.proofs.Good.{GoodSettings, GoodFrame, number-first, agree-every, every-good}
-use Rattle.pass.proofs.Bounds.{both-split}
+use Rattle.verdict.proofs.Bounds.{both-split}
 use Rattle.canonical.specs.Recording.{tabulate, recordedFrame, recording}
 use Rattle.canonical.proofs.Good.{GoodReported, AllReported, GoodRecorded, AllRecorded}
 

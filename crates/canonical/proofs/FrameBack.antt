@@ -28,7 +28,7 @@ use Rattle.framing.specs.declared.Framed.the-variants.{Taken}
 use Rattle.standing.specs.Standing.{octetsLimit, framesLimit, withContinued}
 use Rattle.effects.specs.Effects.{rootEffect}
 use Rattle.framing.specs.Framing.{channelsOf, pointerAfter, framedAs}
-use Rattle.pass.specs.Verdict.{State, state, goes, frameChannels, withFrame, carried}
+use Rattle.verdict.specs.Verdict.{State, state, goes, frameChannels, withFrame, carried}
 use Rattle.framing.proofs.Framings.{pointer-small, framed-taken}
 use Rattle.groups.proofs.Sizes.{length-item}
 use Rattle.canonical.specs.Recording.{Recorded}

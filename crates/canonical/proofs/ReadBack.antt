@@ -16,7 +16,7 @@ use Rattle.settings.specs.Settings.{defaultTable}
 use Rattle.definitions.specs.Define.{tagged}
 use Rattle.layout.specs.Frame.{Frame}
 use Rattle.standing.specs.Standing.{octetsLimit, framesLimit}
-use Rattle.pass.specs.Verdict.{State, state, firstState, Verdict, accepted, carried, verdict}
+use Rattle.verdict.specs.Verdict.{State, state, firstState, Verdict, accepted, carried, verdict}
 use Rattle.stores.specs.Length.{shortest}
 use Rattle.canonical.specs.Recording.{Recorded, recording}
 use Rattle.groups.specs.Item.{itemOctets}

@@ -52,18 +52,19 @@ use Rattle.standing.specs.Standing.{octetsLimit, framesLimit, firstStanding}
 use Rattle.effects.specs.Effects.{effectOf, valueAt}
 use Rattle.framing.specs.Framing.{channelsOf}
 use Rattle.framing.specs.AnyNumbers.{framedBy}
-use Rattle.pass.specs.Verdict.{State, state, goes, refuses, frameAt, withFrame, carried, placeAt, Verdict, accepted, refused, interpret, verdict}
+use Rattle.verdict.specs.Verdict.{State, state, goes, refuses, frameAt, withFrame, carried, placeAt, Verdict, accepted, refused, interpret, verdict}
 use Rattle.pass.specs.Scan.{zeroFrame, sizeOf, sizes, scannedIn, scanOf}
 use Rattle.pass.specs.declared.Asked.{Asked}
-use Rattle.pass.specs.declared.Checked.{Checked}
+use Rattle.verdict.specs.declared.Checked.{Checked}
 use Rattle.pass.specs.declared.Scan.{Scan}
-use Rattle.pass.specs.Reached.{Reached, begin, behind}
-use Rattle.pass.proofs.Keeps.{Keeps, frames-kept, interpret-refuses, interpret-finished, interpret-fault, reached-verdict}
-use Rattle.pass.proofs.Steps.{meaning-steps, step-grown}
-use Rattle.pass.proofs.Bounds.{reached-bounded}
+use Rattle.verdict.specs.Reached.{Reached, begin, behind}
+use Rattle.verdict.proofs.Keeps.{Keeps, frames-kept, interpret-refuses, interpret-finished, interpret-fault, reached-verdict}
+use Rattle.verdict.proofs.Steps.{meaning-steps, step-grown}
+use Rattle.verdict.proofs.Bounds.{reached-bounded}
 use Rattle.framing.proofs.Framings.{pointer-small}
 use Rattle.settings.proofs.Shown.{shown, shown-none}
-use Rattle.pass.proofs.Scans.{frame-carried, taken-few, taken-root, shownBy, Records, Filling, frame-shown}
+use Rattle.verdict.proofs.Frames.{frame-carried, taken-few, taken-root}
+use Rattle.canonical.proofs.Filled.{shownBy, Records, Filling, frame-shown}
 use Rattle.reader.proofs.Ordered.{Lies, accepted-lies, accepted-small}
 use Rattle.groups.specs.Item.{itemOctets}
 use Rattle.groups.specs.Head.{headItems}

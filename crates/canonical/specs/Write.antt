@@ -12,7 +12,7 @@ use Rattle.heads.specs.Answer.{Answer, answered, refusedAs, refusedBy, mapAnswe
 use Rattle.layout.specs.Frame.{Frame}
 use Rattle.standing.specs.Standing.{octetsLimit}
 use Rattle.pass.specs.Scan.{sizes}
-use Rattle.pass.specs.Verdict.{Verdict, accepted, refused, verdict}
+use Rattle.verdict.specs.Verdict.{Verdict, accepted, refused, verdict}
 use Rattle.canonical.specs.declared.Written.{Written}
 use Rattle.canonical.specs.Recording.{Recorded, recording}
 use Rattle.canonical.specs.Canonical.{canonical}

@@ -17,9 +17,9 @@ use heads::Refusal;
 use items::Cursor;
 use items::Next;
 use pass::Asked;
-use pass::Checked;
 use settings::Settings;
 use standing::Standing;
+use verdict::Checked;
 
 // The canonical file's length, or a refusal.
 pub enum Written {

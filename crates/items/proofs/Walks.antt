@@ -6,6 +6,7 @@
 --     next-refused            a fault of form has one of the numbers up to 10
 --     walk-turns              more turns than there are octets change nothing
 --     items-found, items-end, items-refused    the items from a cursor on, by what stands there
+--     found-as                an item found, however the cursor behind it is kept
 -- Assumes nothing.
 use Prim.Native.Nat.{ℕ, zero, suc, _+_, _-_, _≤_, _<_}
 use mathlib.Core.Path.{_≡_, refl, sym, _∙_, ap, subst}
@@ -154,3 +155,7 @@ module _ (s : List ℕ) (c : Cursor) where
   pub items-refused : (r : Refusal) → nextOf s c ≡ Next.Refused r → itemsFrom s c ≡ fault r
   unfolding itemsFrom walk follow
   items-refused r e = ap (follow (walk (length s - c .at) s)) e
+
+-- An item is found with the cursor behind it, however that is kept.
+pub found-as : {n : Next} {i : Item} {d d' : Cursor} → n ≡ Found i d → d' ≡ d → n ≡ Found i d'
+found-as {i = i} e f = e ∙ ap (Found i) (sym f)

@@ -4,7 +4,7 @@
 --     passed-more    one channel further
 --     passed-all     after the last one
 --     Summing        the same over the first records of a table
---     summing-none, summing-more, summed-up    before the first one, one further, after the last one
+--     summing-start, summing-none, summing-more, summed-up    before the first one, one further, after the last one
 --     take-few       no more records are taken than there are
 --     null-le, channel-few, groups-few    a null, a channel number and groups take few octets
 --     sequences-item-few, head-few, frame-few    and so do 06, a frame's head, and a frame
@@ -147,9 +147,12 @@ pub record Summing (channel : ℕ) (table : List Settings) (n i : ℕ) (l : Layo
   pub long : length (take n table) ≡ n
   pub passed : Passed channel (take n table) i l
 
+pub summing-start : {table : List Settings} (channel : ℕ) {n : ℕ} {l : Layout} → n ≤ length table → n ≤ channelLimit → l ≡ noLayout → Summing channel table n 0 l
+summing-start {table = table} channel {n = n} k h e =
+    record { few = h; long = length-take-le n table k; passed = rw e (passed-none channel (take n table)) }
+
 pub summing-none : {table : List Settings} (channel : ℕ) {n : ℕ} {l : Layout} → length table ≡ channelLimit → n ≤ channelLimit → l ≡ noLayout → Summing channel table n 0 l
-summing-none {table = table} channel {n = n} k h e =
-    record { few = h; long = length-take-le n table (omega arith); passed = rw e (passed-none channel (take n table)) }
+summing-none channel k h e = summing-start channel (omega (arith, k, h)) h e
 
 module _ {channel : ℕ} {table : List Settings} {n i : ℕ} {l : Layout} (p : Summing channel table n i l) where
   pub summing-more : (m : Layout) → i < n → More i channel (getD table i zeroSettings) l m → Summing channel table n (i + 1) m

@@ -5,9 +5,9 @@
 // Read first: specs/Line.antt.
 
 ghost use Rattle.stores.specs.Storing.{Putting};
-ghost use Rattle.pass.specs.Verdict.{checkedSays};
+ghost use Rattle.verdict.specs.Verdict.{checkedSays};
 ghost use Rattle.line.specs.Line.{decimalOf, Lined};
-use pass::Checked;
+use verdict::Checked;
 
 // The octets of a buffer that holds any line.
 pub const BUFFER: usize = 64;

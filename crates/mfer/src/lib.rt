@@ -6,18 +6,18 @@
 ghost use mathlib.Core.Path.{_≡_};
 ghost use Rattle.values.specs.Sample.{valueSays};
 ghost use Rattle.heads.specs.Answer.{leftBy};
-ghost use Rattle.pass.specs.Verdict.{checkOf};
+ghost use Rattle.verdict.specs.Verdict.{checkOf};
 ghost use Rattle.reader.specs.Answer.{attributesOf, sampleOf};
 ghost use Rattle.bulk.specs.Samples.{readOf, countRead};
 ghost use Rattle.mfer.specs.Answers.{outputs, countOut, CanonicalOut, numbersOf, bitPairOf, attributesValues, attributesOut, sampleValues, sampleOut};
 ghost use lib.ListN.{length};
 use bulk::Read;
 use canonical::Written;
-use pass::Checked;
 use reader::Attributes;
 use reader::Described;
 use reader::Sampled;
 use values::Value;
+use verdict::Checked;
 
 // Checks a file: how many frames it has.
 #[no_mangle]

@@ -1,9 +1,5 @@
-pub mod Keeps
-pub mod Steps
-pub mod Every
-pub mod Tables
-pub mod Bounds
 pub mod Scans
 pub mod Turns
 pub mod Stretches
-pub mod Ahead
+pub mod Bare
+pub mod Records

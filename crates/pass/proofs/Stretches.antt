@@ -42,10 +42,10 @@ use Rattle.effects.specs.Effects.{valueAt, allEffect, oneEffect, rootEffect, pl
 use Rattle.stretch.specs.declared.Stretch.{Stretch}
 use Rattle.stretch.specs.Stretch.{Step, leaves, ends, steppedOver, stepOf, stretch, onward, runFrom, runOf, stretchOf}
 use Rattle.stretch.proofs.Leads.{InStretch, itemIn, step-led, next-short, value-ahead, extent-later}
-use Rattle.pass.specs.Verdict.{State, state, goes, oneChanged, carried}
-use Rattle.pass.specs.Reached.{Reached, behind}
+use Rattle.verdict.specs.Verdict.{State, state, goes, oneChanged, carried}
+use Rattle.verdict.specs.Reached.{Reached, behind}
 use Rattle.pass.specs.Passing.{openedBy, beginsAt}
-use Rattle.pass.proofs.Keeps.{meaning}
+use Rattle.verdict.proofs.Keeps.{meaning}
 
 module _ (s : List ℕ) (w : Within) (little : Bool) (base : Settings) (X : Settings → State)
     (defines : (held : Settings) (at tag n : ℕ) (a : Attribute) (c : Change) → tagged tag ≡ Tagged.Defines a → defined a little base (valueAt s (at + 2) n) ≡ Defined.Changed c → meaning s (X held) (itemIn w at tag n) ≡ goes (X (applied c held)))

@@ -1,4 +1,2 @@
-pub mod Verdict
 pub mod Scan
-pub mod Reached
 pub mod Passing

@@ -21,12 +21,12 @@ use Rattle.stretch.specs.Stretch.{steppedOver}
 use Rattle.pass.specs.declared.Asked.{Asked}
 use Rattle.pass.specs.declared.View.{View}
 use Rattle.pass.specs.declared.Found.{Found}
-use Rattle.pass.specs.declared.Checked.{Checked}
+use Rattle.verdict.specs.declared.Checked.{Checked}
 use Rattle.pass.specs.declared.Scan.{Scan}
 use Rattle.pass.specs.declared.Met.{Met}
-use Rattle.pass.specs.Verdict.{state}
+use Rattle.verdict.specs.Verdict.{state}
 use Rattle.pass.specs.Scan.{foundIn, sizes}
-use Rattle.pass.specs.Reached.{Reached}
+use Rattle.verdict.specs.Reached.{Reached}
 
 -- What is known where a pass stands before the item at a cursor: the items before it lead there, with the frames met.
 pub record Scanning (s : List ℕ) (q : Asked) (table : List Settings) (c : Cursor) (st : Standing) (m : Met) : Type 0 where

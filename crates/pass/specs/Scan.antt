@@ -15,9 +15,9 @@ use Rattle.pass.specs.declared.Asked.{Asked}
 use Rattle.pass.specs.declared.View.{View}
 use Rattle.pass.specs.declared.Found.{Found}
 use Rattle.pass.specs.declared.Found.the-variants.{Nothing}
-use Rattle.pass.specs.declared.Checked.{Checked}
+use Rattle.verdict.specs.declared.Checked.{Checked}
 use Rattle.pass.specs.declared.Scan.{Scan}
-use Rattle.pass.specs.Verdict.{Verdict, accepted, refused, verdict}
+use Rattle.verdict.specs.Verdict.{Verdict, accepted, refused, verdict}
 
 -- What is read past the last frame; no answer depends on it.
 abbrev pub zeroFrame : Frame

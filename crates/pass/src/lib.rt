@@ -2,9 +2,9 @@
 //
 // Promises, for any octets at all: `scan_file` walks the file once and answers the number of frames or the refusal of document 01 with its
 // number and place, what it kept of the frame and channel that are asked for, and how many octets the canonical file's frames take.
-// Up to the first definition in a group it needs no channel records (`scan_root`), from there on it keeps them (`scan_channels`). Both take
+// Up to the first definition in a group it needs no channel records (`scan_root`), from there on it keeps them as they stood at a time (`scan_channels`). Both take
 // definitions in stretches where they can, and every other item by what crate effects says of it.
-// Read first: specs/Verdict.antt (the file), specs/Scan.antt (what a pass answers), then specs/Passing.antt (what it knows on its way).
+// Read first: crate verdict (the file), specs/Scan.antt (what a pass answers), then specs/Passing.antt (what it knows on its way).
 ghost use mathlib.Core.Path.{_≡_};
 ghost use Prim.Native.Nat.{_+_, _*_, _-_, _^_, _≤_, _<_, min};
 ghost use Rattle.octets.specs.Pick.{pick};
@@ -16,9 +16,11 @@ ghost use Rattle.layout.specs.Size.{frameSize};
 ghost use Rattle.layout.specs.Measure.{layoutOf};
 ghost use Rattle.standing.specs.Standing.{octetsLimit};
 ghost use Rattle.framing.specs.Framing.{channelsOf};
-ghost use Rattle.pass.specs.Verdict.{placeAt};
+ghost use Rattle.verdict.specs.Verdict.{placeAt};
 ghost use Rattle.pass.specs.Scan.{refusedScan, scanOf};
 ghost use Rattle.pass.specs.Passing.{Scanning, Room, openedBy, beginsAt, noneMet, metScan, metWith, viewMet};
+use dated::Dated;
+use dated::Dates;
 use effects::Effect;
 use framing::Framed;
 use heads::Refusal;
@@ -30,12 +32,7 @@ use layout::Layout;
 use settings::Settings;
 use standing::Standing;
 use stretch::Stretch;
-
-// The answer of the check: the number of frames, or the refusal.
-pub enum Checked {
-    Frames(u32),
-    Refused(Refusal),
-}
+use verdict::Checked;
 
 // The frame and the channel that a question names.
 pub struct Asked {
@@ -79,36 +76,13 @@ fn refused_scan(x: Refusal) -> Scan
     }
 }
 
-// The place of an item's tag.
-fn place_of(item: Item) -> usize
-    ensures { λ r. ⌜ r ≡ placeAt item ⌝ }
-{
-    match item {
-        Item::Plain {
-            place,
-            tag: _,
-            start: _,
-            len: _,
-        } => place,
-        Item::Group { place, channel: _ } => place,
-        Item::Member {
-            place,
-            channel: _,
-            tag: _,
-            start: _,
-            len: _,
-        } => place,
-        Item::Mark { place } => place,
-    }
-}
-
 // A refused item decides at its place.
 fn refused_item(number: u8, item: Item) -> Scan
     ensures { λ r. ⌜ r ≡ refusedScan (refusal number (placeAt item)) ⌝ }
 {
     refused_scan(Refusal {
         number,
-        place: place_of(item),
+        place: verdict::place_of(item),
     })
 }
 
@@ -294,9 +268,8 @@ fn scan_channels(s: &[u8], asked: Asked, from: Cursor, standing: Standing, befor
     requires { ⌜ Scanning (now s) asked (replicate channelLimit (standing .root)) from standing before ⌝ }
     ensures { λ r. ⌜ r ≡ scanOf asked (now (s .entry)) ⌝ }
 {
-    let mut table = Settings::table();
-    // The first `own` records are kept up; every other channel holds the root settings.
-    let mut own = 0usize;
+    let mut table = Dated::table();
+    let mut dates = Dates::first();
     let mut c = from;
     let mut st = standing;
     let mut met = before;
@@ -314,46 +287,36 @@ fn scan_channels(s: &[u8], asked: Asked, from: Cursor, standing: Standing, befor
                 // The definitions at the front of a group are taken as a stretch.
                 let k = opened(item, st.counted);
                 if k < Settings::CHANNELS {
-                    while own <= k {
-                        table[own] = root;
-                        own += 1;
-                    }
-                    let ahead = stretch::along(s, c, st.little, root, table[k]);
+                    let stood = dated::settle(root, dates, table[k]);
+                    let ahead = stretch::along(s, c, st.little, root, stood);
                     let settled = ahead.settings;
-                    table[k] = settled;
+                    table[k] = dates.note(settled);
                     c = moved(c, ahead.at);
                     continue;
                 }
                 let effect = effects::item_effect(s, st, item);
-                let n = effects::reach(effect, st.counted);
-                while own < n {
-                    table[own] = root;
-                    own += 1;
-                }
                 match effect {
                     Effect::Count(_) => {
-                        own = 0;
+                        dates = dates.cleared();
                         st = effects::standing_after(st, effect);
                     }
                     Effect::All(change) => {
-                        let mut i = 0usize;
-                        while i < own {
-                            table[i] = settings::apply(table[i], change);
-                            i += 1;
-                        }
+                        dates = dates.defined(change);
                         st = effects::standing_after(st, effect);
                     }
                     Effect::One(channel, change) => {
                         let k = channel as usize;
                         if k < Settings::CHANNELS {
-                            table[k] = settings::apply(table[k], change);
+                            let stood = dated::settle(root, dates, table[k]);
+                            table[k] = dates.note(settings::apply(stood, change));
                         }
                     }
                     Effect::Frame { start, len } => {
+                        let n = framing::channels_of(st.counted) as usize;
                         let mut l = Layout::none();
                         let mut i = 0usize;
                         while i < n {
-                            l = l.more(i, asked.channel, table[i]);
+                            l = l.more(i, asked.channel, dated::settle(root, dates, table[i]));
                             i += 1;
                         }
                         match framing::frame_of(met.frames, st, l.agree, l.octets, len) {
@@ -362,7 +325,8 @@ fn scan_channels(s: &[u8], asked: Asked, from: Cursor, standing: Standing, befor
                             }
                             Framed::Taken(sequences, after) => {
                                 let k = index(asked.channel);
-                                met = met.with_frame(asked, st, sequences, start, l, table[k]);
+                                let seen = dated::settle(root, dates, table[k]);
+                                met = met.with_frame(asked, st, sequences, start, l, seen);
                                 st = after;
                             }
                         }

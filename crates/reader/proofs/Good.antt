@@ -32,13 +32,13 @@ use Rattle.standing.specs.declared.Standing.{Standing}
 use Rattle.effects.specs.Effects.{valueAt}
 use Rattle.standing.specs.Standing.{octetsLimit}
 use Rattle.framing.specs.Framing.{channelsOf}
-use Rattle.pass.specs.Verdict.{State, firstState, frameChannels, frameAt, accepted, verdict}
+use Rattle.verdict.specs.Verdict.{State, firstState, frameChannels, frameAt, accepted, verdict}
 use Rattle.pass.specs.Scan.{zeroFrame}
-use Rattle.pass.proofs.Keeps.{Keeps, accepted-by, accepted-kept}
-use Rattle.pass.proofs.Steps.{Waveform, waveform-short, TakenBy, ItemStep, passes, stands, resets, changes, sets, frames, meaning-steps}
-use Rattle.pass.proofs.Every.{Every, every-at, every-snoc, every-take, every-imp}
-use Rattle.pass.proofs.Tables.{EachAttribute, Table, table-step, table-first}
-use Rattle.pass.proofs.Bounds.{both-split, Bounded, bounded-first, bounded-step, octets-some}
+use Rattle.verdict.proofs.Keeps.{Keeps, accepted-by, accepted-kept}
+use Rattle.verdict.proofs.Steps.{Waveform, waveform-short, TakenBy, ItemStep, passes, stands, resets, changes, sets, frames, meaning-steps}
+use Rattle.verdict.proofs.Every.{Every, every-at, every-snoc, every-take, every-imp}
+use Rattle.verdict.proofs.Tables.{EachAttribute, Table, table-step, table-first}
+use Rattle.verdict.proofs.Bounds.{both-split, Bounded, bounded-first, bounded-step, octets-some}
 
 -- A unit up to the last one, an exponent of one octet, and a mantissa from 1 on that fits four.
 pub record GoodScale (last : ℕ) (x : Scale) : Type 0 where

@@ -16,9 +16,9 @@ use Rattle.heads.specs.Refusals.{longFile}
 use Rattle.items.specs.Walk.{refusal, itemsOf}
 use Rattle.items.proofs.Walks.{next-refused}
 use Rattle.standing.specs.Standing.{octetsLimit}
-use Rattle.pass.specs.Verdict.{firstState, refused, interpret, verdict}
-use Rattle.pass.proofs.Keeps.{verdict-law, firstCursor, items-first}
-use Rattle.pass.proofs.Steps.{meaning-refused}
+use Rattle.verdict.specs.Verdict.{firstState, refused, interpret, verdict}
+use Rattle.verdict.proofs.Keeps.{verdict-law, firstCursor, items-first}
+use Rattle.verdict.proofs.Steps.{meaning-refused}
 
 module _ (s : List ℕ) where
   refused-below : (r : Refusal) → interpret s firstState (itemsOf s) ≡ refused r → r .number < longFile

@@ -16,7 +16,7 @@ use Rattle.heads.specs.declared.Refusal.{Refusal}
 use Rattle.heads.specs.Refusals.{noFrame, noChannel, noSample}
 use Rattle.heads.specs.Answer.{Answer, answered, refusedAs, refusedBy}
 use Rattle.layout.specs.Frame.{Frame, samplesOf}
-use Rattle.pass.specs.Verdict.{Verdict, accepted, refused}
+use Rattle.verdict.specs.Verdict.{Verdict, accepted, refused}
 use Rattle.pass.specs.Scan.{zeroFrame}
 use Rattle.reader.specs.Answer.{asked, askedSample}
 

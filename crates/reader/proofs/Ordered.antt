@@ -22,12 +22,12 @@ use Rattle.standing.specs.declared.Standing.{Standing}
 use Rattle.effects.specs.Effects.{valueAt}
 use Rattle.standing.specs.Standing.{octetsLimit, framesLimit}
 use Rattle.framing.specs.Framing.{pointerFits}
-use Rattle.pass.specs.Verdict.{State, state, firstState, frameChannels, frameAt, accepted, verdict}
+use Rattle.verdict.specs.Verdict.{State, state, firstState, frameChannels, frameAt, accepted, verdict}
 use Rattle.pass.specs.Scan.{zeroFrame}
-use Rattle.pass.proofs.Keeps.{Kept, Keeps, firstCursor, accepted-by, accepted-kept}
-use Rattle.pass.proofs.Steps.{Waveform, TakenBy, ItemStep, passes, stands, resets, changes, sets, frames, meaning-steps}
-use Rattle.pass.proofs.Every.{Every, every-at, every-snoc, every-imp}
-use Rattle.pass.proofs.Bounds.{Bounded, bounded-first, bounded-step, frame-channels}
+use Rattle.verdict.proofs.Keeps.{Kept, Keeps, firstCursor, accepted-by, accepted-kept}
+use Rattle.verdict.proofs.Steps.{Waveform, TakenBy, ItemStep, passes, stands, resets, changes, sets, frames, meaning-steps}
+use Rattle.verdict.proofs.Every.{Every, every-at, every-snoc, every-imp}
+use Rattle.verdict.proofs.Bounds.{Bounded, bounded-first, bounded-step, frame-channels}
 
 -- A frame whose waveform lies in the file and holds its sequences, with 1 to 256 channels.
 pub record Lies (s : List ℕ) (f : Frame) : Type 0 where

@@ -7,7 +7,7 @@ use heads::Refusal;
 use libc::STDERR_FILENO;
 use libc::STDIN_FILENO;
 use libc::STDOUT_FILENO;
-use pass::Checked;
+use verdict::Checked;
 
 // The octets of a file at most.
 const LIMIT: usize = 60_000;

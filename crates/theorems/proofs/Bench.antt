@@ -21,7 +21,7 @@ use Rattle.laid.specs.Laid.{block, sequence, laidFrom, laid, sampleBits}
 use Rattle.reader.specs.declared.Attributes.{Attributes}
 use Rattle.framing.specs.Framing.{channelsOf, sequencesOf, pointerFits, pointerAfter, framedAs}
 use Rattle.effects.specs.Effects.{orderEffect, countEffect, sequencesEffect, startEffect, compressedEffect, allEffect, oneEffect, rootEffect, plainEffect, memberEffect, groupEffect, effectOf}
-use Rattle.pass.specs.Verdict.{State, firstState, Outcome, goes, refuses, oneChanged, withFrame, carried, placeAt, afterItem, interpret, verdict, checkedAs, checkOf}
+use Rattle.verdict.specs.Verdict.{State, firstState, Outcome, goes, refuses, oneChanged, withFrame, carried, placeAt, afterItem, interpret, verdict, checkedAs, checkOf}
 use Rattle.reader.specs.Answer.{FoundSample, foundSample, attributesIn, attributesOf, sampleIn, sampleOf}
 use Rattle.groups.specs.Item.{itemOctets, numberItem, unsignedOf}
 use Rattle.groups.specs.Head.{sequencesItem, headItems}

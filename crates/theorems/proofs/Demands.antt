@@ -14,7 +14,7 @@ use Rattle.heads.specs.Answer.{answered, refusedAs, mapAnswer}
 use Rattle.items.specs.Walk.{refusal}
 use Rattle.layout.specs.Frame.{Frame, placeOf}
 use Rattle.standing.specs.Standing.{octetsLimit}
-use Rattle.pass.specs.Verdict.{accepted, refused, verdict, checkOf}
+use Rattle.verdict.specs.Verdict.{accepted, refused, verdict, checkOf}
 use Rattle.reader.specs.Answer.{attributesIn, attributesOf, sampleIn, sampleOf, seenOf, foundPlace, placedOf}
 use Rattle.pass.specs.Scan.{viewOf}
 use Rattle.bulk.specs.Samples.{readOf}

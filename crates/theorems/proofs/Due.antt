@@ -16,8 +16,8 @@ use Rattle.octets.specs.Pick.{pick, both}
 use Rattle.heads.specs.declared.Refusal.{Refusal}
 use Rattle.heads.specs.Refusals.{longFile}
 use Rattle.items.specs.declared.Within.{Within}
-use Rattle.pass.specs.Verdict.{State}
-use Rattle.pass.proofs.Bounds.{both-split}
+use Rattle.verdict.specs.Verdict.{State}
+use Rattle.verdict.proofs.Bounds.{both-split}
 use Rattle.theorems.specs.Attributes.{between}
 use Rattle.theorems.specs.Rows.{Row, Due, here, later, itemRows, rowsAt}
 

@@ -13,7 +13,7 @@ use native.Mathlib.Omega.{arith}
 use lib.ListN.{length}
 use Rattle.heads.specs.declared.Refusal.{Refusal}
 use Rattle.heads.specs.Answer.{Answer, answered, refusedAs, refusedBy, mapAnswer, leftBy}
-use Rattle.pass.specs.Verdict.{Verdict, refused, verdict, checkedAs, checkOf}
+use Rattle.verdict.specs.Verdict.{Verdict, refused, verdict, checkedAs, checkOf}
 use Rattle.reader.specs.Answer.{attributesOf, sampleOf, seenOf, placedOf}
 use Rattle.reader.proofs.Order.{asked-refused}
 use Rattle.canonical.specs.Write.{outputIn, writtenOf, leftOf, Wrote}

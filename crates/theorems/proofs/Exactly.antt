@@ -30,12 +30,12 @@ use Rattle.items.specs.Walk.{refusal, item, isInside, extent, ended, endsOpen, 
 use Rattle.items.proofs.Walks.{items-found, items-refused}
 use Rattle.standing.specs.Standing.{octetsLimit}
 use Rattle.effects.specs.Effects.{valueAt, effectOf}
-use Rattle.pass.specs.Verdict.{State, Outcome, goes, refuses, firstState, carried, placeAt, refused, interpret, verdict}
-use Rattle.pass.proofs.Keeps.{reached-same, meaning, firstCursor, items-first, interpret-refuses, interpret-fault, verdict-law}
-use Rattle.pass.proofs.Bounds.{both-split}
+use Rattle.verdict.specs.Verdict.{State, Outcome, goes, refuses, firstState, carried, placeAt, refused, interpret, verdict}
+use Rattle.verdict.proofs.Keeps.{reached-same, meaning, firstCursor, items-first, interpret-refuses, interpret-fault, verdict-law}
+use Rattle.verdict.proofs.Bounds.{both-split}
 use Rattle.theorems.specs.Rows.{lengthField, lengthIn, valueIn, itemRows, endRows, rowsAt}
 use Rattle.theorems.specs.Refusing.{around, ahead, DueAt, Refusing, overLimit, stops}
-use Rattle.pass.specs.Reached.{Reached, begin, behind}
+use Rattle.verdict.specs.Reached.{Reached, begin, behind}
 use Rattle.theorems.proofs.Due.{firstDue, due-exactly, otherwise, first-append, due-numbered}
 use Rattle.theorems.proofs.HeadRows.{ReadPrimitive, ReadGroup, HeadRead, headRows, head-reads}
 use Rattle.theorems.proofs.FrameRows.{stopped}

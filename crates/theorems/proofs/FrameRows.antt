@@ -16,7 +16,7 @@ use Rattle.standing.specs.Standing.{framesLimit}
 use Rattle.framing.specs.declared.Framed.{Framed}
 use Rattle.framing.specs.Framing.{pointerFits, framedAs}
 use Rattle.effects.specs.declared.Effect.{Effect}
-use Rattle.pass.specs.Verdict.{State, Outcome, goes, refuses, frameChannels, withFrame, carried}
+use Rattle.verdict.specs.Verdict.{State, Outcome, goes, refuses, frameChannels, withFrame, carried}
 use Rattle.theorems.specs.Rows.{valueIn, isShort, itemRows}
 use Rattle.theorems.proofs.Due.{firstDue}
 

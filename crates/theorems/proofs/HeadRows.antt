@@ -24,7 +24,7 @@ use Rattle.heads.specs.declared.Head.{Head}
 use Rattle.heads.specs.Refusals.{lengthOctet, pastEnd, longChannel}
 use Rattle.heads.specs.Head.{channelOf, lengthOf, unknownContext, rootOnly, primitiveHead, groupLength, groupHead, headOf}
 use Rattle.items.specs.Walk.{refusal}
-use Rattle.pass.specs.Verdict.{State}
+use Rattle.verdict.specs.Verdict.{State}
 use Rattle.theorems.specs.Rows.{Row, row, isGroup, marked, sevenFrom, numberOctets, channelNamed, lengthFirst, lengthField, lengthIn, isUnknown, isBarred, longNumber, numberPast, noLength, valuePast, itemRows}
 use Rattle.theorems.proofs.Due.{firstDue}
 

@@ -19,7 +19,7 @@ use Rattle.layout.specs.Frame.{Frame, widthIn, octetsSampled, channelIn, sample
 use Rattle.laid.specs.Laid.{Named, Covered, sampleOctets, sampleBits}
 use Rattle.laid.proofs.Places.{offset-inside, offset-apart, offset-covers}
 use Rattle.heads.specs.Answer.{answered}
-use Rattle.pass.specs.Verdict.{accepted, verdict}
+use Rattle.verdict.specs.Verdict.{accepted, verdict}
 use Rattle.reader.specs.Answer.{FoundSample, foundSample, sampleIn, sampleOf}
 use Rattle.reader.proofs.Ordered.{endOf, accepted-lies, accepted-ordered}
 use Rattle.reader.proofs.There.{offset-fits, octets-there}

@@ -23,7 +23,7 @@ use Rattle.heads.specs.Answer.{Answer, answered, refusedAs, mapAnswer}
 use Rattle.items.specs.Walk.{refusal}
 use Rattle.layout.specs.Frame.{Frame, samplesOf, placeOf}
 use Rattle.standing.specs.Standing.{octetsLimit}
-use Rattle.pass.specs.Verdict.{Verdict, accepted, refused, verdict, checkedAs, checkOf}
+use Rattle.verdict.specs.Verdict.{Verdict, accepted, refused, verdict, checkedAs, checkOf}
 use Rattle.reader.proofs.Never.{only-limit}
 use Rattle.reader.proofs.Order.{sample-both}
 use Rattle.pass.specs.Scan.{zeroFrame, viewOf}

@@ -19,7 +19,7 @@ use Rattle.heads.specs.Answer.{Answer, answered, refusedAs, mapAnswer}
 use Rattle.settings.specs.Settings.{zeroSettings}
 use Rattle.layout.specs.Frame.{Frame, samplesOf, reported}
 use Rattle.laid.specs.Laid.{sampleBits}
-use Rattle.pass.specs.Verdict.{Verdict, accepted, verdict, checkedAs, checkOf}
+use Rattle.verdict.specs.Verdict.{Verdict, accepted, verdict, checkedAs, checkOf}
 use Rattle.reader.specs.declared.Attributes.{Attributes}
 use Rattle.reader.specs.Answer.{FoundSample, asked, askedSample, attributesIn, attributesOf, sampleIn, sampleOf}
 use Rattle.reader.proofs.Ordered.{accepted-lies}

@@ -31,8 +31,8 @@ use Rattle.definitions.specs.declared.Defined.{Defined}
 use Rattle.definitions.specs.Define.{tagged, scaleLength, bitsLength, lengthFits, scaleOf, changeOf, standingIn, inRange, defined}
 use Rattle.effects.specs.declared.Effect.{Effect}
 use Rattle.effects.specs.Effects.{orderEffect, countEffect, sequencesEffect, startEffect, compressedEffect, allEffect, oneEffect, rootEffect, plainEffect, memberEffect, groupEffect}
-use Rattle.pass.specs.Verdict.{State, carried}
-use Rattle.pass.proofs.Every.{Every}
+use Rattle.verdict.specs.Verdict.{State, carried}
+use Rattle.verdict.proofs.Every.{Every}
 use Rattle.theorems.specs.Attributes.{Entry, entry, among, between, any, attributes, entryIn, entryOf}
 use Rattle.theorems.specs.Rows.{Row, isGroup, channelNamed, valueIn, uncounted, given, itemRows}
 use Rattle.theorems.proofs.Due.{firstDue}

@@ -7,7 +7,7 @@ use mathlib.Core.Path.{_≡_, sym}
 use mathlib.Core.List.{List}
 use lib.ListN.{length, take, drop}
 use Rattle.layout.specs.Frame.{Frame}
-use Rattle.pass.specs.Verdict.{accepted, verdict}
+use Rattle.verdict.specs.Verdict.{accepted, verdict}
 use Rattle.reader.proofs.Ordered.{endOf, accepted-lies, accepted-ordered}
 use Rattle.theorems.proofs.Questions.{frameNumber}
 

@@ -8,8 +8,8 @@ use Rattle.items.specs.declared.Cursor.{Cursor}
 use Rattle.items.specs.declared.Within.{Within}
 use Rattle.items.specs.Walk.{refusal, standsIn, extent}
 use Rattle.standing.specs.Standing.{octetsLimit}
-use Rattle.pass.specs.Verdict.{State}
-use Rattle.pass.specs.Reached.{Reached}
+use Rattle.verdict.specs.Verdict.{State}
+use Rattle.verdict.specs.Reached.{Reached}
 use Rattle.theorems.specs.Rows.{Due, rowsAt}
 
 -- What is around a cursor, and the octets ahead of it, up to the end of the file or of the definite group around it.

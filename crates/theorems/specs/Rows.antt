@@ -14,7 +14,7 @@ use Rattle.items.specs.Walk.{refusal, isInside}
 use Rattle.layout.specs.Frame.{sequenceOctets, allAgree}
 use Rattle.standing.specs.Standing.{framesLimit}
 use Rattle.framing.specs.Framing.{sequencesOf, pointerFits}
-use Rattle.pass.specs.Verdict.{State, frameChannels}
+use Rattle.verdict.specs.Verdict.{State, frameChannels}
 use Rattle.theorems.specs.Attributes.{among, entryOf}
 
 -- A row: a number with its place, and whether its condition holds.

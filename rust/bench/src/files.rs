@@ -2,6 +2,17 @@
 
 /// Octets of the big frames' waveforms.
 pub const WAVEFORM: usize = 16_000_000;
+/// Items of the files that ask for much work with few octets, groups and what they hold.
+pub const HOSTILE: usize = 100_000;
+/// The most frames and channels that a file may have.
+pub const FRAMES: u32 = 4096;
+pub const CHANNELS: u32 = 256;
+
+/// A definition of each attribute that a channel may have.
+const ATTRIBUTES: [u8; 30] = [
+    0x04, 1, 1, 0x08, 1, 1, 0x09, 1, 2, 0x0A, 1, 0, 0x0B, 4, 1, 0xFD, 0, 1, 0x0C, 4, 0, 0xF7, 3,
+    0xE8, 0x0D, 0, 0x12, 2, 0x80, 0,
+];
 
 #[derive(Clone, Copy, PartialEq)]
 pub enum Order {
@@ -28,7 +39,7 @@ pub fn twelve_channels(block: u16) -> Vec<u8> {
 /// form of as many short frames.
 pub fn many_frames() -> Vec<u8> {
     let mut file = vec![0x05, 1, 12];
-    for _ in 0..4096 {
+    for _ in 0..FRAMES {
         waveform(&mut file, 12 * 2 * 10);
     }
     let file = mfer::File::new(&file).canonical_vec();
@@ -65,14 +76,49 @@ pub fn root_definitions(count: usize) -> Vec<u8> {
 
 /// Groups of eight definitions each, for twelve channels in turn.
 pub fn group_items(count: usize) -> Vec<u8> {
-    const ITEMS: [u8; 30] = [
-        0x04, 1, 1, 0x08, 1, 1, 0x09, 1, 2, 0x0A, 1, 0, 0x0B, 4, 1, 0xFD, 0, 1, 0x0C, 4, 0, 0xF7,
-        3, 0xE8, 0x0D, 0, 0x12, 2, 0x80, 0,
-    ];
     let mut file = vec![0x05, 1, 12];
     for group in 0..count / 8 {
-        file.extend([0x3F, (group % 12) as u8, ITEMS.len() as u8]);
-        file.extend(ITEMS);
+        file.extend([0x3F, (group % 12) as u8, ATTRIBUTES.len() as u8]);
+        file.extend(ATTRIBUTES);
+    }
+    file
+}
+
+/// A group of the highest channel and a root definition in turn: three items.
+pub fn group_and_root() -> Vec<u8> {
+    let mut file = vec![0x05, 2, 1, 0];
+    file.extend([0x3F, 0x81, 0x7F, 3, 0x04, 1, 2, 0x04, 0].repeat(HOSTILE / 3));
+    file
+}
+
+/// The same with definitions of all eight attributes in the group and at the root: 17 items.
+pub fn full_group_and_root() -> Vec<u8> {
+    let group = [0x3F, 0x81, 0x7F, ATTRIBUTES.len() as u8];
+    let mut file = vec![0x05, 2, 1, 0];
+    file.extend(
+        [&group[..], &ATTRIBUTES, &ATTRIBUTES]
+            .concat()
+            .repeat(HOSTILE / 17),
+    );
+    file
+}
+
+/// A channel count and a group of the highest channel in turn: three items.
+pub fn count_and_group() -> Vec<u8> {
+    [0x05, 2, 1, 0, 0x3F, 0x81, 0x7F, 3, 0x04, 1, 2].repeat(HOSTILE / 3)
+}
+
+/// As many frames as there may be, of as many channels, which groups set once. A root definition
+/// stands before each frame.
+pub fn wide_frames() -> Vec<u8> {
+    let mut file = vec![0x05, 2, 1, 0];
+    for channel in 0..CHANNELS {
+        let number = [0x80 | (channel >> 7) as u8, (channel & 0x7F) as u8];
+        file.extend([0x3F, number[0], number[1], 3, 0x0A, 1, 3]);
+    }
+    for frame in 0..FRAMES {
+        file.extend([0x04, 1, 1 + (frame % 2) as u8]);
+        waveform(&mut file, 2 * CHANNELS as usize);
     }
     file
 }

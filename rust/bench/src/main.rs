@@ -1,63 +1,71 @@
-//! Times the proved library against the second program and against `memcpy`, in one run.
+//! Holds the proved library to the second program and to `memcpy`, in one run: times and counted
+//! instructions.
 //!
 //! Two programs take turns, so that what slows the machine slows both. A ratio is the median over all
 //! rounds of the proved library's time to the other's in the same round.
 #![forbid(unsafe_code)]
 
+mod count;
 mod files;
 mod race;
 
+use count::Once;
 use files::Order;
 use mfer::ffi;
-use race::{Course, Row};
+use race::{Against, Course};
 use second::{reader, writer};
 use std::env;
+use std::fs;
 use std::hint::black_box;
 use std::process::ExitCode;
 
-/// At most so many times the second program's time.
+/// At most so many times the second program's time and instructions.
 const SECOND: f64 = 1.25;
 /// At most so many times `memcpy`'s time, by byte order.
 const BIG_ENDIAN: f64 = 1.1;
 const LITTLE_ENDIAN: f64 = 1.5;
+/// An item costs at most so many times what one costs that is stepped over.
+const STEPPED: f64 = 10.0;
+/// A waveform costs at most so many nanoseconds a channel.
+const NANOSECONDS: f64 = 10.0;
+
+/// Builds a file, only where its row is run.
+type Build = fn() -> Vec<u8>;
 
 const USAGE: &str = "\
-usage: bench [--rounds N] [--fresh]
+usage: bench [--rounds N] [--fresh] [--no-count]
   --rounds N  turns of each pair (default 41)
-  --fresh     a new zeroed output buffer for every timing, instead of one that was written before";
+  --fresh     a new zeroed output buffer for every timing, instead of one that was written before
+  --no-count  times alone; without it, instructions are counted where valgrind is there
+or: bench --once ROW proved|other N
+  N calls of one side of one row, as they are counted; the table's rows are numbered from 1";
 
 fn main() -> ExitCode {
     let mut course = Course {
         rounds: 41,
-        fresh: false,
+        counted: true,
+        ..Course::default()
     };
     let mut words = env::args().skip(1);
     while let Some(word) = words.next() {
         match word.as_str() {
             "--fresh" => course.fresh = true,
+            "--no-count" => course.counted = false,
             "--rounds" => match words.next().and_then(|word| word.parse().ok()) {
                 Some(rounds) if rounds > 0 => course.rounds = rounds,
                 _ => return usage(),
             },
+            "--once" => match Once::of(&mut words) {
+                Some(once) => course.once = Some(once),
+                None => return usage(),
+            },
             _ => return usage(),
         }
     }
-    println!("{}", race::HEAD);
-    let mut missed = 0;
-    let mut rows = 0;
-    let mut show = |row: Row| {
-        println!("{row}");
-        rows += u32::from(row.has_bar());
-        missed += u32::from(row.missed());
-    };
-    checks(&course, &mut show);
-    canonicals(&course, &mut show);
-    samples(&course, &mut show);
-    println!(
-        "cleared buffers: {}",
-        if course.fresh { "no" } else { "yes" }
-    );
-    println!("bars met: {} of {rows}", rows - missed);
+    match course.once {
+        Some(_) => run(&mut course),
+        None => table(&mut course),
+    }
     ExitCode::SUCCESS
 }
 
@@ -66,42 +74,135 @@ fn usage() -> ExitCode {
     ExitCode::from(2)
 }
 
-fn checks(course: &Course, show: &mut impl FnMut(Row)) {
-    let big = files::one_frame(Order::Big, 0);
-    let little = files::one_frame(Order::Little, 0);
-    let frames = files::many_frames();
-    let unknown = files::unknown_items(1_000_000);
-    let definitions = files::root_definitions(1_000_000);
-    let grouped = files::group_items(1_000_000);
-    for (what, file) in [
-        ("check: one big frame, big-endian", &big),
-        ("check: one big frame, little-endian", &little),
-        ("check: 4,096 frames of 12 full groups", &frames),
-        ("check: 1,000,000 root items, stepped over", &unknown),
-        ("check: 1,000,000 root definitions", &definitions),
-        ("check: 1,000,000 items inside groups", &grouped),
-    ] {
-        assert_eq!(ffi::check(file).number, 0, "{what}");
-        let row = course.without_buffers(
-            || ffi::check(black_box(file)),
-            || reader::check(black_box(file)),
-        );
-        show(row.named(what, "second", Some(SECOND)));
-    }
-    // Ten times the items against ten times the smaller file.
-    let tenth = files::group_items(100_000);
-    let row = course.without_buffers(
-        || ffi::check(black_box(&grouped)),
-        || {
-            for _ in 0..10 {
-                black_box(ffi::check(black_box(&tenth)));
-            }
-        },
+fn table(course: &mut Course) {
+    let counts = match (course.counted, count::possible()) {
+        (false, _) => "no",
+        (true, false) => "no, valgrind is missing",
+        (true, true) => "yes",
+    };
+    course.counted = counts == "yes";
+    println!("{}", processor());
+    println!("{}", race::HEAD);
+    run(course);
+    println!(
+        "cleared buffers: {}",
+        if course.fresh { "no" } else { "yes" }
     );
-    show(row.named("check: ten times the items", "itself", Some(SECOND)));
+    println!("counted instructions: {counts}");
+    println!(
+        "bars met: {} of {}",
+        course.bars - course.missed,
+        course.bars
+    );
 }
 
-fn canonicals(course: &Course, show: &mut impl FnMut(Row)) {
+/// The processor's name.
+fn processor() -> String {
+    let text = fs::read_to_string("/proc/cpuinfo").unwrap_or_default();
+    let name = text.lines().find_map(|line| {
+        let (key, name) = line.split_once(':')?;
+        (key.trim() == "model name").then(|| name.trim())
+    });
+    name.unwrap_or("unknown processor").into()
+}
+
+fn run(course: &mut Course) {
+    checks(course);
+    hostile_checks(course);
+    canonicals(course);
+    samples(course);
+}
+
+fn checks(course: &mut Course) {
+    let files: [(_, Build); 6] = [
+        ("check: one big frame, big-endian", || {
+            files::one_frame(Order::Big, 0)
+        }),
+        ("check: one big frame, little-endian", || {
+            files::one_frame(Order::Little, 0)
+        }),
+        ("check: 4,096 frames of 12 full groups", files::many_frames),
+        ("check: 1,000,000 root items, stepped over", || {
+            files::unknown_items(1_000_000)
+        }),
+        ("check: 1,000,000 root definitions", || {
+            files::root_definitions(1_000_000)
+        }),
+        ("check: 1,000,000 items inside groups", || {
+            files::group_items(1_000_000)
+        }),
+    ];
+    for (what, build) in files {
+        check(course, what, Some(SECOND), build);
+    }
+    // Ten times the items against ten times the smaller file.
+    if let Some(row) = course.row("check: ten times the items", Against::Itself, Some(SECOND)) {
+        let file = files::group_items(1_000_000);
+        let tenth = files::group_items(100_000);
+        course.without_buffers(
+            row,
+            || ffi::check(black_box(&file)),
+            || {
+                for _ in 0..10 {
+                    black_box(ffi::check(black_box(&tenth)));
+                }
+            },
+        );
+    }
+}
+
+/// Checks of files that ask for much work with few octets.
+fn hostile_checks(course: &mut Course) {
+    let files: [(_, Build); 3] = [
+        (
+            "check: channel 255 and root 04 in turn",
+            files::group_and_root,
+        ),
+        (
+            "check: the same with all attributes",
+            files::full_group_and_root,
+        ),
+        (
+            "check: root 05 and channel 255 in turn",
+            files::count_and_group,
+        ),
+    ];
+    for (what, build) in files {
+        check(course, what, None, build);
+        if let Some(row) = course.row(what, Against::Stepped, Some(STEPPED)) {
+            let file = build();
+            let stepped = files::unknown_items(files::HOSTILE);
+            course.without_buffers(
+                row,
+                || ffi::check(black_box(&file)),
+                || ffi::check(black_box(&stepped)),
+            );
+        }
+    }
+    let what = "check: 4,096 frames of 256 set channels";
+    check(course, what, None, files::wide_frames);
+    if let Some(row) = course.row(what, Against::Nanosecond, Some(NANOSECONDS)) {
+        let file = files::wide_frames();
+        course.beside_nanoseconds(row, files::FRAMES * files::CHANNELS, || {
+            ffi::check(black_box(&file))
+        });
+    }
+}
+
+/// The check of an accepted file beside the second program's.
+fn check(course: &mut Course, what: &'static str, bar: Option<f64>, build: Build) {
+    if let Some(row) = course.row(what, Against::Second, bar) {
+        let file = build();
+        assert_eq!(ffi::check(&file).number, 0, "{what}");
+        course.without_buffers(
+            row,
+            || ffi::check(black_box(&file)),
+            || reader::check(black_box(&file)),
+        );
+    }
+}
+
+fn canonicals(course: &mut Course) {
     for (what, order, data_type, bar) in [
         ("canonical: big-endian", Order::Big, 0, BIG_ENDIAN),
         (
@@ -123,67 +224,86 @@ fn canonicals(course: &Course, show: &mut impl FnMut(Row)) {
             LITTLE_ENDIAN,
         ),
     ] {
-        let file = files::one_frame(order, data_type);
-        let waveform = &file[file.len() - files::WAVEFORM..];
-        let buffer = || vec![0; file.len() + 200];
-        let proved = |out: &mut Vec<u8>| {
-            assert_eq!(ffi::canonical(black_box(&file), out).number, 0);
-        };
-        let copied = |out: &mut Vec<u8>| {
-            black_box(&mut out[..files::WAVEFORM]).copy_from_slice(black_box(waveform));
-        };
-        let row = course.with_buffers(buffer, proved, copied);
-        show(row.named(what, "memcpy", Some(bar)));
-        let second = |out: &mut Vec<u8>| {
-            assert!(writer::canonical(black_box(&file), out).is_ok());
-        };
-        let row = course.with_buffers(buffer, proved, second);
-        show(row.named(what, "second", None));
+        for (against, bar) in [(Against::Memcpy, bar), (Against::Second, SECOND)] {
+            let Some(row) = course.row(what, against, Some(bar)) else {
+                continue;
+            };
+            let file = files::one_frame(order, data_type);
+            let waveform = &file[file.len() - files::WAVEFORM..];
+            course.with_buffers(
+                row,
+                || vec![0; file.len() + 200],
+                |out| assert_eq!(ffi::canonical(black_box(&file), out).number, 0),
+                |out| match against {
+                    Against::Memcpy => {
+                        black_box(&mut out[..files::WAVEFORM]).copy_from_slice(black_box(waveform))
+                    }
+                    _ => assert!(writer::canonical(black_box(&file), out).is_ok()),
+                },
+            );
+        }
     }
 }
 
-fn samples(course: &Course, show: &mut impl FnMut(Row)) {
-    let alone = files::one_frame(Order::Big, 0);
-    let alone_little = files::one_frame(Order::Little, 0);
-    let among = files::twelve_channels(1);
-    let blocks = files::twelve_channels(500);
-    for (what, file, channel) in [
-        ("bulk: the only channel, big-endian", &alone, 0),
-        ("bulk: the only channel, little-endian", &alone_little, 0),
-        ("bulk: one of 12 channels, blocks of 1", &among, 7),
-        ("bulk: one of 12 channels, blocks of 500", &blocks, 7),
-    ] {
-        let read = reader::attributes(file, 0, channel).expect("an accepted file");
+fn samples(course: &mut Course) {
+    let files: [(_, Build, u32); 4] = [
+        (
+            "bulk: the only channel, big-endian",
+            || files::one_frame(Order::Big, 0),
+            0,
+        ),
+        (
+            "bulk: the only channel, little-endian",
+            || files::one_frame(Order::Little, 0),
+            0,
+        ),
+        (
+            "bulk: one of 12 channels, blocks of 1",
+            || files::twelve_channels(1),
+            7,
+        ),
+        (
+            "bulk: one of 12 channels, blocks of 500",
+            || files::twelve_channels(500),
+            7,
+        ),
+    ];
+    for (what, build, channel) in files {
+        let Some(row) = course.row(what, Against::Second, Some(SECOND)) else {
+            continue;
+        };
+        let file = build();
+        let read = reader::attributes(&file, 0, channel).expect("an accepted file");
         let count = read.sequences as usize * read.block as usize;
-        let row = course.with_buffers(
+        course.with_buffers(
+            row,
             || vec![0; count],
             |out| {
-                let filled = ffi::samples(black_box(file), 0, channel, 0, out);
+                let filled = ffi::samples(black_box(&file), 0, channel, 0, out);
                 assert_eq!(filled.count, count as u64);
             },
             |out| {
-                let filled = reader::samples(black_box(file), 0, channel, 0, out);
+                let filled = reader::samples(black_box(&file), 0, channel, 0, out);
                 assert_eq!(filled, Ok(count));
             },
         );
-        show(row.named(what, "second", Some(SECOND)));
     }
     const SAMPLES: u64 = 1_000;
-    let row = course.without_buffers(
-        || {
-            for number in 0..SAMPLES {
-                black_box(ffi::sample(black_box(&among), 0, 7, number));
-            }
-        },
-        || {
-            for number in 0..SAMPLES {
-                let _ = black_box(reader::sample(black_box(&among), 0, 7, number));
-            }
-        },
-    );
-    show(row.named(
-        "one sample at a time, 1,000 of them",
-        "second",
-        Some(SECOND),
-    ));
+    let what = "one sample at a time, 1,000 of them";
+    if let Some(row) = course.row(what, Against::Second, Some(SECOND)) {
+        let file = files::twelve_channels(1);
+        course.without_buffers(
+            row,
+            || {
+                for number in 0..SAMPLES {
+                    black_box(ffi::sample(black_box(&file), 0, 7, number));
+                }
+            },
+            || {
+                for number in 0..SAMPLES {
+                    let _ = black_box(reader::sample(black_box(&file), 0, 7, number));
+                }
+            },
+        );
+    }
 }

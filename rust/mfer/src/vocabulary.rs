@@ -1,5 +1,6 @@
 //! One vocabulary: refusals and kinds of values have the same names, numbers and words in this crate,
-//! in the header, in the definitions and in Rattle, and the same names in the second program.
+//! in the header, in the definitions and in Rattle, and the same names in the second program. The
+//! header has this crate's version.
 
 use crate::ffi::Sampled;
 use crate::refusal::REFUSALS;
@@ -15,21 +16,22 @@ const SECOND: &str = include_str!("../../second/src/reader.rs");
 type Entry = (String, u32, String);
 
 fn entry(name: &str, number: &str, words: &str) -> Entry {
-    let words = words.split_whitespace().collect::<Vec<_>>().join(" ");
-    (name.into(), number.parse().expect(name), words)
+    (name.into(), number.parse().expect(name), words.into())
 }
 
-/// The `#define`s of the header from behind one line to the next blank one.
-fn defined(from: &str) -> Vec<Entry> {
-    let (_, rest) = HEADER.split_once(from).expect(from);
-    let (section, _) = rest.split_once("\n\n").expect("a blank line");
-    let define = |define: &str| {
-        let (name, rest) = define.split_once(' ').expect("a number");
-        let (number, comment) = rest.split_once("u ").expect("a comment");
-        entry(name, number, comment.trim().trim_matches(['/', '*']))
+/// The entries of a table of the header, each a line `X(MFER_NO_FRAME, 20, "no such frame")`.
+fn table(name: &str) -> Vec<Entry> {
+    let (_, rest) = HEADER
+        .split_once(&format!("#define {name}(X)"))
+        .expect(name);
+    let (table, _) = rest.split_once("/* end */").expect("an end");
+    let line = |line: &str| {
+        let (name, rest) = line.split_once(", ").expect("a number");
+        let (number, rest) = rest.split_once(", \"").expect("words");
+        let (words, _) = rest.split_once("\")").expect("an end of words");
+        entry(name, number, words)
     };
-    let defines = section.split("#define MFER_").skip(1);
-    defines.map(define).collect()
+    table.split("X(MFER_").skip(1).map(line).collect()
 }
 
 /// The constants of a `Refusal` in Rattle or Rust, with no words.
@@ -72,7 +74,7 @@ fn refusals_have_one_vocabulary() {
         .iter()
         .map(|(name, number, words)| entry(name, &number.to_string(), words));
     let here: Vec<Entry> = here.collect();
-    assert_eq!(defined("/* no refusal */\n"), here);
+    assert_eq!(table("MFER_REFUSALS"), here);
     assert_eq!(definitions(), here);
     let wordless = |(name, number, _)| (name, number, String::new());
     let here: Vec<Entry> = here.into_iter().map(wordless).collect();
@@ -110,14 +112,28 @@ fn kinds_have_one_vocabulary() {
         let variant = format!("{value:?}");
         let variant = variant.split('(').next().expect("a name");
         assert_eq!(name, upper(variant));
-        assert!(words.starts_with(&format!("{}: ", value.kind())), "{words}");
+        assert_eq!(words, value.kind());
         let (_, said) = defined_as(&format!("valueSays {variant}"));
         let (_, record) = defined_as(said.split(' ').next().expect("a name"));
         assert!(record.contains(&format!("kind = {number};")), "{record}");
         value.kind()
     };
-    let kinds = defined("/* Kinds of values. */\n").into_iter().map(kind);
+    let kinds = table("MFER_KINDS").into_iter().map(kind);
     let words = kinds.collect::<Vec<_>>().join(", ");
     assert_eq!(words, "whole, status, single, double, not-a-number, null");
     assert!(VALUES.contains(&format!("in the order {words}.")));
+}
+
+#[test]
+fn the_header_has_this_version() {
+    let parts = [
+        ("", concat!('"', env!("CARGO_PKG_VERSION"), '"')),
+        ("_MAJOR", env!("CARGO_PKG_VERSION_MAJOR")),
+        ("_MINOR", env!("CARGO_PKG_VERSION_MINOR")),
+        ("_PATCH", env!("CARGO_PKG_VERSION_PATCH")),
+    ];
+    for (part, version) in parts {
+        let line = format!("#define MFER_VERSION{part} {version}\n");
+        assert!(HEADER.contains(&line), "{line}");
+    }
 }

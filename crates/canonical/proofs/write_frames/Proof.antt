@@ -6,12 +6,12 @@ use native.Mathlib.Omega.{arith}
 use borrow.Author.Needs.{needs}
 use Prim.Native.Nat.{ℕ, _≤_, _-_}
 use lib.ListN.{length}
-use Rattle.items.proofs.Walks.{next-later}
+use Rattle.items.proofs.Walks.{found-as, next-later}
 use Rattle.settings.specs.Settings.{channelLimit, zeroSettings, applied}
 use Rattle.settings.proofs.Mapped.{mapped, mapped-put}
 use Rattle.stores.proofs.Stores.{put-long}
-use Rattle.pass.specs.Verdict.{carried, withFrame}
-use Rattle.pass.proofs.Scans.{Filling, filling-none, filling-more, reach-few, reached-one, reached-count, records-set, records-mapped, mapped-own, does-stands, does-count, does-all, does-one, does-outside, carried-by, found-as}
+use Rattle.verdict.specs.Verdict.{carried, withFrame}
+use Rattle.canonical.proofs.Filled.{Filling, filling-none, filling-more, reach-few, reached-one, reached-count, records-set, records-mapped, mapped-own, does-stands, does-count, does-all, does-one, does-outside, carried-by}
 use Rattle.canonical.proofs.Writing.{Going, going-first, going-filled, going-counted, going-goes, going-carried, going-few, going-start, going-frame, written-done, never-refuses}
 use Rattle.canonical.proofs.write_frames.Statement.{statement}
 use Rattle.canonical.proofs.write_frames.Tie as tie

@@ -1,7 +1,8 @@
 -- Tag, length, unit, exponent and mantissa, one after the other.
 use Rattle.groups.proofs.Sizes.{scale-long}
 use Rattle.groups.proofs.Puts.{put-as, put-two, put-more, scale-is}
-use Rattle.groups.proofs.Signed.{widened, unsigned-is}
+use Rattle.octets.proofs.Machine.{widens, widened}
+use Rattle.groups.proofs.Signed.{unsigned-is}
 use Rattle.groups.specs.Parts.{unsignedBy}
 use mathlib.Core.List.{[], _∷_, _++_}
 use Prim.Native.Nat.{_^_}
@@ -11,7 +12,6 @@ use borrow.Author.Needs.{needs}
 use lib.ListN.{length-append}
 use mir.Syntax.{w8, w32}
 use mir.Val.{SFits}
-use mir.Facts.{toZ-ofZ, sfits-widen}
 use Rattle.stores.specs.Number.{be, length-be}
 use Rattle.groups.proofs.put_scale.Statement.{statement}
 use Rattle.groups.proofs.put_scale.Tie as tie
@@ -23,13 +23,13 @@ in32 : (c : tie.After-struct-told2) → SFits w32 (c .before .before .before .be
 in32 c = search needs
 
 cast-unsigned : tie.Need-cast-unsigned
-cast-unsigned c = rw (toZ-ofZ (in8 c)) (sfits-widen tt (in8 c))
+cast-unsigned c = widens tt (in8 c)
 
 unsigned-requires : tie.Need-unsigned-requires
 unsigned-requires c κs = rw (widened tt (in8 c)) (omega (arith, in8 c .sfits))
 
 cast-unsigned-2 : tie.Need-cast-unsigned-2
-cast-unsigned-2 c = rw (toZ-ofZ (in32 c)) (sfits-widen tt (in32 c))
+cast-unsigned-2 c = widens tt (in32 c)
 
 unsigned-requires-2 : tie.Need-unsigned-requires-2
 unsigned-requires-2 c κs = rw (widened tt (in32 c)) (omega (arith, in32 c .sfits))

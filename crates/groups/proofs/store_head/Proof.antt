@@ -2,16 +2,16 @@
 use Prim.Native.Nat.{_^_}
 use mathlib.Core.Path.{ap, _∙_}
 use native.Mathlib.Omega.{arith}
-use mir.Facts.{toZ-ofZ, sfits-widen}
 use Rattle.groups.specs.Parts.{unsignedBy}
-use Rattle.groups.proofs.Signed.{unsigned-is, widened}
+use Rattle.octets.proofs.Machine.{widens, widened}
+use Rattle.groups.proofs.Signed.{unsigned-is}
 use Rattle.groups.proofs.Puts.{head-stored}
 use borrow.Author.Needs.{needs}
 use Rattle.groups.proofs.store_head.Statement.{statement}
 use Rattle.groups.proofs.store_head.Tie as tie
 
 cast-unsigned : tie.Need-cast-unsigned
-cast-unsigned c = rw (toZ-ofZ (c .before .fits .start)) (sfits-widen tt (c .before .fits .start))
+cast-unsigned c = widens tt (c .before .fits .start)
 
 unsigned-requires : tie.Need-unsigned-requires
 unsigned-requires c κs = rw (widened tt (c .before .fits .start)) (omega (arith, c .before .fits .start .sfits))

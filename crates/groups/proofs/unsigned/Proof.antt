@@ -1,5 +1,6 @@
 -- A negative number's complement is what lies between it and -1.
-use Rattle.groups.proofs.Signed.{above-mag, complement, below-is, above-is}
+use Rattle.octets.proofs.Machine.{complement}
+use Rattle.groups.proofs.Signed.{above-mag, below-is, above-is}
 use Rattle.groups.specs.Parts.{unsignedBy}
 use Prim.Native.Nat.{_-_}
 use mathlib.Core.Path.{_≡_, subst, _∙_}

@@ -1,6 +1,6 @@
 -- By the answer of the check.
 use mathlib.Core.Path.{sym, ap, _∙_}
-use Rattle.pass.specs.Verdict.{checkedSays}
+use Rattle.verdict.specs.Verdict.{checkedSays}
 use Rattle.mfer.specs.Answers.{handedOut, countOut}
 use borrow.Author.Needs.{needs}
 use Rattle.mfer.proofs.mfer_check.Statement.{statement}

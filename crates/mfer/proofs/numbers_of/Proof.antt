@@ -1,13 +1,20 @@
 -- Each number is read back from its bits.
 use borrow.Author.Needs.{needs}
+use mathlib.Core.Path.{_≡_}
 use mathlib.Core.List.{[], _∷_}
+use Prim.Native.Nat.{ℕ, _^_, _<_}
+use lib.IntN.{pos}
 use mir.Syntax.{w8, w32, w64}
-use mir.Facts.{toZ-ofZ}
+use mir.Val.{toZ}
+use mir.Facts.{toZ-ofZ, toZ-pos}
 use Rattle.mfer.specs.Answers.{numbersOf}
-use Rattle.groups.proofs.Signed.{widened}
-use Rattle.mfer.proofs.Widen.{widens, plain}
+use Rattle.octets.proofs.Machine.{widens, widened}
 use Rattle.mfer.proofs.numbers_of.Statement.{statement}
 use Rattle.mfer.proofs.numbers_of.Tie as tie
+
+-- A number of the lower half of the bits is itself.
+plain : (n : ℕ) → n < 2 ^ 63 → toZ w64 n ≡ pos n
+plain n h = toZ-pos w64 h
 
 cast-t7 : tie.Need-cast-t7
 cast-t7 c = search needs

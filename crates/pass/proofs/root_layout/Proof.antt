@@ -5,8 +5,8 @@ use Prim.Native.Nat.{_-_}
 use lib.ListN.{replicate, length-replicate}
 use Rattle.settings.specs.Settings.{channelLimit}
 use Rattle.layout.proofs.Laws.{Summing, summing-none, summed-up}
-use Rattle.pass.proofs.Bounds.{channels-between}
-use Rattle.pass.proofs.Ahead.{bare-more}
+use Rattle.verdict.proofs.Bounds.{channels-between}
+use Rattle.pass.proofs.Bare.{bare-more}
 use Rattle.pass.proofs.root_layout.Statement.{statement}
 use Rattle.pass.proofs.root_layout.Tie as tie
 

@@ -5,20 +5,20 @@ use mathlib.Core.Logic.{inr}
 use native.Mathlib.Omega.{arith}
 use borrow.Author.Needs.{needs}
 use Prim.Native.Nat.{_-_}
-use lib.ListN.{length}
+use lib.ListN.{length, replicate}
 use Rattle.items.specs.declared.Cursor.{Cursor}
 use Rattle.items.specs.Walk.{cursor}
-use Rattle.settings.specs.Settings.{defaultTable}
+use Rattle.settings.specs.Settings.{channelLimit}
 use Rattle.effects.specs.Effects.{standingAfter}
-use Rattle.pass.proofs.Scans.{scanned-end, scanned-fault}
-use Rattle.pass.proofs.Turns.{Passing, passing-first, passing-at, passing-counted, Turn, turn-later, turn-stands, turn-all, turn-refused, framing-refused, framing-room}
+use Rattle.pass.proofs.Scans.{scanning-counted, scanned-end, scanned-fault}
+use Rattle.pass.proofs.Turns.{Turn, turn-later, turn-stands, turn-refused, turn-framing, framing-refused, framing-room}
 use Rattle.pass.proofs.Stretches.{begins-root}
-use Rattle.pass.proofs.Ahead.{passing-root, bare-scanning, bare-framing, bare-taken}
+use Rattle.pass.proofs.Bare.{Bare, bare-first, bare-on, bare-at, bare-all, bare-root, bare-taken}
 use Rattle.pass.proofs.scan_root.Statement.{statement}
 use Rattle.pass.proofs.scan_root.Tie as tie
 
 abbrev Inv-loop : tie.InvT-loop
-Inv-loop s asked c₀ st₀ met₀ c st met = Passing s asked defaultTable 0 c st met
+Inv-loop s asked c₀ st₀ met₀ c st met = Bare s asked c st met
 
 abbrev μ-loop : tie.MeasureT-loop
 μ-loop s asked c₀ st₀ met₀ c st met = length s - c .at
@@ -30,7 +30,7 @@ turn : (c : tie.After-item-effect Inv-loop μ-loop)
     → let at-item = c .before .before in
     let at-loop = at-item .before .before .before .before .before in
     let at-start = at-loop .before .before .before .before .before in
-    Turn (at-start .args .s .now) (at-start .args .asked) defaultTable 0 (at-loop .loop .c) (at-loop .loop .st) (at-loop .loop .met) (at-item .item .given .0 .0) (at-item .item .given .0 .1 .0) (c .item-effect .result)
+    Turn (at-start .args .s .now) (at-start .args .asked) (replicate channelLimit (at-loop .loop .st .root)) (at-loop .loop .c) (at-loop .loop .st) (at-loop .loop .met) (at-item .item .given .0 .0) (at-item .item .given .0 .1 .0) (c .item-effect .result)
 turn c =
     let at-item = c .before .before in
     let at-next = at-item .before .before in
@@ -50,7 +50,7 @@ none-requires c κs = search needs
 loop-holds : tie.Need-loop-holds Inv-loop μ-loop
 loop-holds c =
     let at-first = c .before .before in
-    passing-first _ _ defaultTable _ _ (at-first .before .before .pre) refl (at-first .first .ensures) (c .before .first2 .ensures) (c .none .ensures)
+    bare-first _ _ _ _ (at-first .before .before .pre) (at-first .first .ensures) (c .before .first2 .ensures) (c .none .ensures)
 
 begins-requires : tie.Need-begins-requires Inv-loop μ-loop
 begins-requires c κs = search needs
@@ -75,8 +75,8 @@ loop-again c =
     let at-stretch = c .before .before .before .before .before .before in
     let at-begins = at-stretch .before in
     let root = begins-root _ _ (at-begins .before .begins .ensures) (at-begins .if1 .taken) .0 in
-    passing-at (passing-root (at-begins .before .before .loop .inv) root refl (at-stretch .root-stretch .ensures) (c .before .with-root .ensures))
-    (c .moved .ensures ∙ ap (cursor (at-stretch .root-stretch .result .at)) root)
+    bare-at (c .moved .ensures ∙ ap (cursor (at-stretch .root-stretch .result .at)) root)
+    (bare-root (at-begins .before .before .loop .inv) root refl (at-stretch .root-stretch .ensures) (c .before .with-root .ensures))
 
 next-item-requires : tie.Need-next-item-requires Inv-loop μ-loop
 next-item-requires c κs = search needs
@@ -90,7 +90,7 @@ scan-requires c κs = search needs
 returns : tie.Need-returns Inv-loop μ-loop
 returns c =
     let at-next = c .before .before .before in
-    c .scan .ensures ∙ scanned-end (at-next .before .before .before .loop .inv .pass) (at-next .next-item .ensures) (c .before .enum-told .given .1)
+    c .scan .ensures ∙ scanned-end (at-next .before .before .before .loop .inv) (at-next .next-item .ensures) (c .before .enum-told .given .1)
 
 enum-known-x : tie.Need-enum-known-x Inv-loop μ-loop
 enum-known-x c = search needs
@@ -102,7 +102,7 @@ returns-2 : tie.Need-returns-2 Inv-loop μ-loop
 returns-2 c =
     let at-fault = c .before .before in
     let at-next = at-fault .before .before in
-    c .refused-scan .ensures ∙ scanned-fault (at-next .before .before .before .loop .inv .pass) _ (at-next .next-item .ensures) (at-fault .x .given .1)
+    c .refused-scan .ensures ∙ scanned-fault (at-next .before .before .before .loop .inv) _ (at-next .next-item .ensures) (at-fault .x .given .1)
 
 enum-known-item : tie.Need-enum-known-item Inv-loop μ-loop
 enum-known-item c = search needs
@@ -125,14 +125,13 @@ loop-less-2 c = omega (arith, turn-later (turn (c .before .before .before .befor
 loop-again-2 : tie.Need-loop-again-2 Inv-loop μ-loop
 loop-again-2 c =
     let at-all = c .before .before in
-    passing-at (turn-all (turn (at-all .before .before)) 0 (at-all .enum-told2 .given .1) (c .before .standing-after .ensures ∙ ap (standingAfter _) (at-all .enum-told2 .given .1)) refl (omega arith) (omega arith))
-    (c .renewed .ensures)
+    bare-at (c .renewed .ensures) (bare-all (turn (at-all .before .before)) (at-all .enum-told2 .given .1) (c .before .standing-after .ensures ∙ ap (standingAfter _) (at-all .enum-told2 .given .1)))
 
 enum-told-3 : tie.Need-enum-told-3 Inv-loop μ-loop
 enum-told-3 c = search needs
 
 scan-channels-requires : tie.Need-scan-channels-requires Inv-loop μ-loop
-scan-channels-requires c κs = bare-scanning (turn (c .before .before) .before)
+scan-channels-requires c κs = turn (c .before .before) .before
 
 returns-3 : tie.Need-returns-3 Inv-loop μ-loop
 returns-3 c = c .scan-channels .ensures
@@ -141,7 +140,7 @@ enum-known-effect : tie.Need-enum-known-effect Inv-loop μ-loop
 enum-known-effect c = search needs
 
 root-layout-requires : tie.Need-root-layout-requires Inv-loop μ-loop
-root-layout-requires c κs = passing-counted (turn (c .before .before .before) .before)
+root-layout-requires c κs = scanning-counted (turn (c .before .before .before) .before)
 
 frame-of-requires : tie.Need-frame-of-requires Inv-loop μ-loop
 frame-of-requires c κs = search needs
@@ -158,7 +157,7 @@ returns-4 c =
     let at-frame = at-number .before .before in
     let at-layout = at-frame .before in
     let at-effect = at-layout .before .before in
-    c .refused-item .ensures ∙ framing-refused (bare-framing (turn (at-effect .before .before)) (at-effect .effect .given .1) (at-layout .root-layout .ensures) (at-frame .frame-of .ensures)) (at-number .number .given .1)
+    c .refused-item .ensures ∙ framing-refused (turn-framing (turn (at-effect .before .before)) (at-effect .effect .given .1) (at-layout .root-layout .ensures) (at-frame .frame-of .ensures)) (at-number .number .given .1)
 
 enum-known-sequences : tie.Need-enum-known-sequences Inv-loop μ-loop
 enum-known-sequences c = search needs
@@ -169,7 +168,7 @@ with-frame-requires c κs =
     let at-frame = at-taken .before .before in
     let at-layout = at-frame .before in
     let at-effect = at-layout .before .before in
-    framing-room (bare-framing (turn (at-effect .before .before)) (at-effect .effect .given .1) (at-layout .root-layout .ensures) (at-frame .frame-of .ensures)) (at-taken .sequences .given .1)
+    framing-room (turn-framing (turn (at-effect .before .before)) (at-effect .effect .given .1) (at-layout .root-layout .ensures) (at-frame .frame-of .ensures)) (at-taken .sequences .given .1)
 
 renewed-requires-2 : tie.Need-renewed-requires-2 Inv-loop μ-loop
 renewed-requires-2 c κs = search needs
@@ -185,8 +184,8 @@ loop-again-3 c =
     let at-frame = at-taken .before .before in
     let at-layout = at-frame .before in
     let at-effect = at-layout .before .before in
-    passing-at (bare-taken (turn (at-effect .before .before)) (at-effect .effect .given .1) (at-layout .root-layout .ensures) (at-frame .frame-of .ensures) (at-taken .sequences .given .1) (c .before .with-frame .ensures))
-    (c .renewed2 .ensures)
+    let framed = turn-framing (turn (at-effect .before .before)) (at-effect .effect .given .1) (at-layout .root-layout .ensures) (at-frame .frame-of .ensures) in
+    bare-at (c .renewed2 .ensures) (bare-taken framed (at-taken .sequences .given .1) (c .before .with-frame .ensures))
 
 enum-known-effect-2 : tie.Need-enum-known-effect-2 Inv-loop μ-loop
 enum-known-effect-2 c = search needs
@@ -211,8 +210,7 @@ loop-less-4 c = omega (arith, turn-later (turn (c .before .before .before)), ap 
 loop-again-4 : tie.Need-loop-again-4 Inv-loop μ-loop
 loop-again-4 c =
     let at-arm = c .before .before in
-    passing-at (turn-stands (turn (at-arm .before)) (0 ∷ 1 ∷ 2 ∷ 3 ∷ 4 ∷ []) (tt, tt, tt, tt) (inr refl) (at-arm .match2 .keys5) (c .before .standing-after2 .ensures))
-    (c .renewed3 .ensures)
+    bare-at (c .renewed3 .ensures) (bare-on (turn-stands (turn (at-arm .before)) (0 ∷ 1 ∷ 2 ∷ 3 ∷ 4 ∷ []) (tt, tt, tt, tt) (inr refl) (at-arm .match2 .keys5) (c .before .standing-after2 .ensures)))
 
 pub scan-root-spec : {M : Type 1} → statement M
 scan-root-spec =

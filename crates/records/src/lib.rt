@@ -1,0 +1,219 @@
+// The records of channels, kept in words that a caller lends: nothing is copied where a walk goes from frame to frame.
+//
+// A record takes `Records::WORDS` words, one number a word and one word spare; words hold as many records as there is room for. A number is that of
+// the lowest octets of its word, so that any words at all are records.
+// Promises, for any words and any number of a record: `get` answers a record, `put` stores one, and `clear` sends all channels back to the root
+// settings. Where there is no such record `get` answers zeros and `put` stores nothing. Words of no record's numbers stay as they are.
+// Read first: specs/Records.antt.
+ghost use mathlib.Core.Path.{_≡_};
+ghost use mathlib.Core.List.{map};
+ghost use Prim.Native.Nat.{_+_, _<_, _≤_};
+ghost use lib.ListN.{length, getD, set};
+ghost use Rattle.octets.specs.Number.{lowOf, twos};
+ghost use Rattle.dated.specs.Dated.{zeroDated};
+ghost use Rattle.records.specs.Records.{recordNumbers, scaleBy, bitsBy, recordBy, wordsAt, recordsIn, outdated, Holding, Overlaid};
+use dated::Dated;
+use settings::Scale;
+use settings::Settings;
+use values::Bits;
+
+// The sizes of records kept in words.
+pub struct Records {}
+
+impl Records {
+    // Words of a record.
+    pub const WORDS: usize = 16;
+
+    // Words of a record for each channel that a frame may have.
+    pub const TABLE: usize = Settings::CHANNELS * Records::WORDS;
+
+    // Numbers of a record.
+    const NUMBERS: usize = 15;
+
+    // The word of a record's time.
+    const TIME: usize = 14;
+}
+
+// A word of those from place i on.
+fn word(t: &[u64], i: usize, a: usize) -> u64
+    requires { ⌜ i + a < length (now t) ⌝ }
+    ensures { λ r. ⌜ r ≡ wordsAt (now (t .entry)) i a ⌝ }
+{
+    t[i + a]
+}
+
+// The number of a word's lowest octet.
+fn one(x: u64) -> u8
+    ensures { λ r. ⌜ r ≡ lowOf 1 x ⌝ }
+{
+    (x % 256) as u8
+}
+
+// The number of its two lowest octets.
+fn two(x: u64) -> u16
+    ensures { λ r. ⌜ r ≡ lowOf 2 x ⌝ }
+{
+    (x % 65536) as u16
+}
+
+// The number of its four lowest octets.
+fn four(x: u64) -> u32
+    ensures { λ r. ⌜ r ≡ lowOf 4 x ⌝ }
+{
+    (x % 4_294_967_296) as u32
+}
+
+// A unit, an exponent and a mantissa.
+fn scale(t: &[u64], i: usize, a: usize) -> Scale
+    requires { ⌜ i + (a + 2) < length (now t) ⌝ }
+    ensures { λ r. ⌜ r ≡ scaleBy (wordsAt (now (t .entry)) i) a ⌝ }
+{
+    Scale {
+        unit: one(word(t, i, a)),
+        exponent: octets::signed_octet(one(word(t, i, a + 1))),
+        mantissa: octets::lowest_signed(word(t, i, a + 2), 4),
+    }
+}
+
+// A width and bits.
+fn bits(t: &[u64], i: usize, a: usize) -> Bits
+    requires { ⌜ i + (a + 1) < length (now t) ⌝ }
+    ensures { λ r. ⌜ r ≡ bitsBy (wordsAt (now (t .entry)) i) a ⌝ }
+{
+    Bits {
+        width: one(word(t, i, a)),
+        bits: word(t, i, a + 1),
+    }
+}
+
+// The record at place i.
+fn record_at(t: &[u64], i: usize) -> Dated
+    requires { ⌜ i + recordNumbers ≤ length (now t) ⌝ }
+    ensures { λ r. ⌜ r ≡ recordBy (wordsAt (now (t .entry)) i) ⌝ }
+{
+    let interval = scale(t, i, 4);
+    let resolution = scale(t, i, 7);
+    let offset = bits(t, i, 10);
+    let null = bits(t, i, 12);
+    let settings = Settings {
+        block: four(word(t, i, 0)),
+        class: two(word(t, i, 1)),
+        lead: two(word(t, i, 2)),
+        datatype: one(word(t, i, 3)),
+        interval,
+        resolution,
+        offset,
+        null,
+    };
+    Dated {
+        settings,
+        at: four(word(t, i, Records::TIME)),
+    }
+}
+
+// Zeros, where there is no record.
+fn zeros() -> Dated
+    ensures { λ r. ⌜ r ≡ zeroDated ⌝ }
+{
+    let scale = Scale {
+        unit: 0,
+        exponent: 0,
+        mantissa: 0,
+    };
+    let bits = Bits { width: 0, bits: 0 };
+    Dated {
+        settings: Settings {
+            block: 0,
+            class: 0,
+            lead: 0,
+            datatype: 0,
+            interval: scale,
+            resolution: scale,
+            offset: bits,
+            null: bits,
+        },
+        at: 0,
+    }
+}
+
+// A record.
+pub fn get(t: &[u64], k: usize) -> Dated
+    ensures { λ r. ⌜ r ≡ getD (recordsIn (now (t .entry))) k zeroDated ⌝ }
+{
+    if k < t.len() / Records::WORDS {
+        return record_at(t, k * Records::WORDS);
+    }
+    zeros()
+}
+
+// The word of a signed number: its two's complement.
+fn signed_word(z: i64) -> u64
+    ensures { λ r. ⌜ twos 8 r ≡ z ⌝ }
+{
+    if z < 0 {
+        return u64::MAX - (!z) as u64;
+    }
+    z as u64
+}
+
+// The words of a record's numbers.
+fn words_of(x: Dated) -> [u64; Records::NUMBERS]
+    ensures { λ r. ⌜ recordBy (λ a. getD r a 0) ≡ x ⌝ }
+{
+    let s = x.settings;
+    let interval = s.interval;
+    let resolution = s.resolution;
+    let offset = s.offset;
+    let null = s.null;
+    [
+        s.block as u64,
+        s.class as u64,
+        s.lead as u64,
+        s.datatype as u64,
+        interval.unit as u64,
+        signed_word(interval.exponent as i64),
+        signed_word(interval.mantissa as i64),
+        resolution.unit as u64,
+        signed_word(resolution.exponent as i64),
+        signed_word(resolution.mantissa as i64),
+        offset.width as u64,
+        offset.bits,
+        null.width as u64,
+        null.bits,
+        x.at as u64,
+    ]
+}
+
+// Stores a record's words from place i on.
+fn overlay(t: &mut [u64], i: usize, w: [u64; Records::NUMBERS])
+    requires { ⌜ i + recordNumbers ≤ length (now t) ⌝ }
+    ensures { λ _. ⌜ Overlaid (now (t .entry)) i w recordNumbers (now (t .exit)) ⌝ }
+{
+    let mut a = 0;
+    while a < Records::NUMBERS {
+        t[i + a] = w[a];
+        a += 1;
+    }
+}
+
+// A record stored.
+pub fn put(t: &mut [u64], k: usize, x: Dated)
+    ensures { λ _. ⌜ Holding (now (t .entry)) (set (recordsIn (now (t .entry))) k x) (now (t .exit)) ⌝ }
+{
+    if t.len() / Records::WORDS <= k {
+        return;
+    }
+    overlay(t, k * Records::WORDS, words_of(x));
+}
+
+// All records sent back to the time before the first item.
+pub fn clear(t: &mut [u64])
+    ensures { λ _. ⌜ Holding (now (t .entry)) (map outdated (recordsIn (now (t .entry)))) (now (t .exit)) ⌝ }
+{
+    let n = t.len() / Records::WORDS;
+    let mut k = 0;
+    while k < n {
+        t[k * Records::WORDS + Records::TIME] = 0;
+        k += 1;
+    }
+}

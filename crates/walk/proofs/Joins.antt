@@ -1,0 +1,228 @@
+-- Where a walk of a file stands, and that the frames it stops at are the verdict's.
+--     Reaches            the file's items lead to where the walk stands, with these frames met
+--     reaches-first      before the first item
+--     advance-reaches    an advance leads on: behind one frame more, or to the verdict
+--     joined-verdict     the frames that successive advances stop at, joined
+-- Assumes nothing.
+use mathlib.Core.Path.{_≡_, refl, sym, ap, subst, _∙_}
+use mathlib.Core.List.{List, [], _∷_, _++_}
+use Prim.Native.Nat.{ℕ, zero, suc, _+_, _-_, _%_, _^_, _≤_, _<_, min}
+use native.Mathlib.Omega.{arith}
+use lib.ListN.{length, take, drop, length-append, length-set, length-replicate}
+use Rattle.items.specs.declared.Item.{Item}
+use Rattle.items.specs.declared.Cursor.{Cursor}
+use Rattle.items.specs.declared.Next.{Next}
+use Rattle.items.specs.declared.Next.the-variants.{Found, End}
+use Rattle.items.specs.Walk.{nextOf, itemsFrom, refusal}
+use Rattle.items.proofs.Walks.{next-found, items-found, items-end, items-refused}
+use Rattle.settings.specs.declared.Settings.{Settings}
+use Rattle.settings.specs.Settings.{channelLimit, defaultSettings, applied}
+use Rattle.dated.specs.declared.Dated.{Dated}
+use Rattle.dated.specs.declared.Dates.{Dates}
+use Rattle.dated.specs.Dated.{noted, rootDefined, allCleared, settledIn}
+use Rattle.dated.proofs.Tables.{Kept, kept-first, kept-longer, kept-set, kept-root, kept-cleared, table-first}
+use Rattle.layout.specs.declared.Layout.{Layout}
+use Rattle.layout.specs.Frame.{Frame, sequenceOctets, allAgree}
+use Rattle.layout.specs.Measure.{layoutOf}
+use Rattle.standing.specs.declared.Standing.{Standing}
+use Rattle.standing.specs.Standing.{octetsLimit}
+use Rattle.effects.specs.declared.Effect.{Effect}
+use Rattle.effects.specs.Effects.{effectOf, standingAfter}
+use Rattle.framing.specs.declared.Framed.{Framed}
+use Rattle.framing.specs.Framing.{channelsOf}
+use Rattle.framing.specs.AnyNumbers.{framedBy}
+use Rattle.verdict.specs.Verdict.{State, state, goes, refuses, withFrame, carried, placeAt, accepted, refused, interpret, verdict}
+use Rattle.verdict.specs.Reached.{Reached, begin, behind as one-behind}
+use Rattle.verdict.proofs.Keeps.{interpret-refuses, reached-verdict}
+use Rattle.verdict.proofs.Frames.{frame-carried, count-few, taken-root}
+use Rattle.verdict.proofs.Settled.{carried-count, carried-all, carried-one}
+use Rattle.walk.specs.declared.Step.{Step}
+use Rattle.walk.specs.Advance.{Stand, firstStand, standsFor, channelsAt, Turn, on, stops, behind, framedTurn, oneNoted, effectTurn, nextTurn, turnOf, advanceOf}
+use Rattle.walk.specs.Joined.{frameBy, joinedBy, joinedIn, joined}
+use Rattle.walk.proofs.Turns.{Later, turn-later, advance-on, advance-stops}
+
+-- The file's items lead to where the walk stands, with these frames met; the records are kept so that they say what stands.
+pub record Reaches (s : List ℕ) (met : List Frame) (x : Stand) : Type 0 where
+  pub long : length s ≤ octetsLimit
+  pub full : length (x .records) ≡ channelLimit
+  pub kept : Kept (x .cursor .at + 1) (x .dates) (x .records)
+  pub items : x .items ≤ x .cursor .at
+  pub count : x .frames ≡ length met
+  pub reached : Reached s (state (x .standing) (standsFor x) met) (x .cursor)
+
+pub reaches-first : (s : List ℕ) → length s ≤ octetsLimit → Reaches s [] firstStand
+reaches-first s h =
+    record {
+      long = h;
+      full = length-replicate channelLimit (noted 0 defaultSettings);
+      kept = kept-longer kept-first (omega arith);
+      items = omega arith;
+      count = refl;
+      reached = rw table-first begin;
+    }
+
+-- What an advance from a place comes to: behind one frame more, or the verdict.
+abbrev pub StepReaches : List ℕ → List Frame → ℕ → Step → Stand → Type 0
+StepReaches s met at (Step.Frame v) y = (at < y .cursor .at) × (y .cursor .at ≤ length s) × Reaches s (met ++ (frameBy s v y ∷ [])) y
+StepReaches s met at Step.Ended y = accepted met ≡ verdict s
+StepReaches s met at (Step.Refused r) y = refused r ≡ verdict s
+
+-- What one turn comes to.
+abbrev TurnReaches : List ℕ → List Frame → ℕ → Turn → Type 0
+TurnReaches s met at (on y) = Reaches s met y
+TurnReaches s met at (stops z) = StepReaches s met at (z .step) (z .at)
+
+take-again : (m : ℕ) (l : List Settings) → take (length (take m l)) l ≡ take m l
+take-again zero l = refl
+take-again (suc m) [] = refl
+take-again (suc m) (a ∷ l) = ap (λ (u : List Settings). a ∷ u) (take-again m l)
+
+module _ {s : List ℕ} {met : List Frame} {x : Stand} (p : Reaches s met x) where
+  abbrev here : State
+  here = state (x .standing) (standsFor x) met
+
+  left : interpret s here (itemsFrom s (x .cursor)) ≡ verdict s
+  left = reached-verdict s (p .long) (p .reached)
+
+  module _ {i : Item} {d : Cursor} (found : nextOf s (x .cursor) ≡ Found i d) where
+    forward : (x .cursor .at < length s) × (x .cursor .at < d .at) × (d .at ≤ length s)
+    forward = let f = next-found s (x .cursor) refl found in (omega (arith, f .later, f .inside), f .later, f .inside)
+
+    room : x .cursor .at + 1 + 1 < 2 ^ 32
+    room = omega (arith, forward, p .long)
+
+    further : x .cursor .at + 1 + 1 ≤ d .at + 1
+    further = omega (arith, forward)
+
+    more-items : (x .items + 1) % 2 ^ 64 ≤ d .at
+    more-items = omega (arith, forward, p .items, p .long)
+
+    -- The item leads on.
+    leads-on : (st : Standing) (dates : Dates) (records : List Dated) → length records ≡ channelLimit → Kept (d .at + 1) dates records
+        → carried s here (effectOf s (x .standing) i) ≡ goes (state st (settledIn (st .root) dates records) met) → Reaches s met (behind x d st dates records (x .frames))
+    leads-on st dates records l k g = record { long = p .long; full = l; kept = k; items = more-items; count = p .count; reached = one-behind (p .reached) found g }
+
+    -- Nothing but what stands changes, and not the root settings.
+    stays : (st : Standing) → carried s here (effectOf s (x .standing) i) ≡ goes (state st (settledIn (st .root) (x .dates) (x .records)) met) → Reaches s met (behind x d st (x .dates) (x .records) (x .frames))
+    stays st g = leads-on st (x .dates) (x .records) (p .full) (kept-longer (p .kept) (omega (arith, further))) g
+
+    refuses-here : (n : ℕ) → carried s here (effectOf s (x .standing) i) ≡ refuses n → refused (refusal n (placeAt i)) ≡ verdict s
+    refuses-here n g = sym (interpret-refuses s here i (itemsFrom s d) n g) ∙ ap (interpret s here) (sym (items-found s (x .cursor) i d found)) ∙ left
+
+    module _ {start len : ℕ} (a : Effect.Frame start len ≡ effectOf s (x .standing) i) where
+      abbrev count : ℕ
+      count = channelsOf (x .standing .counted)
+
+      abbrev laid : Layout
+      laid = layoutOf 0 (take count (standsFor x))
+
+      few : count ≤ channelLimit
+      few = count-few (p .long) (p .reached) (p .count) 0 laid refl
+
+      shown : channelsAt x ≡ take count (standsFor x)
+      shown = let e : min count channelLimit ≡ count = omega (arith, few) in ap (λ (n : ℕ). take n (standsFor x)) e
+
+      abbrev given : Framed
+      given = framedBy (x .frames) (x .standing) (laid .agree) (laid .octets) len
+
+      framed-reaches : (f : Framed) → given ≡ f → TurnReaches s met (x .cursor .at) (framedTurn x d (placeAt i) start len f)
+      unfolding framedTurn withFrame
+      framed-reaches (Framed.Taken n st) e =
+          let g = frame-carried (p .long) (p .reached) (p .count) 0 laid refl i start len a refl e in
+          let root = taken-root (p .long) (p .reached) (p .count) 0 laid refl i a refl e in
+          let same : standsFor x ≡ settledIn (st .root) (x .dates) (x .records) = ap (λ (r : Settings). settledIn r (x .dates) (x .records)) (sym root) in
+          let channels : take count (standsFor x) ≡ take (length (channelsAt x)) (settledIn (st .root) (x .dates) (x .records)) =
+          sym shown ∙ sym (take-again (min count channelLimit) (standsFor x)) ∙ ap (take (length (channelsAt x))) same in (
+            forward .1,
+            forward .2,
+            record {
+              long = p .long;
+              full = p .full;
+              kept = kept-longer (p .kept) (omega (arith, further));
+              items = more-items;
+              count = rw length-append (omega (arith, p .count));
+              reached = one-behind (p .reached) found
+                  (g
+                  ∙ (λ k. goes
+                  (state st (same k)
+                  (met
+                  ++ (record {
+                    start = x .standing .start;
+                    place = start;
+                    little = x .standing .little;
+                    sequences = n;
+                    channels = channels k;
+                    waveform = take len (drop start s);
+                  } ∷ [])))));
+            },
+          )
+      framed-reaches (Framed.Refused n) e = refuses-here n (frame-carried (p .long) (p .reached) (p .count) 0 laid refl i start len a refl e)
+
+    effect-reaches : (e : Effect) → e ≡ effectOf s (x .standing) i → TurnReaches s met (x .cursor .at) (effectTurn x d (placeAt i) e)
+    unfolding effectTurn carried layoutOf
+    effect-reaches Effect.Pass a = stays (x .standing) (ap (carried s here) (sym a))
+    effect-reaches (Effect.Order little) a = stays (standingAfter (x .standing) (Effect.Order little)) (ap (carried s here) (sym a))
+    effect-reaches (Effect.Count n) a =
+        leads-on (standingAfter (x .standing) (Effect.Count n)) (allCleared (x .dates)) (x .records) (p .full) (kept-longer (kept-cleared (p .kept) room) further)
+        (ap (carried s here) (sym a) ∙ carried-count s (x .standing) (x .dates) (x .records) met (p .kept) (p .full) n)
+    effect-reaches (Effect.Sequences n) a = stays (standingAfter (x .standing) (Effect.Sequences n)) (ap (carried s here) (sym a))
+    effect-reaches (Effect.Start z) a = stays (standingAfter (x .standing) (Effect.Start z)) (ap (carried s here) (sym a))
+    effect-reaches (Effect.All ch) a =
+        leads-on (standingAfter (x .standing) (Effect.All ch)) (rootDefined ch (x .dates)) (x .records) (p .full) (kept-longer (kept-root (p .kept) room ch) further)
+        (ap (carried s here) (sym a) ∙ carried-all s (x .standing) (x .dates) (x .records) met (p .kept) (p .full) ch room)
+    effect-reaches (Effect.One channel ch) a =
+        leads-on (x .standing) (x .dates) (oneNoted x channel (applied ch)) (length-set (x .records) channel _ ∙ p .full) (kept-longer (kept-set (p .kept) channel _) (omega (arith, further)))
+        (ap (carried s here) (sym a) ∙ carried-one s (x .standing) (x .dates) (x .records) met (p .kept) (p .full) channel ch)
+    effect-reaches (Effect.Frame start len) a =
+        subst (λ (cs : List Settings). TurnReaches s met (x .cursor .at) (framedTurn x d (placeAt i) start len (framedBy (x .frames) (x .standing) (allAgree cs) (sequenceOctets cs) len))) (sym (shown a)) (framed-reaches a (given a) refl)
+    effect-reaches (Effect.Refused n) a = refuses-here n (ap (carried s here) (sym a))
+
+  next-reaches : (n : Next) → nextOf s (x .cursor) ≡ n → TurnReaches s met (x .cursor .at) (nextTurn s x n)
+  unfolding nextTurn interpret
+  next-reaches (Next.Found i d) e = effect-reaches e (effectOf s (x .standing) i) refl
+  next-reaches Next.End e = ap (interpret s here) (sym (items-end s (x .cursor) e)) ∙ left
+  next-reaches (Next.Refused r) e = ap (interpret s here) (sym (items-refused s (x .cursor) r e)) ∙ left
+
+  turn-reaches : TurnReaches s met (x .cursor .at) (turnOf s x)
+  unfolding turnOf
+  turn-reaches = next-reaches (nextOf s (x .cursor)) refl
+
+-- ---- an advance
+
+further-back : (s : List ℕ) (met : List Frame) {a b : ℕ} → a ≤ b → (k : Step) (y : Stand) → StepReaches s met b k y → StepReaches s met a k y
+further-back s met h (Step.Frame v) y r = (omega (arith, r .0), r .1, r .2)
+further-back s met h Step.Ended y r = r
+further-back s met h (Step.Refused q) y r = r
+
+by-octets : (s : List ℕ) (met : List Frame) (k : ℕ) (x : Stand) → length s - x .cursor .at < k → Reaches s met x → StepReaches s met (x .cursor .at) (advanceOf s x .step) (advanceOf s x .at)
+by-octets s met zero x h p = let z : ⊥ = omega arith in absurd z
+by-octets s met (suc k) x h p = by-turn (turnOf s x) refl (λ y l q. by-octets s met k y l q)
+  where
+    by-turn : (t : Turn) → turnOf s x ≡ t → ((y : Stand) → length s - y .cursor .at < k → Reaches s met y → StepReaches s met (y .cursor .at) (advanceOf s y .step) (advanceOf s y .at))
+        → StepReaches s met (x .cursor .at) (advanceOf s x .step) (advanceOf s x .at)
+    by-turn (on y) e ih =
+        let l = subst (Later (length s) (x .cursor .at)) e (turn-later s x) in
+        rw (advance-on s x y e)
+        (further-back s met (omega arith) (advanceOf s y .step) (advanceOf s y .at) (ih y (omega arith) (subst (TurnReaches s met (x .cursor .at)) e (turn-reaches p))))
+    by-turn (stops z) e ih = rw (advance-stops s x z e) (subst (TurnReaches s met (x .cursor .at)) e (turn-reaches p))
+
+pub advance-reaches : {s : List ℕ} {met : List Frame} {x : Stand} → Reaches s met x → StepReaches s met (x .cursor .at) (advanceOf s x .step) (advanceOf s x .at)
+advance-reaches {s} {met} {x} p = by-octets s met (suc (length s - x .cursor .at)) x (omega arith) p
+
+-- ---- all frames
+
+joined-in : (s : List ℕ) (met : List Frame) (k : ℕ) (x : Stand) → length s - x .cursor .at < k → Reaches s met x → joinedIn k s met x ≡ verdict s
+unfolding joinedIn joinedBy
+joined-in s met zero x h p = let z : ⊥ = omega arith in absurd z
+joined-in s met (suc k) x h p = by-step (advanceOf s x .step) (advanceOf s x .at) (advance-reaches p) (λ fs y l q. joined-in s fs k y l q)
+  where
+    by-step : (j : Step) (y : Stand) → StepReaches s met (x .cursor .at) j y
+        → ((fs : List Frame) (z : Stand) → length s - z .cursor .at < k → Reaches s fs z → joinedIn k s fs z ≡ verdict s) → joinedBy (joinedIn k s) s met j y ≡ verdict s
+    by-step (Step.Frame v) y r ih = ih (met ++ (frameBy s v y ∷ [])) y (omega (arith, r .0, r .1)) (r .2)
+    by-step Step.Ended y r ih = r
+    by-step (Step.Refused q) y r ih = r
+
+-- The frames that a walk stops at, from the first item on, are the verdict's.
+pub joined-verdict : (s : List ℕ) → length s ≤ octetsLimit → joined s [] firstStand ≡ verdict s
+unfolding joined
+joined-verdict s h = joined-in s [] (suc (length s - 0)) firstStand (omega arith) (reaches-first s h)
