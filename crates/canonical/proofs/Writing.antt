@@ -15,7 +15,7 @@ use native.Mathlib.Omega.{arith}
 use types.Run.{OneOf, miss}
 use denote.Enum.Declared.{tagOf}
 use borrow.Author.Tests.{le-leb, lt-leb}
-use lib.ListN.{length, getD, take, drop, replicate, length-append, length-replicate, length-map}
+use lib.ListN.{length, getD, take, drop, length-append, length-map}
 use lib.Seq.{getD-append-seam}
 use lib.IntN.{ℤ}
 use lib.Signed.{mag}
@@ -25,41 +25,26 @@ use mir.Facts.{toZ-ofZ}
 use Rattle.octets.specs.Number.{Octets}
 use Rattle.octets.proofs.Pick.{both-false}
 use Rattle.octets.proofs.Laws.{take-octets, drop-octets}
-use Rattle.items.specs.declared.Item.{Item}
 use Rattle.items.specs.declared.Cursor.{Cursor}
 use Rattle.heads.specs.declared.Refusal.{Refusal}
-use Rattle.items.specs.declared.Next.{Next}
-use Rattle.items.specs.declared.Next.the-variants.{Found, End}
-use Rattle.items.specs.declared.Within.the-variants.{Root}
 use Rattle.heads.specs.Refusals.{noRoom}
-use Rattle.items.specs.Walk.{nextOf, itemsFrom, cursor, refusal}
-use Rattle.items.proofs.Walks.{items-found, items-end, items-refused}
+use Rattle.items.specs.Walk.{itemsFrom, cursor}
 use Rattle.stores.specs.Length.{shortest}
 use Rattle.stores.specs.Storing.{Put, Putting, put-fits}
 use Rattle.stores.proofs.Stores.{put-then, put-long, sets-front}
 use Rattle.settings.specs.declared.Settings.{Settings}
-use Rattle.settings.specs.Settings.{channelLimit, defaultSettings, defaultTable}
+use Rattle.settings.specs.Settings.{channelLimit}
 use Rattle.layout.specs.Frame.{Frame, samplesOctets, reported}
-use Rattle.layout.specs.declared.Layout.{Layout}
-use Rattle.layout.specs.Measure.{layoutOf}
 use Rattle.layout.specs.Size.{groupsSize, frameSize}
-use Rattle.standing.specs.declared.Standing.{Standing}
-use Rattle.effects.specs.declared.Effect.{Effect}
-use Rattle.framing.specs.declared.Framed.{Framed}
-use Rattle.framing.specs.declared.Framed.the-variants.{Taken}
-use Rattle.standing.specs.Standing.{octetsLimit, framesLimit, firstStanding}
-use Rattle.effects.specs.Effects.{effectOf, valueAt}
-use Rattle.framing.specs.Framing.{channelsOf}
-use Rattle.framing.specs.AnyNumbers.{framedBy}
-use Rattle.verdict.specs.Verdict.{State, state, goes, refuses, frameAt, withFrame, carried, placeAt, Verdict, accepted, refused, interpret, verdict}
+use Rattle.standing.specs.Standing.{octetsLimit}
+use Rattle.effects.specs.Effects.{valueAt}
+use Rattle.verdict.specs.Verdict.{State, state, Verdict, accepted, refused, interpret, verdict}
 use Rattle.pass.specs.Scan.{zeroFrame, sizeOf, sizes, scannedIn, scanOf}
 use Rattle.pass.specs.declared.Asked.{Asked}
 use Rattle.verdict.specs.declared.Checked.{Checked}
 use Rattle.pass.specs.declared.Scan.{Scan}
-use Rattle.verdict.specs.Reached.{Reached, begin, behind}
-use Rattle.verdict.proofs.Keeps.{Keeps, frames-kept, interpret-refuses, interpret-finished, interpret-fault, reached-verdict}
+use Rattle.verdict.proofs.Keeps.{Keeps, frames-kept, reached-verdict}
 use Rattle.verdict.proofs.Steps.{meaning-steps, step-grown}
-use Rattle.verdict.proofs.Bounds.{reached-bounded}
 use Rattle.framing.proofs.Framings.{pointer-small}
 use Rattle.dated.proofs.Tables.{table-long}
 use Rattle.layout.proofs.Laws.{take-few}

@@ -15,9 +15,9 @@ use heads::Refusal;
 use pass::Asked;
 use records::Records;
 use standing::Standing;
+use verdict::Checked;
 use walk::Head;
 use walk::Step;
-use verdict::Checked;
 
 // The canonical file's length, or a refusal.
 pub enum Written {

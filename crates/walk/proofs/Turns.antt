@@ -9,13 +9,11 @@ use mathlib.Core.Bool.{Bool, not}
 use mathlib.Core.List.{List, [], _∷_}
 use Prim.Native.Nat.{ℕ, zero, suc, _+_, _-_, _*_, _%_, _^_, _≤_, _<_, min}
 use native.Mathlib.Omega.{arith}
-use native.Mathlib.Decide.{decLt}
 use types.Run.{OneOf, miss}
 use denote.Enum.Declared.{tagOf}
 use borrow.Author.Tests.{leb-false}
 use lib.Dec.{eqb, ltb, leb}
 use lib.ListN.{length, take, getD, set, length-take}
-use lib.Seq.{take-all}
 use Rattle.octets.proofs.Pick.{pick-cases}
 use Rattle.heads.specs.declared.Refusal.{Refusal}
 use Rattle.items.specs.declared.Item.{Item}
@@ -26,15 +24,14 @@ use Rattle.items.specs.Walk.{nextOf, refusal}
 use Rattle.items.proofs.Walks.{next-found}
 use Rattle.settings.specs.declared.Settings.{Settings}
 use Rattle.settings.specs.declared.Change.{Change}
-use Rattle.settings.specs.Settings.{channelLimit, zeroSettings, applied}
+use Rattle.settings.specs.Settings.{channelLimit, applied}
 use Rattle.dated.specs.declared.Dated.{Dated}
 use Rattle.dated.specs.declared.Dates.{Dates}
-use Rattle.dated.specs.Dated.{noted, zeroDated, rootDefined, allCleared, settledAt, settledIn}
-use Rattle.dated.proofs.Tables.{table-long, table-at}
+use Rattle.dated.specs.Dated.{noted, zeroDated, rootDefined, allCleared, settledAt}
+use Rattle.dated.proofs.Tables.{table-long}
 use Rattle.layout.specs.declared.Layout.{Layout}
 use Rattle.layout.specs.Frame.{sequenceOctets}
-use Rattle.layout.specs.Measure.{More, layoutOf}
-use Rattle.layout.proofs.Laws.{Summing, summing-more}
+use Rattle.layout.specs.Measure.{layoutOf}
 use Rattle.standing.specs.declared.Standing.{Standing}
 use Rattle.standing.specs.Standing.{octetsLimit, framesLimit}
 use Rattle.effects.specs.declared.Effect.{Effect}
@@ -45,7 +42,6 @@ use Rattle.framing.specs.Framing.{channelsOf, sequencesOf, pointerFits, framedA
 use Rattle.framing.specs.AnyNumbers.{framedBy}
 use Rattle.verdict.specs.Verdict.{placeAt}
 use Rattle.records.specs.Records.{recordsIn}
-use Rattle.records.proofs.Channels.{take-there}
 use Rattle.walk.specs.declared.Waveform.{Waveform}
 use Rattle.walk.specs.declared.Step.{Step}
 use Rattle.walk.specs.declared.Head.{Head}

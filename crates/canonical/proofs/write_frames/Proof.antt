@@ -1,7 +1,7 @@
 -- Frame after frame of the walk: what is written so far is the canonical file of the frames met so far.
 use borrow.Author.Needs.{needs}
-use mathlib.Core.Path.{_≡_, refl, sym, ap, _∙_}
-use mathlib.Core.List.{List, [], _∷_, map}
+use mathlib.Core.Path.{_≡_, sym, _∙_}
+use mathlib.Core.List.{List, [], map}
 use Prim.Native.Nat.{ℕ, _≤_, _-_}
 use native.Mathlib.Omega.{arith}
 use lib.ListN.{length, length-replicate}
@@ -10,8 +10,7 @@ use Rattle.standing.specs.Standing.{octetsLimit}
 use Rattle.records.specs.Records.{tableWords, recordsIn, outdated, Holding}
 use Rattle.records.proofs.Laws.{records-full}
 use Rattle.walk.specs.declared.Head.{Head}
-use Rattle.walk.specs.declared.Step.{Step}
-use Rattle.walk.specs.Advance.{stop, firstHead, standOf}
+use Rattle.walk.specs.Advance.{firstHead, standOf}
 use Rattle.walk.proofs.Joins.{Reaches, reaches-cleared}
 use Rattle.canonical.proofs.Writing.{Writing, ready-small, writing-first, writing-later, frame-start, writing-frame, written-done}
 use Rattle.canonical.proofs.write_frames.Statement.{statement}
@@ -72,9 +71,10 @@ loop-less : tie.Need-loop-less Inv-loop μ-loop
 loop-less c = omega (arith, writing-later (c .before .before .before .before .before .before .before .before .before .before .before .before .before .before .before .before .before .before .loop .inv .0) (c .before .before .before .before .before .before .before .before .before .before .before .before .step .given .1) (c .before .before .before .before .before .before .before .before .before .before .before .before .before .before .before .before .advance .ensures .same))
 
 loop-again : tie.Need-loop-again Inv-loop μ-loop
-loop-again c =
-    (writing-frame (c .before .before .before .before .before .before .before .before .before .before .before .before .before .before .before .before .before .before .loop .inv .0) (c .before .before .before .before .before .before .before .before .before .before .before .before .step .given .1) (c .before .before .before .before .before .before .before .before .before .before .before .before .before .before .before .before .advance .ensures .same) (λ (k : ℕ). omega (arith, c .before .before .before .before .before .before .before .before .before .before .before .before .before .before .before .before .before .before .before .before .before .before .before .before .before .before .before .before .shared-slice-known .given k)) (c .before .before .before .before .before .before .before .before .before .before .part .ensures) (c .before .before .put-frame .ensures),
-    c .before .before .before .before .before .before .before .before .before .before .before .before .before .before .before .before .advance .ensures .long ∙ c .before .before .before .before .before .before .before .before .before .before .before .before .before .before .before .before .before .before .loop .inv .1)
+loop-again c = (
+  writing-frame (c .before .before .before .before .before .before .before .before .before .before .before .before .before .before .before .before .before .before .loop .inv .0) (c .before .before .before .before .before .before .before .before .before .before .before .before .step .given .1) (c .before .before .before .before .before .before .before .before .before .before .before .before .before .before .before .before .advance .ensures .same) (λ (k : ℕ). omega (arith, c .before .before .before .before .before .before .before .before .before .before .before .before .before .before .before .before .before .before .before .before .before .before .before .before .before .before .before .before .shared-slice-known .given k)) (c .before .before .before .before .before .before .before .before .before .before .part .ensures) (c .before .before .put-frame .ensures),
+  c .before .before .before .before .before .before .before .before .before .before .before .before .before .before .before .before .advance .ensures .long ∙ c .before .before .before .before .before .before .before .before .before .before .before .before .before .before .before .before .before .before .loop .inv .1,
+)
 
 same-length : tie.Need-same-length Inv-loop μ-loop
 same-length c = put-long (c .before .before .before .before .before .loop .inv .0 .put) ∙ put-long (c .before .before .before .before .before .before .before .before .before .before .before .before .put-order .ensures)

@@ -1,15 +1,9 @@
 -- The blocks still to come of a sequence, and the sequences still to come, stored from here on, give the wanted buffer.
 use borrow.Author.Needs.{needs}
-use mathlib.Core.Path.{_≡_, ap, sym, _∙_}
-use mathlib.Core.List.{List}
-use Prim.Native.Nat.{ℕ, _-_, _^_, _≤_, _<_}
+use Prim.Native.Nat.{_-_, _^_, _<_}
 use native.Mathlib.Omega.{arith}
-use lib.ListN.{length, take, getD}
-use Rattle.settings.specs.declared.Settings.{Settings}
-use Rattle.settings.specs.Settings.{zeroSettings}
-use Rattle.dated.specs.declared.Dates.{Dates}
-use Rattle.dated.specs.Dated.{zeroDated, settledAt}
-use Rattle.records.specs.Records.{recordsIn, channelsIn}
+use lib.ListN.{length, take}
+use Rattle.records.specs.Records.{channelsIn}
 use Rattle.frames.specs.Parts.{Few}
 use Rattle.frames.proofs.Coming.{Nth, nth, taken-long, blocks-sum, Blocks, blocks-first, blocks-next, blocks-place, blocks-done, Sequences, sequences-first, sequences-fit, sequences-room, sequences-next, sequences-done}
 use Rattle.frames.proofs.put_blocks.Statement.{statement}

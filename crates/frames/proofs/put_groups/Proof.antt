@@ -1,15 +1,9 @@
 -- The groups still to come, stored from here on, give the wanted buffer.
 use borrow.Author.Needs.{needs}
-use mathlib.Core.Path.{_≡_, ap, sym, _∙_}
-use mathlib.Core.List.{List}
-use Prim.Native.Nat.{ℕ, _-_, _≤_, _<_}
+use Prim.Native.Nat.{_-_}
 use native.Mathlib.Omega.{arith}
-use lib.ListN.{length, take, getD}
-use Rattle.settings.specs.declared.Settings.{Settings}
-use Rattle.settings.specs.Settings.{zeroSettings}
-use Rattle.dated.specs.declared.Dates.{Dates}
-use Rattle.dated.specs.Dated.{zeroDated, settledAt}
-use Rattle.records.specs.Records.{recordsIn, channelsIn}
+use lib.ListN.{take}
+use Rattle.records.specs.Records.{channelsIn}
 use Rattle.frames.specs.Parts.{Few}
 use Rattle.frames.proofs.Coming.{Grouped, grouped-first, grouped-next, grouped-done, nth, taken-long}
 use Rattle.frames.proofs.put_groups.Statement.{statement}

@@ -1,9 +1,9 @@
 -- Summed up channel by channel.
 use borrow.Author.Needs.{needs}
-use mathlib.Core.Path.{_≡_, refl, sym, ap, _∙_}
-use Prim.Native.Nat.{ℕ, _≤_, _-_, min}
+use mathlib.Core.Path.{sym, ap, _∙_}
+use Prim.Native.Nat.{_≤_, _-_, min}
 use native.Mathlib.Omega.{arith}
-use lib.ListN.{length, take}
+use lib.ListN.{length}
 use Rattle.settings.specs.Settings.{channelLimit}
 use Rattle.dated.proofs.Tables.{table-long}
 use Rattle.layout.specs.Measure.{layoutOf}

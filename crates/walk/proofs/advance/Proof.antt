@@ -188,9 +188,10 @@ loop-again-3 c =
     let at-one = at-settled .before .before .before in
     let k = at-one .before .before in
     let inv = at-loop k .loop .inv in
-    let stored = at-put .put .ensures in
-    (turning-one (turn k) (at-one .effect2 .given .1) (at-settled .settled .ensures) (at-put .before .before .apply .ensures) (at-put .before .note .ensures) (stored .records) (k .before .wrapping-add-u64 .ensures) ∙ inv .0,
-    stored .long ∙ inv .1)
+    let stored = at-put .put .ensures in (
+      turning-one (turn k) (at-one .effect2 .given .1) (at-settled .settled .ensures) (at-put .before .before .apply .ensures) (at-put .before .note .ensures) (stored .records) (k .before .wrapping-add-u64 .ensures) ∙ inv .0,
+      stored .long ∙ inv .1,
+    )
 
 enum-known-effect-3 : tie.Need-enum-known-effect-3 Inv-loop μ-loop
 enum-known-effect-3 c = search needs
