@@ -9,13 +9,13 @@
 use mathlib.Core.Path.{_≡_, refl, sym, ap, subst, _∙_}
 use mathlib.Core.List.{List, [], _∷_, _++_, map, append-assoc, append-nil, map-append}
 use mathlib.Core.Bool.{Bool, true, false}
-use Prim.Native.Nat.{ℕ, suc, _+_, _^_, _≤_, _<_}
+use Prim.Native.Nat.{min, ℕ, suc, _+_, _^_, _≤_, _<_}
 use native.Mathlib.Nat.{zero-add, add-assoc}
 use native.Mathlib.Omega.{arith}
 use types.Run.{OneOf, miss}
 use denote.Enum.Declared.{tagOf}
 use borrow.Author.Tests.{le-leb, lt-leb}
-use lib.ListN.{length, getD, take, drop, replicate, length-append, length-replicate, length-map}
+use lib.ListN.{length, getD, take, drop, length-append, length-map}
 use lib.Seq.{getD-append-seam}
 use lib.IntN.{ℤ}
 use lib.Signed.{mag}
@@ -25,46 +25,35 @@ use mir.Facts.{toZ-ofZ}
 use Rattle.octets.specs.Number.{Octets}
 use Rattle.octets.proofs.Pick.{both-false}
 use Rattle.octets.proofs.Laws.{take-octets, drop-octets}
-use Rattle.items.specs.declared.Item.{Item}
 use Rattle.items.specs.declared.Cursor.{Cursor}
 use Rattle.heads.specs.declared.Refusal.{Refusal}
-use Rattle.items.specs.declared.Next.{Next}
-use Rattle.items.specs.declared.Next.the-variants.{Found, End}
-use Rattle.items.proofs.Next.{the-type}
-use Rattle.items.specs.declared.Within.the-variants.{Root}
 use Rattle.heads.specs.Refusals.{noRoom}
-use Rattle.items.specs.Walk.{nextOf, itemsFrom, cursor, refusal}
-use Rattle.items.proofs.Walks.{items-found, items-end, items-refused}
+use Rattle.items.specs.Walk.{itemsFrom, cursor}
 use Rattle.stores.specs.Length.{shortest}
 use Rattle.stores.specs.Storing.{Put, Putting, put-fits}
 use Rattle.stores.proofs.Stores.{put-then, put-long, sets-front}
 use Rattle.settings.specs.declared.Settings.{Settings}
-use Rattle.settings.specs.Settings.{channelLimit, defaultSettings, defaultTable}
+use Rattle.settings.specs.Settings.{channelLimit}
 use Rattle.layout.specs.Frame.{Frame, samplesOctets, reported}
-use Rattle.layout.specs.declared.Layout.{Layout}
-use Rattle.layout.specs.Measure.{layoutOf}
 use Rattle.layout.specs.Size.{groupsSize, frameSize}
-use Rattle.standing.specs.declared.Standing.{Standing}
-use Rattle.effects.specs.declared.Effect.{Effect}
-use Rattle.framing.specs.declared.Framed.{Framed}
-use Rattle.framing.specs.declared.Framed.the-variants.{Taken}
-use Rattle.standing.specs.Standing.{octetsLimit, framesLimit, firstStanding}
-use Rattle.effects.specs.Effects.{effectOf, valueAt}
-use Rattle.framing.specs.Framing.{channelsOf}
-use Rattle.framing.specs.AnyNumbers.{framedBy}
-use Rattle.verdict.specs.Verdict.{State, state, goes, refuses, frameAt, withFrame, carried, placeAt, Verdict, accepted, refused, interpret, verdict}
+use Rattle.standing.specs.Standing.{octetsLimit}
+use Rattle.effects.specs.Effects.{valueAt}
+use Rattle.verdict.specs.Verdict.{State, state, Verdict, accepted, refused, interpret, verdict}
 use Rattle.pass.specs.Scan.{zeroFrame, sizeOf, sizes, scannedIn, scanOf}
 use Rattle.pass.specs.declared.Asked.{Asked}
 use Rattle.verdict.specs.declared.Checked.{Checked}
 use Rattle.pass.specs.declared.Scan.{Scan}
-use Rattle.verdict.specs.Reached.{Reached, begin, behind}
-use Rattle.verdict.proofs.Keeps.{Keeps, frames-kept, interpret-refuses, interpret-finished, interpret-fault, reached-verdict}
+use Rattle.verdict.proofs.Keeps.{Keeps, frames-kept, reached-verdict}
 use Rattle.verdict.proofs.Steps.{meaning-steps, step-grown}
-use Rattle.verdict.proofs.Bounds.{reached-bounded}
 use Rattle.framing.proofs.Framings.{pointer-small}
-use Rattle.settings.proofs.Shown.{shown, shown-none}
-use Rattle.verdict.proofs.Frames.{frame-carried, taken-few, taken-root}
-use Rattle.canonical.proofs.Filled.{shownBy, Records, Filling, frame-shown}
+use Rattle.dated.proofs.Tables.{table-long}
+use Rattle.layout.proofs.Laws.{take-few}
+use Rattle.walk.specs.declared.Waveform.{Waveform}
+use Rattle.walk.specs.declared.Step.{Step}
+use Rattle.walk.proofs.Step.{the-type}
+use Rattle.walk.specs.Advance.{Stand, standsFor, Stop, stop, advanceOf}
+use Rattle.walk.specs.Joined.{frameBy}
+use Rattle.walk.proofs.Joins.{Reaches, StepReaches, advance-reaches}
 use Rattle.reader.proofs.Ordered.{Lies, accepted-lies, accepted-small}
 use Rattle.groups.specs.Item.{itemOctets}
 use Rattle.groups.specs.Head.{headItems}
@@ -167,108 +156,72 @@ head-put h p q =
     let u = put-fits (omega arith) p in
     put-then u (put-fits (omega (arith, put-long u, u .next)) q)
 
--- ---- the pass
+-- ---- the walk
 
--- What is known where the pass stands before the item at a cursor: d is the buffer behind which the first three octets are written, e as it is now.
-pub record Writing (s d : List ℕ) (table : List Settings) (c : Cursor) (st : Standing) (frames at : ℕ) (e : List ℕ) : Type 0 where
+-- What is known where the walk stands: d is the buffer behind which the first three octets are written, e as it is now.
+pub record Writing (s d : List ℕ) (x : Stand) (at : ℕ) (e : List ℕ) : Type 0 where
   pub is : verdict s ≡ accepted (framesIn (verdict s))
   pub some : length (framesIn (verdict s)) ≡ 0 → ⊥
   pub room : 3 + sizes (framesIn (verdict s)) ≤ length d
   pub met : List Frame
-  pub reached : Reached s (state st table met) c
-  pub count : frames ≡ length met
+  pub reaches : Reaches s met x
   pub put : Put d 3 (writtenSoFar met) at e
 
+pub ready-small : {s d : List ℕ} → Ready s d → length s ≤ octetsLimit
+ready-small {s = s} r = accepted-small s (framesIn (verdict s)) (r .is)
+
 -- Before the first item.
-pub writing-first : {s d e : List ℕ} (table : List Settings) (c : Cursor) (st : Standing) {at : ℕ} → Ready s d → table ≡ defaultTable → c ≡ cursor 0 Root → st ≡ firstStanding → Put d 0 (0x01 ∷ 0x01 ∷ 0x00 ∷ []) at e → Writing s e table c st 0 at e
+pub writing-first : {s d e : List ℕ} {x : Stand} {at : ℕ} → Ready s d → Reaches s [] x → Put d 0 (0x01 ∷ 0x01 ∷ 0x00 ∷ []) at e → Writing s e x at e
 unfolding framesOctets recording
-writing-first table c st r et ec es p =
-    rw (et, ec, es)
-    record {
-      is = r .is;
-      some = r .some;
-      room = omega (arith, r .room, put-long p);
-      met = [];
-      reached = begin;
-      count = refl;
-      put = record { next = p .next; stored = refl };
-    }
+writing-first r q p =
+    record { is = r .is; some = r .some; room = omega (arith, r .room, put-long p); met = []; reaches = q; put = record { next = p .next; stored = refl } }
 
-module _ {s d : List ℕ} {table : List Settings} {c : Cursor} {st : Standing} {frames at : ℕ} {e : List ℕ} (p : Writing s d table c st frames at e) where
-  abbrev writing-state : State
-  writing-state = state st table (p .met)
+module _ {s d : List ℕ} {x : Stand} {at : ℕ} {e : List ℕ} (p : Writing s d x at e) where
+  abbrev all : List Frame
+  all = framesIn (verdict s)
 
-  short : length s ≤ octetsLimit
-  short = accepted-small s (framesIn (verdict s)) (p .is)
-
-  left : interpret s writing-state (itemsFrom s c) ≡ accepted (framesIn (verdict s))
-  left = reached-verdict s short (p .reached) ∙ p .is
-
-  -- An item that gives no frame.
-  pub writing-goes : {n : Next} {i : Item} {d' : Cursor} {table' : List Settings} {st' : Standing} → n ≡ nextOf s c → n ≡ Found i d' → carried s writing-state (effectOf s st i) ≡ goes (state st' table' (p .met)) → Writing s d table' d' st' frames at e
-  writing-goes a b g = record { is = p .is; some = p .some; room = p .room; met = p .met; reached = behind (p .reached) (sym a ∙ b) g; count = p .count; put = p .put }
+  -- What an advance comes to.
+  comes : {k : Step} {y : Stand} → stop k y ≡ advanceOf s x → StepReaches s (p .met) (x .cursor .at) k y
+  comes q = subst (λ (z : Stop). StepReaches s (p .met) (x .cursor .at) (z .step) (z .at)) (sym q) (advance-reaches (p .reaches))
 
   -- The end.
-  pub written-end : {n : Next} {o : List ℕ} {k : ℕ} → n ≡ nextOf s c → n ≡ End → Put o 0 (0x01 ∷ 0x01 ∷ 0x00 ∷ []) k d → Put o 0 (canonicalOf s) at e
+  written-end : {o : List ℕ} {k : ℕ} → accepted (p .met) ≡ verdict s → Put o 0 (0x01 ∷ 0x01 ∷ 0x00 ∷ []) k d → Put o 0 (canonicalOf s) at e
   unfolding canonicalOf
-  written-end a b q =
-      let v : accepted (p .met) ≡ accepted (framesIn (verdict s)) = sym (interpret-finished s writing-state) ∙ ap (interpret s writing-state) (sym (items-end s c (sym a ∙ b))) ∙ left in
-      let f : p .met ≡ framesIn (verdict s) = cc in
-      put-as (ap (λ (fs : List Frame). (0x01 ∷ 0x01 ∷ 0x00 ∷ []) ++ writtenSoFar fs) f ∙ so-far-all (framesIn (verdict s)) (p .some)) (put-then {u = 0x01 ∷ 0x01 ∷ 0x00 ∷ []} (record { next = refl; stored = q .stored }) (p .put))
+  written-end v q =
+      let w : accepted (p .met) ≡ accepted all = v ∙ p .is in
+      let f : p .met ≡ all = cc in
+      put-as (ap (λ (fs : List Frame). (0x01 ∷ 0x01 ∷ 0x00 ∷ []) ++ writtenSoFar fs) f ∙ so-far-all all (p .some)) (put-then {u = 0x01 ∷ 0x01 ∷ 0x00 ∷ []} (record { next = refl; stored = q .stored }) (p .put))
 
-  -- An accepted file has no fault of form.
-  pub never-fault : {n : Next} (r : Refusal) → n ≡ nextOf s c → n ≡ Next.Refused r → ⊥
-  never-fault r a b =
-      let v : refused r ≡ accepted (framesIn (verdict s)) = sym (interpret-fault s writing-state r) ∙ ap (interpret s writing-state) (sym (items-refused s c r (sym a ∙ b))) ∙ left in
+  -- An accepted file is not refused.
+  never-refused : (r : Refusal) → refused r ≡ verdict s → ⊥
+  never-refused r v =
+      let w : refused r ≡ accepted all = v ∙ p .is in
       let z : _≡_ {A = ℕ} 0 1 = cc in
       omega arith
 
-  -- So the pass ends where the items do.
-  pub written-done : (n : Next) {o : List ℕ} {k : ℕ} → OneOf (1 ∷ 2 ∷ []) (tagOf the-type n) → n ≡ nextOf s c → Put o 0 (0x01 ∷ 0x01 ∷ 0x00 ∷ []) k d → Put o 0 (canonicalOf s) at e
-  written-done (Found i d') h a q = absurd (miss (1 ∷ 2 ∷ []) 0 tt h)
-  written-done End h a q = written-end a refl q
-  written-done (Next.Refused r) h a q = absurd (never-fault r a refl)
+  -- So the walk ends where the items do.
+  pub written-done : (k : Step) {y : Stand} {o : List ℕ} {n : ℕ} → OneOf (1 ∷ 2 ∷ []) (tagOf the-type k) → stop k y ≡ advanceOf s x → Put o 0 (0x01 ∷ 0x01 ∷ 0x00 ∷ []) n d → Put o 0 (canonicalOf s) at e
+  written-done (Step.Frame v) h a q = absurd (miss (1 ∷ 2 ∷ []) 0 tt h)
+  written-done Step.Ended h a q = written-end (comes a) q
+  written-done (Step.Refused r) h a q = absurd (never-refused r (comes a))
 
-  -- Nor has it a refused item.
-  pub never-refuses : {n : Next} {i : Item} {d' : Cursor} (k : ℕ) → n ≡ nextOf s c → n ≡ Found i d' → carried s writing-state (effectOf s st i) ≡ refuses k → ⊥
-  never-refuses {i = i} {d' = d'} k a b g =
-      let v : refused (refusal k (placeAt i)) ≡ accepted (framesIn (verdict s)) = sym (interpret-refuses s writing-state i (itemsFrom s d') k g) ∙ ap (interpret s writing-state) (sym (items-found s c i d' (sym a ∙ b))) ∙ left in
-      let z : _≡_ {A = ℕ} 0 1 = cc in
-      omega arith
+  -- ---- a frame
 
--- ---- a frame
+  module _ {k : Step} {v : Waveform} {y : Stand} (b : k ≡ Step.Frame v) (stops : stop k y ≡ advanceOf s x) where
+    a : stop (Step.Frame v) y ≡ advanceOf s x
+    a = ap (λ (j : Step). stop j y) (sym b) ∙ stops
 
-module _ {s d : List ℕ} {table : List Settings} {c : Cursor} {st : Standing} {frames at : ℕ} {e : List ℕ} (p : Writing s d table c st frames at e)
-    (count : ℕ) (l : Layout) (ec : count ≡ channelsOf (st .counted)) (el : l ≡ layoutOf 0 (take count table)) where
-  counted : l ≡ layoutOf 0 (take (channelsOf (st .counted)) table)
-  counted = el ∙ ap (λ (k : ℕ). layoutOf 0 (take k table)) ec
-
-  -- What the frame's waveform gives, as the pass computes it.
-  pub framed-carried : (i : Item) (start len : ℕ) {x : Effect} {r f : Framed} → x ≡ effectOf s st i → x ≡ Effect.Frame start len → r ≡ framedBy frames st (l .agree) (l .octets) len → r ≡ f → carried s (state st table (p .met)) (effectOf s st i) ≡ withFrame s (state st table (p .met)) start len f
-  framed-carried i start len a b = frame-carried (short p) (p .reached) (p .count) 0 l counted i start len (sym b ∙ a)
-
-  module _ {n : Next} {i : Item} {d' : Cursor} {start len sequences : ℕ} {x : Standing} {f : Effect} {r : Framed}
-      (en : n ≡ nextOf s c) (fn : n ≡ Found i d')
-      (ee : f ≡ effectOf s st i) (fe : f ≡ Effect.Frame start len)
-      (er : r ≡ framedBy frames st (l .agree) (l .octets) len) (fr : r ≡ Taken sequences x) where
     abbrev frame-there : Frame
-    frame-there = frameAt s (state st table (p .met)) start len sequences
+    frame-there = frameBy s v y
 
-    abbrev all : List Frame
-    all = framesIn (verdict s)
+    pub writing-later : (x .cursor .at < length s) × (x .cursor .at < y .cursor .at)
+    writing-later = let c = comes a in (omega (arith, c .0, c .1), c .0)
 
-    taken : carried s (state st table (p .met)) (effectOf s st i) ≡ goes (state x table (p .met ++ (frame-there ∷ [])))
-    unfolding withFrame
-    taken = framed-carried i start len ee fe er fr
-
-    reached-after : Reached s (state x table (p .met ++ (frame-there ∷ []))) d'
-    reached-after = behind (p .reached) (sym en ∙ fn) taken
-
-    same-after : interpret s (state x table (p .met ++ (frame-there ∷ []))) (itemsFrom s d') ≡ accepted all
-    same-after = reached-verdict s (short p) reached-after ∙ p .is
+    after : Reaches s (p .met ++ (frame-there ∷ [])) y
+    after = comes a .2
 
     grown : (rest : List Frame) × (all ≡ (p .met ++ (frame-there ∷ [])) ++ rest)
-    grown = frames-grow s (state x table (p .met ++ (frame-there ∷ []))) d' all same-after
+    grown = frames-grow s (state (y .standing) (standsFor y) (p .met ++ (frame-there ∷ []))) (y .cursor) all (reached-verdict s (after .long) (after .reached) ∙ p .is)
 
     split : all ≡ p .met ++ frame-there ∷ (grown .0)
     split = grown .1 ∙ append-assoc (p .met) (frame-there ∷ []) (grown .0)
@@ -283,101 +236,43 @@ module _ {s d : List ℕ} {table : List Settings} {c : Cursor} {st : Standing} {
         let h : length (p .met) < length all = omega arith in
         subst (Lies s) (ap (λ (fs : List Frame). getD fs (length (p .met)) zeroFrame) split ∙ getD-append-seam (p .met) frame-there (grown .0) zeroFrame) (accepted-lies s all (p .is) (length (p .met)) h)
 
-    same-there : take count table ≡ frame-there .channels
-    same-there = ap (λ (k : ℕ). take k table) ec
+    start-small : mag (v .start) < 2 ^ 31
+    start-small = pointer-small (v .start) (lies .pointer)
 
-    octets-there : samplesOctets (take count table) sequences ≡ samplesOctets (frame-there .channels) sequences
-    octets-there = ap (λ (cs : List Settings). samplesOctets cs sequences) same-there
+    pub frame-start : SFits w32 (readWide (v .start))
+    frame-start = narrow-fits (v .start) start-small
 
-    pub writing-few : frames < framesLimit
-    writing-few = taken-few (short p) (p .reached) (p .count) 0 l counted i (sym fe ∙ ee) er fr
-
-    pub frame-root : x .root ≡ st .root
-    frame-root = taken-root (short p) (p .reached) (p .count) 0 l counted i (sym fe ∙ ee) er fr
-
-    start-small : mag (st .start) < 2 ^ 31
-    start-small = pointer-small (st .start) (lies .pointer)
-
-    pub frame-start : SFits w32 (readWide (st .start))
-    frame-start = narrow-fits (st .start) start-small
+    abbrev channels : List Settings
+    channels = frame-there .channels
 
     -- Where the frame is written it fits.
-    frame-room : at + frameSize sequences (groupsSize 0 (take count table)) (samplesOctets (take count table) sequences) ≤ length e
+    frame-room : at + frameSize (v .sequences) (groupsSize 0 channels) (samplesOctets channels (v .sequences)) ≤ length e
     unfolding sizeOf
     frame-room =
-        let g : frameSize sequences (groupsSize 0 (take count table)) (samplesOctets (take count table) sequences) ≡ sizeOf frame-there = ap (λ (cs : List Settings). frameSize sequences (groupsSize 0 cs) (samplesOctets cs sequences)) same-there in
+        let g : frameSize (v .sequences) (groupsSize 0 channels) (samplesOctets channels (v .sequences)) ≡ sizeOf frame-there = refl in
         omega (arith, p .room, sized, put-long (p .put), p .put .next, frames-long (p .met))
 
     -- The frame written.
-    pub writing-frame : {w : List ℕ} {at' : ℕ} {e' : List ℕ} → Octets s → w ≡ valueAt s start len → Putting e at (frameGiven (narrowed (st .start)) (st .little) sequences (take count table) w) at' e' → Writing s d table d' x (frames + 1) at' e'
+    pub writing-frame : {w : List ℕ} {at' : ℕ} {e' : List ℕ} → Octets s → w ≡ valueAt s (v .place) (v .len)
+        → Putting e at (frameGiven (narrowed (v .start)) (v .little) (v .sequences) (take (min (v .channels) channelLimit) (standsFor y)) w) at' e' → Writing s d y at' e'
     writing-frame {w} {at'} {e'} o ew q =
-        let v : length w ≡ length (frame-there .waveform) = ap length ew in
-        let held : samplesOctets (take count table) sequences ≤ length w = omega (arith, octets-there, lies .fits) in
-        let few : samplesOctets (take count table) sequences ≤ octetsLimit = omega (arith, octets-there, lies .fits, lies .inside, accepted-small s all (p .is)) in
-        let k : frameParts (narrowed (st .start)) sequences (take count table) (samplesTurned (st .little) (take count table) sequences w) ≡ frameOctets (recordedFrame frame-there) =
-        (λ i. frameParts (narrow-is (st .start) start-small i) sequences (same-there i) (samplesTurned (st .little) (same-there i) sequences (ew i)))
-        ∙ ap (frameParts (frame-there .start) sequences (frame-there .channels)) (samples-are s frame-there lies (take-octets len (drop start s) (drop-octets start s o)))
+        let full = table-long (y .standing .root) (y .dates) (y .records) ∙ after .full in
+        let q' = subst (λ (cs : List Settings). Putting e at (frameGiven (narrowed (v .start)) (v .little) (v .sequences) cs w) at' e') (take-few (v .channels) (standsFor y) full) q in
+        let l : length w ≡ length (frame-there .waveform) = ap length ew in
+        let held : samplesOctets channels (v .sequences) ≤ length w = omega (arith, lies .fits) in
+        let few : samplesOctets channels (v .sequences) ≤ octetsLimit = omega (arith, lies .fits, lies .inside, after .long) in
+        let parts : frameParts (narrowed (v .start)) (v .sequences) channels (samplesTurned (v .little) channels (v .sequences) w) ≡ frameOctets (recordedFrame frame-there) =
+        (λ i. frameParts (narrow-is (v .start) start-small i) (v .sequences) channels (samplesTurned (v .little) channels (v .sequences) (ew i)))
+        ∙ ap (frameParts (v .start) (v .sequences) channels) (samples-are s frame-there lies (take-octets (v .len) (drop (v .place) s) (drop-octets (v .place) s o)))
         ∙ sym (frame-is frame-there) in
         record {
           is = p .is;
           some = p .some;
           room = p .room;
           met = p .met ++ (frame-there ∷ []);
-          reached = reached-after;
-          count = simp length-append (omega (arith, p .count));
-          put = put-as (so-far-more (p .met) frame-there) (put-then (p .put) (put-as k (frame-put (narrowed (st .start)) (st .little) sequences (take count table) w held few frame-room q)));
+          reaches = after;
+          put = put-as (so-far-more (p .met) frame-there) (put-then (p .put) (put-as parts (frame-put (narrowed (v .start)) (v .little) (v .sequences) channels w held few frame-room q')));
         }
-
--- ---- the pass over the records
-
--- The same where the records laid down and the root settings tell what all channels hold.
-pub record Going (s d : List ℕ) (table : List Settings) (own : ℕ) (c : Cursor) (st : Standing) (frames at : ℕ) (e : List ℕ) : Type 0 where
-  pub records : Records own table
-  pub pass : Writing s d (shownBy st own table) c st frames at e
-
-pub going-first : {s d e : List ℕ} (table : List Settings) (c : Cursor) (st : Standing) {at : ℕ} → Ready s d → table ≡ defaultTable → c ≡ cursor 0 Root → st ≡ firstStanding → Put d 0 (0x01 ∷ 0x01 ∷ 0x00 ∷ []) at e → Going s e table 0 c st 0 at e
-going-first table c st r et ec es p =
-    record {
-      records = record { low = omega arith; full = ap length et ∙ length-replicate channelLimit defaultSettings };
-      pass = writing-first (shownBy st 0 table) c st r (shown-none channelLimit (st .root) table ∙ ap (λ (x : Standing). replicate channelLimit (x .root)) es) ec es p;
-    }
-
-module _ {s d : List ℕ} {table : List Settings} {own : ℕ} {c : Cursor} {st : Standing} {frames at : ℕ} {e : List ℕ} (p : Going s d table own c st frames at e) where
-  -- Some records more are laid down.
-  pub going-filled : {own' : ℕ} {table' : List Settings} → Filling (st .root) own table own' table' → Going s d table' own' c st frames at e
-  going-filled f = record { records = f .records; pass = subst (λ (t : List Settings). Writing s d t c st frames at e) (sym (f .same)) (p .pass) }
-
-  pub going-counted : st .counted ≤ channelLimit
-  going-counted = reached-bounded s (p .pass .reached) .counted
-
-  -- An item that gives no frame.
-  pub going-goes : {n : Next} {i : Item} {d' : Cursor} {own' : ℕ} {table' : List Settings} {st' : Standing} → n ≡ nextOf s c → n ≡ Found i d' → Records own' table' → carried s (state st (shownBy st own table) (p .pass .met)) (effectOf s st i) ≡ goes (state st' (shownBy st' own' table') (p .pass .met)) → Going s d table' own' d' st' frames at e
-  going-goes a b k g = record { records = k; pass = writing-goes (p .pass) a b g }
-
-  module _ (count : ℕ) (l : Layout) (ec : count ≡ channelsOf (st .counted)) (el : l ≡ layoutOf 0 (take count table)) (few : count ≤ own) where
-    same-taken : take count table ≡ take count (shownBy st own table)
-    same-taken = frame-shown (p .records) st count few
-
-    laid : l ≡ layoutOf 0 (take count (shownBy st own table))
-    laid = el ∙ ap (layoutOf 0) same-taken
-
-    pub going-carried : (i : Item) (start len : ℕ) {x : Effect} {r f : Framed} → x ≡ effectOf s st i → x ≡ Effect.Frame start len → r ≡ framedBy frames st (l .agree) (l .octets) len → r ≡ f → carried s (state st (shownBy st own table) (p .pass .met)) (effectOf s st i) ≡ withFrame s (state st (shownBy st own table) (p .pass .met)) start len f
-    going-carried = framed-carried (p .pass) count l ec laid
-
-    module _ {n : Next} {i : Item} {d' : Cursor} {start len sequences : ℕ} {x : Standing} {f : Effect} {r : Framed}
-        (en : n ≡ nextOf s c) (fn : n ≡ Found i d')
-        (ee : f ≡ effectOf s st i) (fe : f ≡ Effect.Frame start len)
-        (er : r ≡ framedBy frames st (l .agree) (l .octets) len) (fr : r ≡ Taken sequences x) where
-      pub going-few : frames < framesLimit
-      going-few = writing-few (p .pass) count l ec laid en fn ee fe er fr
-
-      pub going-start : SFits w32 (readWide (st .start))
-      going-start = frame-start (p .pass) count l ec laid en fn ee fe er fr
-
-      pub going-frame : {w : List ℕ} {at' : ℕ} {e' : List ℕ} → Octets s → w ≡ valueAt s start len → Putting e at (frameGiven (narrowed (st .start)) (st .little) sequences (take count table) w) at' e' → Going s d table own d' x (frames + 1) at' e'
-      going-frame {w} {at'} {e'} o ew q =
-          let g = writing-frame (p .pass) count l ec laid en fn ee fe er fr o ew (rw same-taken at q) in
-          record { records = p .records; pass = subst (λ (r : Settings). Writing s d (shown channelLimit r own table) d' x (frames + 1) at' e') (sym (frame-root (p .pass) count l ec laid en fn ee fe er fr)) g }
 
 -- ---- what the writer answers
 

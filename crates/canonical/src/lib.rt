@@ -11,15 +11,13 @@ ghost use Prim.Native.Nat.{_≤_};
 ghost use lib.ListN.{length};
 ghost use Rattle.stores.specs.Storing.{Put};
 ghost use Rattle.canonical.specs.Write.{canonicalOf, Ready, writtenSays, Wrote};
-use effects::Effect;
-use framing::Framed;
 use heads::Refusal;
-use items::Cursor;
-use items::Next;
 use pass::Asked;
-use settings::Settings;
+use records::Records;
 use standing::Standing;
 use verdict::Checked;
+use walk::Head;
+use walk::Step;
 
 // The canonical file's length, or a refusal.
 pub enum Written {
@@ -42,72 +40,30 @@ fn write_frames(s: &[u8], out: &mut [u8]) -> usize
     ensures { λ r. ⌜ Put (now (out .entry)) 0 (canonicalOf (now (s .entry))) r (now (out .exit)) ⌝ }
 {
     let mut at = put_order(out);
-    let mut table = Settings::table();
-    // The first `own` records are kept up; every other channel holds the root settings.
-    let mut own = 0usize;
-    let mut c = Cursor::first();
-    let mut st = Standing::first();
-    let mut frames = 0u32;
+    let mut t = [0u64; Records::TABLE];
+    records::clear(&mut t);
+    let mut h = Head::first();
     loop {
-        match items::next_item(s, c) {
-            Next::Found(item, next) => {
-                c = next.renewed();
-                let effect = effects::item_effect(s, st, item);
-                let root = st.root;
-                let n = effects::reach(effect, st.counted);
-                while own < n {
-                    table[own] = root;
-                    own += 1;
-                }
-                match effect {
-                    Effect::Count(_) => {
-                        own = 0;
-                        st = effects::standing_after(st, effect);
-                    }
-                    Effect::All(change) => {
-                        let mut i = 0usize;
-                        while i < own {
-                            table[i] = settings::apply(table[i], change);
-                            i += 1;
-                        }
-                        st = effects::standing_after(st, effect);
-                    }
-                    Effect::One(channel, change) => {
-                        let k = channel as usize;
-                        if k < Settings::CHANNELS {
-                            table[k] = settings::apply(table[k], change);
-                        }
-                    }
-                    Effect::Frame { start, len } => {
-                        let l = layout::layout_of(table, n);
-                        match framing::frame_of(frames, st, l.agree, l.octets, len) {
-                            Framed::Refused(_) => {
-                                return at;
-                            }
-                            Framed::Taken(sequences, after) => {
-                                let w = octets::part(s, start, len);
-                                at = frames::put_frame(
-                                    w,
-                                    st.start as i32,
-                                    st.little,
-                                    sequences,
-                                    table,
-                                    n,
-                                    out,
-                                    at,
-                                );
-                                st = after;
-                                frames = frames + 1;
-                            }
-                        }
-                    }
-                    Effect::Refused(_) => {
-                        return at;
-                    }
-                    _ => {
-                        st = effects::standing_after(st, effect);
-                    }
-                }
+        let m = walk::advance(s, h, &mut t);
+        let step = m.step;
+        h = m.head;
+        match step {
+            Step::Frame(v) => {
+                let w = octets::part(s, v.place, v.len);
+                let root = h.standing.root;
+                let dates = h.dates;
+                at = frames::put_frame(
+                    w,
+                    v.start as i32,
+                    v.little,
+                    v.sequences,
+                    &t,
+                    root,
+                    dates,
+                    v.channels as usize,
+                    out,
+                    at,
+                );
             }
             _ => {
                 return at;

@@ -1,11 +1,10 @@
 //
 // Promises, for any octets at all: `item_effect` answers what an item asks for where this stands before it, or its refusal (6 to 9);
-// `standing_after` answers what stands after an effect, and `reach` how many records an effect looks at. No record is changed here.
+// `standing_after` answers what stands after an effect. No record is changed here.
 // Read first: specs/Effects.antt; what stands is in crate standing, and what a waveform gives in crate framing.
 ghost use mathlib.Core.Path.{_≡_};
 ghost use Rattle.definitions.specs.Define.{tagged};
 ghost use Rattle.effects.specs.Effects.{orderEffect, countEffect, sequencesEffect, startEffect, compressedEffect, allEffect, oneEffect, rootEffect, plainEffect, memberEffect, groupEffect, effectOf, standingAfter};
-ghost use Rattle.effects.specs.Reach.{reachOf};
 use definitions::Defined;
 use definitions::Tagged;
 use heads::Refusal;
@@ -243,17 +242,4 @@ pub fn standing_after(st: Standing, e: Effect) -> Standing
         _ => {}
     }
     x
-}
-
-// How many records, from channel 0 on, an effect looks at: up to the channel that it changes, or those of a frame.
-pub fn reach(e: Effect, counted: u32) -> usize
-    ensures { λ r. ⌜ r ≡ reachOf counted e ⌝ }
-{
-    match e {
-        Effect::One(channel, _) => Settings::at_most(channel as usize + 1),
-        Effect::Frame { start: _, len: _ } => Settings::at_most(
-            framing::channels_of(counted) as usize,
-        ),
-        _ => 0,
-    }
 }

@@ -3,7 +3,7 @@
 --     coming-put, coming-step  after one run
 --     coming-room              the next run fits
 --     coming-done              after the last run
---     Nth, nth, taken-long     a record of the first ones of a table
+--     Nth, nth, taken-long     one of the first channels whose records words hold
 --     Grouped, grouped-..      the loop over a frame's groups
 --     Blocks, blocks-..        the loop over the blocks of a sequence that is turned round
 --     Sequences, sequences-..  the loop over the sequences of a waveform
@@ -22,7 +22,12 @@ use Rattle.stores.proofs.Stores.{sets-append, put-long}
 use Rattle.runs.proofs.Turned.{run-turned, length-turned}
 use Rattle.values.specs.Sample.{widthOf}
 use Rattle.settings.specs.declared.Settings.{Settings}
-use Rattle.settings.specs.Settings.{channelLimit, zeroSettings}
+use Rattle.settings.specs.Settings.{zeroSettings}
+use Rattle.dated.specs.declared.Dates.{Dates}
+use Rattle.dated.specs.Dated.{zeroDated, settledAt}
+use Rattle.dated.proofs.Tables.{table-long, table-at}
+use Rattle.records.specs.Records.{recordsIn, channelsIn}
+use Rattle.frames.specs.Parts.{Few}
 use Rattle.layout.specs.Frame.{widthIn, blockOctets, sequenceOctets, reported, samplesOctets}
 use Rattle.laid.specs.Turned.{turnedSequence, turnedAll}
 use Rattle.layout.specs.Size.{groupsSize}
@@ -64,18 +69,23 @@ coming-done x p =
     let q = coming-as x p in
     record { next = omega (arith, q .place); stored = q .stored }
 
--- ---- the first records of a table
+-- ---- the first channels
 
 -- Record i of the channels cs is c.
 pub record Nth (cs : List Settings) (i : ℕ) (c : Settings) : Type 0 where
   pub inside : i < length cs
   pub is : c ≡ getD cs i zeroSettings
 
-pub nth : (t : List Settings) (n i : ℕ) → length (take n t) ≡ n → i < n → Nth (take n t) i (getD t i zeroSettings)
-nth t n i e h = record { inside = omega arith; is = sym (getD-take n t i zeroSettings h) }
+module _ (root : Settings) (d : Dates) (u : List ℕ) {count : ℕ} (f : Few count u) where
+  pub taken-long : length (take count (channelsIn root d u)) ≡ count
+  taken-long = length-take-le count (channelsIn root d u) (rw table-long (f .there))
 
-pub taken-long : (t : List Settings) (n : ℕ) → length t ≡ channelLimit → n ≤ channelLimit → length (take n t) ≡ n
-taken-long t n e h = length-take-le n t (omega arith)
+  pub nth : {i : ℕ} {c : Settings} → i < count → c ≡ settledAt root d (getD (recordsIn u) i zeroDated) → Nth (take count (channelsIn root d u)) i c
+  nth {i = i} h e =
+      record {
+        inside = omega (arith, taken-long);
+        is = e ∙ sym (table-at root d i (recordsIn u) zeroDated zeroSettings (omega (arith, f .there))) ∙ sym (getD-take count (channelsIn root d u) i zeroSettings h);
+      }
 
 -- ---- groups
 

@@ -4,7 +4,7 @@
 --     given-some, given-none    where the waveform holds the sequences, and where it does not
 --     frame-put       a frame that is given and fits is stored
 --     held-none, held-by    the test of that, by how many sequences fit in
---     FirstRecords, SequencesHeld      the first records of a table, whose layout is known, and the test by it
+--     FirstRecords, SequencesHeld      the first channels, whose layout is known, and the test by it
 --     told-groups, not-held, held-few, parts-given, given-long, frame-asked    the same of these
 -- Assumes nothing.
 use mathlib.Core.Path.{_≡_, refl, sym, ap, subst, _∙_}
@@ -27,10 +27,14 @@ use Rattle.layout.specs.Frame.{sequenceOctets, samplesOctets}
 use Rattle.layout.specs.Size.{groupsSize, frameSize}
 use Rattle.layout.specs.declared.Layout.{Layout}
 use Rattle.layout.specs.Measure.{layoutOf}
-use Rattle.layout.proofs.Laws.{take-few, groups-few}
+use Rattle.layout.proofs.Laws.{groups-few}
+use Rattle.dated.specs.declared.Dates.{Dates}
+use Rattle.dated.proofs.Tables.{table-long}
+use Rattle.records.specs.Records.{recordsIn, channelsIn}
+use Rattle.records.proofs.Channels.{channels-few, take-there}
 use Rattle.groups.proofs.Sizes.{head-long, groups-long}
-use Rattle.frames.specs.Parts.{samplesTurned, frameParts, frameGiven}
-use Rattle.frames.proofs.Coming.{length-all}
+use Rattle.frames.specs.Parts.{Few, samplesTurned, frameParts, frameGiven}
+use Rattle.frames.proofs.Coming.{length-all, taken-long}
 
 module _ (start : ℤ) (little : Bool) (sequences : ℕ) (cs : List Settings) (x : List ℕ) where
   pub given-some : leb (samplesOctets cs sequences) (min (length x) octetsLimit) ≡ true → frameGiven start little sequences cs x ≡ frameParts start sequences cs (samplesTurned little cs sequences x)
@@ -77,46 +81,56 @@ held-by sequences octets most n = by (leb sequences (most / octets)) refl
     by true h = sym (le-leb (sequences * octets) most (le-div-iff-mul-le some .0 (leb-true sequences (most / octets) h)))
     by false h = sym (lt-leb (sequences * octets) most (div-lt-iff-lt-mul some .0 (leb-false sequences (most / octets) h)))
 
--- ---- the first records of a table
+-- ---- the first channels
 
--- The first k records of a table are those of `count` channels, and l is their layout.
-pub record FirstRecords (table : List Settings) (count k : ℕ) (l : Layout) : Type 0 where
-  pub full : length table ≡ channelLimit
-  pub few : k ≡ min count channelLimit
-  pub layout : l ≡ layoutOf 0 (take k table)
+-- The first k channels are those of `count` that have records, and l is their layout.
+pub record FirstRecords (root : Settings) (d : Dates) (u : List ℕ) (count k : ℕ) (l : Layout) : Type 0 where
+  pub few : k ≡ min (min count channelLimit) (length (recordsIn u))
+  pub layout : l ≡ layoutOf 0 (take (min count channelLimit) (channelsIn root d u))
 
 -- The test of a waveform of some sequences.
 abbrev pub SequencesHeld : ℕ → Layout → List ℕ → Bool → Type 0
 SequencesHeld sequences l x t = leb (sequences * l .octets) (min (length x) octetsLimit) ≡ t
 
 -- What `store_frame` asks for.
-abbrev Asked : List Settings → ℕ → ℕ → ℕ → List ℕ → ℕ → ℕ → Type 0
-Asked table k sequences octets x at long =
-    ((k ≤ channelLimit) × (octets ≡ samplesOctets (take k table) sequences))
+abbrev Asked : List Settings → List ℕ → ℕ → ℕ → ℕ → List ℕ → ℕ → ℕ → Type 0
+Asked table u k sequences octets x at long =
+    (Few k u × (octets ≡ samplesOctets (take k table) sequences))
     × ((octets ≤ length x) × (octets ≤ octetsLimit) × (at + frameSize sequences (groupsSize 0 (take k table)) octets ≤ long))
 
-module _ {table : List Settings} {count k : ℕ} {l : Layout} (t : FirstRecords table count k l) where
-  first-same : take k table ≡ take count table
-  first-same = ap (λ (n : ℕ). take n table) (t .few) ∙ take-few count table (t .full)
+module _ {root : Settings} {d : Dates} {u : List ℕ} {count k : ℕ} {l : Layout} (t : FirstRecords root d u count k l) where
+  abbrev table : List Settings
+  table = channelsIn root d u
+
+  abbrev shown : List Settings
+  shown = take (min count channelLimit) table
+
+  few-there : Few k u
+  few-there = let f = channels-few count (length (recordsIn u)) (t .few) in record { most = f .0; there = f .1 }
+
+  first-same : take k table ≡ shown
+  first-same =
+      ap (λ (n : ℕ). take n table) (t .few ∙ ap (min (min count channelLimit)) (sym (table-long root d (recordsIn u))))
+      ∙ take-there (min count channelLimit) table
 
   octets-are : l .octets ≡ sequenceOctets (take k table)
   unfolding layoutOf
-  octets-are = ap (λ (m : Layout). m .octets) (t .layout)
+  octets-are = ap (λ (m : Layout). m .octets) (t .layout) ∙ ap sequenceOctets (sym first-same)
 
   groups-are : l .groups ≡ groupsSize 0 (take k table)
   unfolding layoutOf
-  groups-are = ap (λ (m : Layout). m .groups) (t .layout)
+  groups-are = ap (λ (m : Layout). m .groups) (t .layout) ∙ ap (groupsSize 0) (sym first-same)
 
   pub told-groups : l .groups ≤ channelLimit * 64
-  told-groups = omega (arith, groups-are, groups-few 0 (take k table), length-take-le k table (omega (arith, t .few, t .full)), t .few)
+  told-groups = omega (arith, groups-are, groups-few 0 (take k table), taken-long root d u few-there, few-there .most)
 
   module _ (sequences : ℕ) (x : List ℕ) where
-    held-first : {b : Bool} → SequencesHeld sequences l x b → leb (samplesOctets (take count table) sequences) (min (length x) octetsLimit) ≡ b
+    held-first : {b : Bool} → SequencesHeld sequences l x b → leb (samplesOctets shown sequences) (min (length x) octetsLimit) ≡ b
     held-first h = ap (λ (n : ℕ). leb (sequences * n) (min (length x) octetsLimit)) (sym (octets-are ∙ ap sequenceOctets first-same)) ∙ h
 
-    pub not-held : (start : ℤ) (little : Bool) (d : List ℕ) (at : ℕ) → SequencesHeld sequences l x false → Putting d at (frameGiven start little sequences (take count table) x) at d
+    pub not-held : (start : ℤ) (little : Bool) (d : List ℕ) (at : ℕ) → SequencesHeld sequences l x false → Putting d at (frameGiven start little sequences shown x) at d
     not-held start little d at h =
-        subst (λ (v : List ℕ). Putting d at v at d) (sym (given-none start little sequences (take count table) x (held-first h))) (putting-none d at)
+        subst (λ (v : List ℕ). Putting d at v at d) (sym (given-none start little sequences shown x (held-first h))) (putting-none d at)
 
     module _ (h : SequencesHeld sequences l x true) where
       pub held-few : (sequences * l .octets ≤ length x) × (sequences * l .octets ≤ octetsLimit)
@@ -124,18 +138,18 @@ module _ {table : List Settings} {count k : ℕ} {l : Layout} (t : FirstRecords 
           let m = leb-true (sequences * l .octets) (min (length x) octetsLimit) h in
           (omega arith, omega arith)
 
-      pub parts-given : {z start : ℤ} (little : Bool) → z ≡ start → frameParts z sequences (take k table) (samplesTurned little (take k table) sequences x) ≡ frameGiven start little sequences (take count table) x
+      pub parts-given : {z start : ℤ} (little : Bool) → z ≡ start → frameParts z sequences (take k table) (samplesTurned little (take k table) sequences x) ≡ frameGiven start little sequences shown x
       parts-given {z} {start} little e =
           (λ i. frameParts (e i) sequences (first-same i) (samplesTurned little (first-same i) sequences x))
-          ∙ sym (given-some start little sequences (take count table) x (held-first h))
+          ∙ sym (given-some start little sequences shown x (held-first h))
 
-      pub given-long : (start : ℤ) (little : Bool) → length (frameGiven start little sequences (take count table) x) ≡ frameSize sequences (l .groups) (sequences * l .octets)
+      pub given-long : (start : ℤ) (little : Bool) → length (frameGiven start little sequences shown x) ≡ frameSize sequences (l .groups) (sequences * l .octets)
       given-long start little =
           let o : samplesOctets (take k table) sequences ≤ length x = rw (← octets-are) (held-few .0) in
           ap length (sym (parts-given {start = start} little refl))
           ∙ parts-long start little sequences (take k table) x o
           ∙ (λ i. frameSize sequences (sym groups-are i) (sequences * sym octets-are i))
 
-      pub frame-asked : (at long : ℕ) → at + frameSize sequences (l .groups) (sequences * l .octets) ≤ long → Asked table k sequences (sequences * l .octets) x at long
+      pub frame-asked : (at long : ℕ) → at + frameSize sequences (l .groups) (sequences * l .octets) ≤ long → Asked table u k sequences (sequences * l .octets) x at long
       frame-asked at long r =
-          ((omega (arith, t .few), ap (λ (n : ℕ). sequences * n) octets-are), (held-few .0, held-few .1, rw (← groups-are) r))
+          ((few-there, ap (λ (n : ℕ). sequences * n) octets-are), (held-few .0, held-few .1, rw (← groups-are) r))

@@ -1,7 +1,7 @@
 -- A frame of the canonical file (document 01, "The canonical file"), in the parts in which it is written.
 use mathlib.Core.List.{List, [], _∷_, _++_, map}
 use mathlib.Core.Bool.{Bool, true, false}
-use Prim.Native.Nat.{ℕ, min}
+use Prim.Native.Nat.{ℕ, _≤_, min}
 use lib.Dec.{leb}
 use lib.ListN.{length, take}
 use lib.IntN.{ℤ}
@@ -10,9 +10,16 @@ use Rattle.octets.specs.Pick.{pick}
 use Rattle.stores.specs.Length.{shortest}
 use Rattle.laid.specs.Turned.{turnedAll}
 use Rattle.settings.specs.declared.Settings.{Settings}
+use Rattle.settings.specs.Settings.{channelLimit}
+use Rattle.records.specs.Records.{recordsIn}
 use Rattle.layout.specs.Frame.{samplesOctets, reported}
 use Rattle.groups.specs.Head.{headItems}
 use Rattle.groups.specs.Group.{groupsOctets}
+
+-- So many channels may a frame have, and so many records are in the words.
+pub record Few (count : ℕ) (u : List ℕ) : Type 0 where
+  pub most : count ≤ channelLimit
+  pub there : count ≤ length (recordsIn u)
 
 -- The samples of a waveform, big-endian: as they stand where the byte order is big, else each turned round.
 abbrev pub samplesTurned : Bool → List Settings → ℕ → List ℕ → List ℕ

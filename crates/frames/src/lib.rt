@@ -14,9 +14,11 @@ ghost use Rattle.layout.specs.Frame.{samplesOctets, reported};
 ghost use Rattle.layout.specs.Size.{groupsSize, frameSize};
 ghost use Rattle.laid.specs.Turned.{Even, turnedAll};
 ghost use Rattle.groups.specs.Group.{groupsOctets};
-ghost use Rattle.frames.specs.Parts.{samplesTurned, frameParts, frameGiven};
+ghost use Rattle.frames.specs.Parts.{Few, samplesTurned, frameParts, frameGiven};
 ghost use Rattle.settings.specs.Settings.{channelLimit};
+ghost use Rattle.records.specs.Records.{channelsIn};
 ghost use Rattle.standing.specs.Standing.{octetsLimit};
+use dated::Dates;
 use settings::Settings;
 use standing::Standing;
 
@@ -24,16 +26,18 @@ use standing::Standing;
 fn put_groups(
     out: &mut [u8],
     at: usize,
-    table: [Settings; Settings::CHANNELS],
+    t: &[u64],
+    root: Settings,
+    dates: Dates,
     count: usize,
 ) -> usize
-    requires { ⌜ (count ≤ channelLimit) × (at + groupsSize 0 (take count table) ≤ length (now out)) ⌝ }
-    ensures { λ r. ⌜ Put (now (out .entry)) at (groupsOctets 0 (map reported (take count table))) r (now (out .exit)) ⌝ }
+    requires { ⌜ Few count (now t) × (at + groupsSize 0 (take count (channelsIn root dates (now t))) ≤ length (now out)) ⌝ }
+    ensures { λ r. ⌜ Put (now (out .entry)) at (groupsOctets 0 (map reported (take count (channelsIn root dates (now (t .entry)))))) r (now (out .exit)) ⌝ }
 {
     let mut i = 0usize;
     let mut next = at;
     while i < count {
-        let c = table[i];
+        let c = records::settled(t, i, root, dates);
         next = groups::put_group(out, next, i as u8, c);
         i += 1;
     }
@@ -41,15 +45,15 @@ fn put_groups(
 }
 
 // The width of all channels where it is one, else 0.
-fn even_width(table: [Settings; Settings::CHANNELS], count: usize) -> usize
-    requires { ⌜ count ≤ channelLimit ⌝ }
-    ensures { λ r. ⌜ (0 < r → Even r (take count table)) ⌝ }
+fn even_width(t: &[u64], root: Settings, dates: Dates, count: usize) -> usize
+    requires { ⌜ Few count (now t) ⌝ }
+    ensures { λ r. ⌜ (0 < r → Even r (take count (channelsIn root dates (now (t .entry))))) ⌝ }
 {
-    let first = table[0];
+    let first = records::settled(t, 0, root, dates);
     let v = values::width(first.datatype);
     let mut i = 0usize;
     while i < count {
-        let c = table[i];
+        let c = records::settled(t, i, root, dates);
         if values::width(c.datatype) != v {
             return 0;
         }
@@ -62,14 +66,16 @@ fn even_width(table: [Settings; Settings::CHANNELS], count: usize) -> usize
 fn put_blocks(
     w: &[u8],
     sequences: u32,
-    table: [Settings; Settings::CHANNELS],
+    t: &[u64],
+    root: Settings,
+    dates: Dates,
     count: usize,
     out: &mut [u8],
     at: usize,
 ) -> usize
-    requires { ⌜ (count ≤ channelLimit) × (samplesOctets (take count table) sequences ≤ length (now w)) ⌝ }
-    requires { ⌜ at + samplesOctets (take count table) sequences ≤ length (now out) ⌝ }
-    ensures { λ r. ⌜ Put (now (out .entry)) at (turnedAll (take count table) sequences (now (w .entry))) r (now (out .exit)) ⌝ }
+    requires { ⌜ Few count (now t) × (samplesOctets (take count (channelsIn root dates (now t))) sequences ≤ length (now w)) ⌝ }
+    requires { ⌜ at + samplesOctets (take count (channelsIn root dates (now t))) sequences ≤ length (now out) ⌝ }
+    ensures { λ r. ⌜ Put (now (out .entry)) at (turnedAll (take count (channelsIn root dates (now (t .entry)))) sequences (now (w .entry))) r (now (out .exit)) ⌝ }
 {
     let mut q = 0u32;
     let mut place = 0usize;
@@ -77,7 +83,7 @@ fn put_blocks(
     while q < sequences {
         let mut i = 0usize;
         while i < count {
-            let c = table[i];
+            let c = records::settled(t, i, root, dates);
             let v = values::width(c.datatype);
             next = runs::turn(w, place, c.block as usize, v, out, next);
             place = place + c.block as usize * v;
@@ -95,16 +101,18 @@ fn put_samples(
     little: bool,
     sequences: u32,
     octets: usize,
-    table: [Settings; Settings::CHANNELS],
+    t: &[u64],
+    root: Settings,
+    dates: Dates,
     count: usize,
     out: &mut [u8],
     at: usize,
 ) -> usize
-    requires { ⌜ (count ≤ channelLimit) × (octets ≡ samplesOctets (take count table) sequences) ⌝ }
+    requires { ⌜ Few count (now t) × (octets ≡ samplesOctets (take count (channelsIn root dates (now t))) sequences) ⌝ }
     requires { ⌜ (octets ≤ length (now w)) × (at + octets ≤ length (now out)) ⌝ }
-    ensures { λ r. ⌜ Put (now (out .entry)) at (samplesTurned «little» (take count table) sequences (now (w .entry))) r (now (out .exit)) ⌝ }
+    ensures { λ r. ⌜ Put (now (out .entry)) at (samplesTurned «little» (take count (channelsIn root dates (now (t .entry)))) sequences (now (w .entry))) r (now (out .exit)) ⌝ }
 {
-    let v = even_width(table, count);
+    let v = even_width(t, root, dates, count);
     if !little {
         return runs::copy(w, 0, octets, out, at);
     }
@@ -112,7 +120,7 @@ fn put_samples(
         return runs::copy(w, 0, octets, out, at);
     }
     if v == 0 {
-        return put_blocks(w, sequences, table, count, out, at);
+        return put_blocks(w, sequences, t, root, dates, count, out, at);
     }
     runs::turn(w, 0, octets / v, v, out, at)
 }
@@ -124,20 +132,22 @@ fn store_frame(
     little: bool,
     sequences: u32,
     octets: usize,
-    table: [Settings; Settings::CHANNELS],
+    t: &[u64],
+    root: Settings,
+    dates: Dates,
     count: usize,
     out: &mut [u8],
     at: usize,
 ) -> usize
-    requires { ⌜ (count ≤ channelLimit) × (octets ≡ samplesOctets (take count table) sequences) ⌝ }
-    requires { ⌜ (octets ≤ length (now w)) × (octets ≤ octetsLimit) × (at + frameSize sequences (groupsSize 0 (take count table)) octets ≤ length (now out)) ⌝ }
-    ensures { λ r. ⌜ Put (now (out .entry)) at (frameParts start sequences (take count table) (samplesTurned «little» (take count table) sequences (now (w .entry)))) r (now (out .exit)) ⌝ }
+    requires { ⌜ Few count (now t) × (octets ≡ samplesOctets (take count (channelsIn root dates (now t))) sequences) ⌝ }
+    requires { ⌜ (octets ≤ length (now w)) × (octets ≤ octetsLimit) × (at + frameSize sequences (groupsSize 0 (take count (channelsIn root dates (now t)))) octets ≤ length (now out)) ⌝ }
+    ensures { λ r. ⌜ Put (now (out .entry)) at (frameParts start sequences (take count (channelsIn root dates (now (t .entry)))) (samplesTurned «little» (take count (channelsIn root dates (now (t .entry)))) sequences (now (w .entry)))) r (now (out .exit)) ⌝ }
 {
     let a = groups::put_head(out, at, count as u32, sequences, start);
-    let b = put_groups(out, a, table, count);
+    let b = put_groups(out, a, t, root, dates, count);
     let c = stores::put_octet(out, b, 0x1E);
     let d = stores::put_length(out, c, octets as u32);
-    put_samples(w, little, sequences, octets, table, count, out, d)
+    put_samples(w, little, sequences, octets, t, root, dates, count, out, d)
 }
 
 // No more octets than a file may have.
@@ -161,21 +171,23 @@ fn holds(long: usize, sequences: u32, octets: u64) -> bool
     sequences as u64 <= most(long) / octets
 }
 
-// Stores the frame of a waveform, whose channels hold the first `count` settings of a table.
+// Stores the frame of a waveform, whose channels are the first `count` of those whose records words hold.
 pub fn put_frame(
     w: &[u8],
     start: i32,
     little: bool,
     sequences: u32,
-    table: [Settings; Settings::CHANNELS],
+    t: &[u64],
+    root: Settings,
+    dates: Dates,
     count: usize,
     out: &mut [u8],
     at: usize,
 ) -> usize
-    ensures { λ r. ⌜ Putting (now (out .entry)) at (frameGiven start «little» sequences (take count table) (now (w .entry))) r (now (out .exit)) ⌝ }
+    ensures { λ r. ⌜ Putting (now (out .entry)) at (frameGiven start «little» sequences (take (min count channelLimit) (channelsIn root dates (now (t .entry)))) (now (w .entry))) r (now (out .exit)) ⌝ }
 {
-    let k = Settings::at_most(count);
-    let l = layout::layout_of(table, k);
+    let k = records::at_most(t, count);
+    let l = records::layout_in(t, count, root, dates);
     if !holds(w.len(), sequences, l.octets) {
         return at;
     }
@@ -190,7 +202,9 @@ pub fn put_frame(
         little,
         sequences,
         octets as usize,
-        table,
+        t,
+        root,
+        dates,
         k,
         out,
         at,

@@ -1,18 +1,17 @@
 // The layout of a frame: what one pass over its channels' settings tells.
 //
 // Promises: `Layout::more`, called for one channel after the other, sums up whether offsets and nulls have their sample widths, the octets of
-// a sequence, those below a channel, and the octets that the channels' groups take in the canonical file; `layout_of` does so for a table.
+// a sequence, those below a channel, and the octets that the channels' groups take in the canonical file.
 // `frame_size` answers how many octets a frame takes there, `head_size` and `group_size` its head and a group, `content_size` and `null_size` a
 // group's items and a null's value; `offset_bits` a channel's offset, one that is not defined too, and `reported` its attributes with that offset.
 // Read first: specs/Frame.antt (frames and the place of a sample), specs/Size.antt.
 ghost use mathlib.Core.Path.{_≡_};
 ghost use Prim.Native.Nat.{_+_, _%_, _^_, _<_};
 ghost use lib.Dec.{ltb};
-ghost use lib.ListN.{take};
 ghost use Rattle.octets.specs.Pick.{pick, both};
 ghost use Rattle.layout.specs.Frame.{offsetBits, widthAgrees, widthIn, blockOctets, reported, channelAgrees};
 ghost use Rattle.layout.specs.Size.{channelSize, nullSize, contentSize, groupSize, sequencesSize, headSize, frameSize};
-ghost use Rattle.layout.specs.Measure.{noLayout, layoutOf, More};
+ghost use Rattle.layout.specs.Measure.{noLayout, More};
 use settings::Change;
 use settings::Settings;
 use values::Bits;
@@ -137,20 +136,6 @@ impl Layout {
             groups: std::num::wrapping_add_u64(self.groups, group_size(i, w, null) as u64),
         }
     }
-}
-
-// The layout of the first `count` channels.
-pub fn layout_of(table: [Settings; Settings::CHANNELS], count: usize) -> Layout
-    ensures { λ r. ⌜ r ≡ layoutOf 0 (take count table) ⌝ }
-{
-    let n = Settings::at_most(count);
-    let mut l = Layout::none();
-    let mut i = 0usize;
-    while i < n {
-        l = l.more(i, 0, table[i]);
-        i += 1;
-    }
-    l
 }
 
 // The octets of 06.

@@ -15,7 +15,7 @@ use Rattle.items.specs.Walk.{cursor}
 use Rattle.settings.specs.declared.Settings.{Settings}
 use Rattle.settings.specs.declared.Change.{Change}
 use Rattle.settings.specs.Settings.{channelLimit, defaultSettings, zeroSettings, applied, allApplied}
-use Rattle.settings.proofs.Shown.{map-replicate}
+use Rattle.settings.proofs.Repeats.{map-replicate}
 use Rattle.layout.specs.declared.Layout.{Layout}
 use Rattle.layout.specs.Size.{frameSize}
 use Rattle.layout.specs.Measure.{More}

@@ -33,7 +33,7 @@ use Rattle.definitions.specs.declared.Tagged.{Tagged}
 use Rattle.definitions.specs.declared.Defined.{Defined}
 use Rattle.settings.specs.Settings.{channelLimit, defaultSettings, zeroSettings, applied, allApplied}
 use Rattle.definitions.specs.Define.{tagged, defined}
-use Rattle.settings.proofs.Shown.{map-replicate}
+use Rattle.settings.proofs.Repeats.{map-replicate}
 use Rattle.layout.specs.Frame.{Frame}
 use Rattle.standing.specs.declared.Standing.{Standing}
 use Rattle.standing.specs.Standing.{withRoot}

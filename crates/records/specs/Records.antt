@@ -7,9 +7,11 @@ use lib.ListN.{length, getD}
 use Rattle.octets.specs.Number.{lowOf, twos}
 use Rattle.values.specs.declared.Bits.{Bits}
 use Rattle.settings.specs.declared.Scale.{Scale}
+use Rattle.settings.specs.declared.Settings.{Settings}
 use Rattle.settings.specs.Settings.{channelLimit}
 use Rattle.dated.specs.declared.Dated.{Dated}
-use Rattle.dated.specs.Dated.{noted}
+use Rattle.dated.specs.declared.Dates.{Dates}
+use Rattle.dated.specs.Dated.{noted, settledIn}
 
 -- The words of a record: one for each of its numbers, and one that is spare.
 abbrev pub recordWords : ℕ
@@ -70,6 +72,10 @@ recordsHeld u = length u / recordWords
 -- The records that words hold.
 unfoldable pub recordsIn : List ℕ → List Dated
 recordsIn u = recordsFrom (recordsHeld u) 0 u
+
+-- What stands for the channels whose records words hold.
+abbrev pub channelsIn : Settings → Dates → List ℕ → List Settings
+channelsIn root d u = settledIn root d (recordsIn u)
 
 -- A record of the time before the first item: whatever it says, the root settings stand for its channel.
 abbrev pub outdated : Dated → Dated

@@ -3,16 +3,21 @@
 // A record takes `Records::WORDS` words, one number a word and one word spare; words hold as many records as there is room for. A number is that of
 // the lowest octets of its word, so that any words at all are records.
 // Promises, for any words and any number of a record: `get` answers a record, `put` stores one, and `clear` sends all channels back to the root
-// settings. Where there is no such record `get` answers zeros and `put` stores nothing. Words of no record's numbers stay as they are.
+// settings. Where there is no such record `get` answers zeros and `put` stores nothing. Words of no record's numbers stay as they are. `settled` answers
+// what stands for a record's channel, `at_most` how many of so many channels have records, and `layout_in` their layout.
 // Read first: specs/Records.antt.
 ghost use mathlib.Core.Path.{_≡_};
 ghost use mathlib.Core.List.{map};
-ghost use Prim.Native.Nat.{_+_, _<_, _≤_};
-ghost use lib.ListN.{length, getD, set};
+ghost use Prim.Native.Nat.{_+_, _<_, _≤_, min};
+ghost use lib.ListN.{length, getD, set, take};
 ghost use Rattle.octets.specs.Number.{lowOf, twos};
-ghost use Rattle.dated.specs.Dated.{zeroDated};
-ghost use Rattle.records.specs.Records.{recordNumbers, scaleBy, bitsBy, recordBy, wordsAt, recordsIn, outdated, Holding, Overlaid};
+ghost use Rattle.settings.specs.Settings.{channelLimit};
+ghost use Rattle.dated.specs.Dated.{zeroDated, settledAt};
+ghost use Rattle.layout.specs.Measure.{layoutOf};
+ghost use Rattle.records.specs.Records.{recordNumbers, scaleBy, bitsBy, recordBy, wordsAt, recordsIn, channelsIn, outdated, Holding, Overlaid};
 use dated::Dated;
+use dated::Dates;
+use layout::Layout;
 use settings::Scale;
 use settings::Settings;
 use values::Bits;
@@ -216,4 +221,34 @@ pub fn clear(t: &mut [u64])
         t[k * Records::WORDS + Records::TIME] = 0;
         k += 1;
     }
+}
+
+// What stands for a record's channel now.
+pub fn settled(t: &[u64], k: usize, root: Settings, dates: Dates) -> Settings
+    ensures { λ r. ⌜ r ≡ settledAt root dates (getD (recordsIn (now (t .entry))) k zeroDated) ⌝ }
+{
+    dated::settle(root, dates, get(t, k))
+}
+
+// No more channels than a frame may have, and than there are records.
+pub fn at_most(t: &[u64], count: usize) -> usize
+    ensures { λ r. ⌜ r ≡ min (min count channelLimit) (length (recordsIn (now (t .entry)))) ⌝ }
+{
+    let n = Settings::at_most(count);
+    let held = t.len() / Records::WORDS;
+    if n < held { n } else { held }
+}
+
+// The layout of the first `count` channels, as far as there are records.
+pub fn layout_in(t: &[u64], count: usize, root: Settings, dates: Dates) -> Layout
+    ensures { λ r. ⌜ r ≡ layoutOf 0 (take (min count channelLimit) (channelsIn root dates (now (t .entry)))) ⌝ }
+{
+    let n = at_most(t, count);
+    let mut l = Layout::none();
+    let mut i = 0usize;
+    while i < n {
+        l = l.more(i, 0, settled(t, i, root, dates));
+        i += 1;
+    }
+    l
 }

@@ -1,3 +1,2 @@
-pub mod Mapped
-pub mod Shown
+pub mod Repeats
 pub mod Laws

@@ -1,12 +1,12 @@
 // The settings of a channel: the attributes of document 01's table that may stand in a group, their defaults and limits, and one of
 // them changed.
 //
-// Promises: `Settings::default` and `Settings::table` answer document 01's defaults; `apply` carries a change out in one record;
+// Promises: `Settings::default` answers document 01's defaults; `apply` carries a change out in one record;
 // `Settings::at_most` cuts a count down to the channels that a frame may have. A new attribute is one more case of `Change`, and of `Attribute` in crate definitions.
 // Read first: specs/Settings.antt.
 ghost use mathlib.Core.Path.{_≡_};
 ghost use Prim.Native.Nat.{min};
-ghost use Rattle.settings.specs.Settings.{channelLimit, defaultSettings, defaultTable, applied};
+ghost use Rattle.settings.specs.Settings.{channelLimit, defaultSettings, applied};
 use values::Bits;
 
 // A unit, an exponent of ten and a mantissa.
@@ -66,14 +66,6 @@ impl Settings {
             offset: Bits { width: 0, bits: 0 },
             null: Bits { width: 0, bits: 0 },
         }
-    }
-
-    // All channel records at the defaults.
-    pub fn table() -> [Settings; Settings::CHANNELS]
-        ensures { λ r. ⌜ r ≡ defaultTable ⌝ }
-    {
-        let d = Settings::default();
-        [d; Settings::CHANNELS]
     }
 
     // No more channels than a frame may have.

@@ -1,43 +1,46 @@
 -- Where a walk of a file stands, and that the frames it stops at are the verdict's.
 --     Reaches            the file's items lead to where the walk stands, with these frames met
---     reaches-first      before the first item
+--     reaches-first, reaches-cleared    before the first item
 --     advance-reaches    an advance leads on: behind one frame more, or to the verdict
 --     joined-verdict     the frames that successive advances stop at, joined
 -- Assumes nothing.
 use mathlib.Core.Path.{_≡_, refl, sym, ap, subst, _∙_}
-use mathlib.Core.List.{List, [], _∷_, _++_}
+use mathlib.Core.List.{List, [], _∷_, _++_, map}
 use Prim.Native.Nat.{ℕ, zero, suc, _+_, _-_, _%_, _^_, _≤_, _<_, min}
 use native.Mathlib.Omega.{arith}
-use lib.ListN.{length, take, drop, length-append, length-set, length-replicate}
+use lib.ListN.{length, take, drop, length-append, length-set, length-map, replicate, length-replicate}
 use Rattle.items.specs.declared.Item.{Item}
 use Rattle.items.specs.declared.Cursor.{Cursor}
 use Rattle.items.specs.declared.Next.{Next}
 use Rattle.items.specs.declared.Next.the-variants.{Found, End}
-use Rattle.items.specs.Walk.{nextOf, itemsFrom, refusal}
+use Rattle.items.specs.declared.Within.the-variants.{Root}
+use Rattle.items.specs.Walk.{cursor, nextOf, itemsFrom, refusal}
 use Rattle.items.proofs.Walks.{next-found, items-found, items-end, items-refused}
 use Rattle.settings.specs.declared.Settings.{Settings}
 use Rattle.settings.specs.Settings.{channelLimit, defaultSettings, applied}
 use Rattle.dated.specs.declared.Dated.{Dated}
 use Rattle.dated.specs.declared.Dates.{Dates}
-use Rattle.dated.specs.Dated.{noted, rootDefined, allCleared, settledIn}
+use Rattle.dated.specs.Dated.{firstDates, noted, rootDefined, allCleared, settledIn}
 use Rattle.dated.proofs.Tables.{Kept, kept-first, kept-longer, kept-set, kept-root, kept-cleared, table-first}
 use Rattle.layout.specs.declared.Layout.{Layout}
 use Rattle.layout.specs.Frame.{Frame, sequenceOctets, allAgree}
 use Rattle.layout.specs.Measure.{layoutOf}
 use Rattle.standing.specs.declared.Standing.{Standing}
-use Rattle.standing.specs.Standing.{octetsLimit}
+use Rattle.standing.specs.Standing.{firstStanding, octetsLimit}
 use Rattle.effects.specs.declared.Effect.{Effect}
 use Rattle.effects.specs.Effects.{effectOf, standingAfter}
 use Rattle.framing.specs.declared.Framed.{Framed}
 use Rattle.framing.specs.Framing.{channelsOf}
 use Rattle.framing.specs.AnyNumbers.{framedBy}
+use Rattle.records.specs.Records.{outdated}
+use Rattle.records.proofs.Laws.{kept-outdated, table-outdated}
 use Rattle.verdict.specs.Verdict.{State, state, goes, refuses, withFrame, carried, placeAt, accepted, refused, interpret, verdict}
 use Rattle.verdict.specs.Reached.{Reached, begin, behind as one-behind}
 use Rattle.verdict.proofs.Keeps.{interpret-refuses, reached-verdict}
 use Rattle.verdict.proofs.Frames.{frame-carried, count-few, taken-root}
 use Rattle.verdict.proofs.Settled.{carried-count, carried-all, carried-one}
 use Rattle.walk.specs.declared.Step.{Step}
-use Rattle.walk.specs.Advance.{Stand, firstStand, standsFor, channelsAt, Turn, on, stops, behind, framedTurn, oneNoted, effectTurn, nextTurn, turnOf, advanceOf}
+use Rattle.walk.specs.Advance.{Stand, stand, firstStand, standsFor, channelsAt, Turn, on, stops, behind, framedTurn, oneNoted, effectTurn, nextTurn, turnOf, advanceOf}
 use Rattle.walk.specs.Joined.{frameBy, joinedBy, joinedIn, joined}
 use Rattle.walk.proofs.Turns.{Later, turn-later, advance-on, advance-stops}
 
@@ -59,6 +62,18 @@ reaches-first s h =
       items = omega arith;
       count = refl;
       reached = rw table-first begin;
+    }
+
+-- The same where all records are of the time before the first item, whatever they say.
+pub reaches-cleared : (s : List ℕ) (xs : List Dated) → length s ≤ octetsLimit → length xs ≡ channelLimit → Reaches s [] (stand (cursor 0 Root) firstStanding firstDates (map outdated xs) 0 0)
+reaches-cleared s xs h e =
+    record {
+      long = h;
+      full = length-map xs outdated ∙ e;
+      kept = kept-longer (kept-outdated xs kept-first) (omega arith);
+      items = omega arith;
+      count = refl;
+      reached = subst (λ (u : List Settings). Reached s (state firstStanding u []) (cursor 0 Root)) (sym (table-outdated defaultSettings firstDates xs ∙ ap (λ (n : ℕ). replicate n defaultSettings) e)) begin;
     }
 
 -- What an advance from a place comes to: behind one frame more, or the verdict.

@@ -1,8 +1,7 @@
 -- Laws of one walk.
---     layout-more           the layout of a frame's channels, one channel more
 --     advance-on, -stops    one item further; where the walk stops
 --     Turning, turning-..   an item met and what it asks for: what the walk does with it
---     Framing, framing-..   the same of a waveform; channels-few, how many channels it has
+--     Framing, framing-..   the same of a waveform
 --     answered              the answer of an advance
 -- Assumes nothing.
 use mathlib.Core.Path.{_≡_, refl, sym, ap, subst, _∙_}
@@ -10,13 +9,11 @@ use mathlib.Core.Bool.{Bool, not}
 use mathlib.Core.List.{List, [], _∷_}
 use Prim.Native.Nat.{ℕ, zero, suc, _+_, _-_, _*_, _%_, _^_, _≤_, _<_, min}
 use native.Mathlib.Omega.{arith}
-use native.Mathlib.Decide.{decLt}
 use types.Run.{OneOf, miss}
 use denote.Enum.Declared.{tagOf}
 use borrow.Author.Tests.{leb-false}
 use lib.Dec.{eqb, ltb, leb}
 use lib.ListN.{length, take, getD, set, length-take}
-use lib.Seq.{take-all}
 use Rattle.octets.proofs.Pick.{pick-cases}
 use Rattle.heads.specs.declared.Refusal.{Refusal}
 use Rattle.items.specs.declared.Item.{Item}
@@ -27,15 +24,14 @@ use Rattle.items.specs.Walk.{nextOf, refusal}
 use Rattle.items.proofs.Walks.{next-found}
 use Rattle.settings.specs.declared.Settings.{Settings}
 use Rattle.settings.specs.declared.Change.{Change}
-use Rattle.settings.specs.Settings.{channelLimit, zeroSettings, applied}
+use Rattle.settings.specs.Settings.{channelLimit, applied}
 use Rattle.dated.specs.declared.Dated.{Dated}
 use Rattle.dated.specs.declared.Dates.{Dates}
-use Rattle.dated.specs.Dated.{noted, zeroDated, rootDefined, allCleared, settledAt, settledIn}
-use Rattle.dated.proofs.Tables.{table-long, table-at}
+use Rattle.dated.specs.Dated.{noted, zeroDated, rootDefined, allCleared, settledAt}
+use Rattle.dated.proofs.Tables.{table-long}
 use Rattle.layout.specs.declared.Layout.{Layout}
 use Rattle.layout.specs.Frame.{sequenceOctets}
-use Rattle.layout.specs.Measure.{More, layoutOf}
-use Rattle.layout.proofs.Laws.{Summing, summing-more}
+use Rattle.layout.specs.Measure.{layoutOf}
 use Rattle.standing.specs.declared.Standing.{Standing}
 use Rattle.standing.specs.Standing.{octetsLimit, framesLimit}
 use Rattle.effects.specs.declared.Effect.{Effect}
@@ -51,11 +47,6 @@ use Rattle.walk.specs.declared.Step.{Step}
 use Rattle.walk.specs.declared.Head.{Head}
 use Rattle.walk.specs.declared.Moved.{Moved}
 use Rattle.walk.specs.Advance.{Stand, stand, standsFor, Stop, stop, Turn, on, stops, behind, channelsAt, waveformBy, framedTurn, goesOn, effectTurn, nextTurn, turnOf, turned, advanceIn, advanceOf, standOf, movedTo, Advances}
-
-pub layout-more : (root : Settings) (d : Dates) (t : List Dated) {channel n i : ℕ} {l : Layout} {v : Settings} → n ≤ length t → Summing channel (settledIn root d t) n i l → (m : Layout) → i < n
-    → v ≡ settledAt root d (getD t i zeroDated) → More i channel v l m → Summing channel (settledIn root d t) n (i + 1) m
-layout-more root d t {channel = channel} {i = i} {l = l} f p m h ev g =
-    summing-more p m h (subst (λ (y : Settings). More i channel y l m) (ev ∙ sym (table-at root d i t zeroDated zeroSettings (omega arith))) g)
 
 -- ---- one item further
 
@@ -190,12 +181,12 @@ module _ {s : List ℕ} {x : Stand} {i : Item} {d : Cursor} {e : Effect} (t : Tu
       (goes-to (ap (effectTurn x d (placeAt i)) b ∙ ap (λ (f : Effect). goesOn x d f (rootDefined ch (x .dates)) (x .records)) (sym b))
       (es ∙ ap (standingAfter (x .standing)) (sym b)) ei)
 
-  pub turning-one : {channel : ℕ} {ch : Change} {old : Dated} {stood v : Settings} {new : Dated} {records : List Dated} {items : ℕ} → e ≡ Effect.One channel ch
-      → old ≡ getD (x .records) channel zeroDated → stood ≡ settledAt (x .standing .root) (x .dates) old → v ≡ applied ch stood → new ≡ noted (x .dates .now) v → records ≡ set (x .records) channel new
+  pub turning-one : {channel : ℕ} {ch : Change} {stood v : Settings} {new : Dated} {records : List Dated} {items : ℕ} → e ≡ Effect.One channel ch
+      → stood ≡ settledAt (x .standing .root) (x .dates) (getD (x .records) channel zeroDated) → v ≡ applied ch stood → new ≡ noted (x .dates .now) v → records ≡ set (x .records) channel new
       → Counted items → Same (x .standing) (x .dates) records items
   unfolding effectTurn
-  turning-one {channel = channel} {ch = ch} b eo es ev en er ei =
-      let changed = en ∙ ap (noted (x .dates .now)) (ev ∙ ap (applied ch) (es ∙ ap (settledAt (x .standing .root) (x .dates)) eo)) in
+  turning-one {channel = channel} {ch = ch} b es ev en er ei =
+      let changed = en ∙ ap (noted (x .dates .now)) (ev ∙ ap (applied ch) es) in
       rw er
       ((λ k. advanceOf s (stand d (x .standing) (x .dates) (set (x .records) channel (changed k)) (ei k) (x .frames)))
       ∙ on-to (ap (effectTurn x d (placeAt i)) b))
@@ -227,33 +218,30 @@ framed-few frames st agree octets long =
 pub record Framing (s : List ℕ) (x : Stand) (i : Item) (d : Cursor) (start len n : ℕ) (l : Layout) (r : Framed) : Type 0 where
   pub turn : Turning s x i d (Effect.Frame start len)
   pub counts : n ≡ min (min (channelsOf (x .standing .counted)) channelLimit) (length (x .records))
-  pub laid : l ≡ layoutOf 0 (take n (standsFor x))
+  pub laid : l ≡ layoutOf 0 (channelsAt x)
   pub gives : r ≡ framedBy (x .frames) (x .standing) (l .agree) (l .octets) len
 
--- There are so many channels and so many records.
-pub channels-few : {n : ℕ} (m k : ℕ) → n ≡ min (min m channelLimit) k → (n ≤ channelLimit) × (n ≤ k)
-channels-few m k e = (omega arith, omega arith)
-
-take-there : (m : ℕ) (cs : List Settings) → take (min m (length cs)) cs ≡ take m cs
-take-there m cs = by (decLt m (length cs))
-  where
-    by : Dec (m < length cs) → take (min m (length cs)) cs ≡ take m cs
-    by (yes h) = let e : min m (length cs) ≡ m = omega arith in rw e
-    by (no h) = let e : min m (length cs) ≡ length cs = omega arith in rw e (take-all (length cs) cs (omega arith) ∙ sym (take-all m cs (omega arith)))
+pub turning-framed : {s : List ℕ} {x : Stand} {i : Item} {d : Cursor} {e : Effect} {start len count n : ℕ} {l : Layout} {r : Framed} → Turning s x i d e → e ≡ Effect.Frame start len → count ≡ channelsOf (x .standing .counted)
+    → n ≡ min (min count channelLimit) (length (x .records)) → l ≡ layoutOf 0 (take (min count channelLimit) (standsFor x)) → r ≡ framedBy (x .frames) (x .standing) (l .agree) (l .octets) len
+    → Framing s x i d start len n l r
+turning-framed {x = x} t b ec en el er =
+    record {
+      turn = record { found = t .found; asks = sym b ∙ t .asks };
+      counts = en ∙ ap (λ (k : ℕ). min (min k channelLimit) (length (x .records))) ec;
+      laid = el ∙ ap (λ (k : ℕ). layoutOf 0 (take (min k channelLimit) (standsFor x))) ec;
+      gives = er;
+    }
 
 module _ {s : List ℕ} {x : Stand} {i : Item} {d : Cursor} {start len n : ℕ} {l : Layout} {r : Framed} (f : Framing s x i d start len n l r) where
   counts-shown : n ≡ min (min (channelsOf (x .standing .counted)) channelLimit) (length (standsFor x))
   counts-shown = f .counts ∙ ap (min (min (channelsOf (x .standing .counted)) channelLimit)) (sym (table-long (x .standing .root) (x .dates) (x .records)))
-
-  here : l ≡ layoutOf 0 (channelsAt x)
-  here = f .laid ∙ ap (λ (k : ℕ). layoutOf 0 (take k (standsFor x))) counts-shown ∙ ap (layoutOf 0) (take-there (min (channelsOf (x .standing .counted)) channelLimit) (standsFor x))
 
   counted : n ≡ length (channelsAt x)
   counted = counts-shown ∙ sym (length-take (min (channelsOf (x .standing .counted)) channelLimit) (standsFor x))
 
   framed : effectTurn x d (placeAt i) (Effect.Frame start len) ≡ framedTurn x d (placeAt i) start len r
   unfolding effectTurn layoutOf
-  framed = ap (framedTurn x d (placeAt i) start len) (sym (f .gives ∙ (λ k. framedBy (x .frames) (x .standing) (here k .agree) (here k .octets) len)))
+  framed = ap (framedTurn x d (placeAt i) start len) (sym (f .gives ∙ (λ k. framedBy (x .frames) (x .standing) (f .laid k .agree) (f .laid k .octets) len)))
 
   pub framing-refused : {number : ℕ} → r ≡ Framed.Refused number → stop (Step.Refused (refusal number (placeAt i))) x ≡ advanceOf s x
   unfolding framedTurn
@@ -268,7 +256,7 @@ module _ {s : List ℕ} {x : Stand} {i : Item} {d : Cursor} {start len n : ℕ} 
     unfolding framedTurn layoutOf
     framing-taken ew ei =
         (λ k. stop (Step.Frame (ew k)) (stand d after (x .dates) (x .records) (ei k) (x .frames + 1)))
-        ∙ (λ k. stop (Step.Frame (waveformBy (x .standing) (counted k) sequences start len (here k .octets))) (behind x d after (x .dates) (x .records) (x .frames + 1)))
+        ∙ (λ k. stop (Step.Frame (waveformBy (x .standing) (counted k) sequences start len (f .laid k .octets))) (behind x d after (x .dates) (x .records) (x .frames + 1)))
         ∙ sym
         (advance-stops s x
         (stop (Step.Frame (waveformBy (x .standing) (length (channelsAt x)) sequences start len (sequenceOctets (channelsAt x)))) (behind x d after (x .dates) (x .records) (x .frames + 1)))

@@ -6,15 +6,10 @@
 // from there on are the verdict's (proofs/Joins.antt).
 // Read first: specs/Advance.antt, then specs/Joined.antt.
 ghost use mathlib.Core.Path.{_≡_};
-ghost use Prim.Native.Nat.{_≤_, min};
-ghost use lib.ListN.{length, take};
+ghost use Prim.Native.Nat.{_≤_};
 ghost use Rattle.items.specs.Walk.{refusal};
 ghost use Rattle.settings.specs.Settings.{channelLimit};
-ghost use Rattle.dated.specs.Dated.{settledIn};
-ghost use Rattle.layout.specs.Measure.{layoutOf};
-ghost use Rattle.framing.specs.Framing.{channelsOf};
 ghost use Rattle.verdict.specs.Verdict.{placeAt};
-ghost use Rattle.records.specs.Records.{recordsIn};
 ghost use Rattle.walk.specs.Advance.{waveformBy, movedTo, firstHead, Advances};
 use dated::Dates;
 use effects::Effect;
@@ -23,8 +18,6 @@ use heads::Refusal;
 use items::Cursor;
 use items::Item;
 use items::Next;
-use layout::Layout;
-use records::Records;
 use settings::Settings;
 use standing::Standing;
 
@@ -69,29 +62,6 @@ fn refused_at(number: u8, item: Item) -> Step
         number,
         place: verdict::place_of(item),
     })
-}
-
-// The channels of a frame, as many as there are records.
-fn channels_in(t: &[u64], counted: u32) -> usize
-    ensures { λ r. ⌜ r ≡ min (min (channelsOf counted) channelLimit) (length (recordsIn (now (t .entry)))) ⌝ }
-{
-    let n = Settings::at_most(framing::channels_of(counted) as usize);
-    let held = t.len() / Records::WORDS;
-    if n < held { n } else { held }
-}
-
-// The layout of the first n channels.
-fn layout_in(t: &[u64], n: usize, root: Settings, dates: Dates) -> Layout
-    requires { ⌜ (n ≤ channelLimit) × (n ≤ length (recordsIn (now t))) ⌝ }
-    ensures { λ r. ⌜ r ≡ layoutOf 0 (take n (settledIn root dates (recordsIn (now (t .entry))))) ⌝ }
-{
-    let mut l = Layout::none();
-    let mut i = 0usize;
-    while i < n {
-        l = l.more(i, 0, dated::settle(root, dates, records::get(t, i)));
-        i += 1;
-    }
-    l
 }
 
 // A frame that is taken.
@@ -170,31 +140,32 @@ pub fn advance(s: &[u8], h: Head, t: &mut [u64]) -> Moved
             }
             Next::Found(item, next) => {
                 let d = next.renewed();
-                let count = std::num::wrapping_add_u64(items, 1);
+                let read = std::num::wrapping_add_u64(items, 1);
                 let effect = effects::item_effect(s, st, item);
                 match effect {
                     Effect::Count(_) => {
                         dates = dates.cleared();
                         st = effects::standing_after(st, effect);
                         c = d;
-                        items = count;
+                        items = read;
                     }
                     Effect::All(change) => {
                         dates = dates.defined(change);
                         st = effects::standing_after(st, effect);
                         c = d;
-                        items = count;
+                        items = read;
                     }
                     Effect::One(channel, change) => {
                         let k = channel as usize;
-                        let stood = dated::settle(st.root, dates, records::get(t, k));
+                        let stood = records::settled(t, k, st.root, dates);
                         records::put(t, k, dates.note(settings::apply(stood, change)));
                         c = d;
-                        items = count;
+                        items = read;
                     }
                     Effect::Frame { start, len } => {
-                        let n = channels_in(t, st.counted);
-                        let l = layout_in(t, n, st.root, dates);
+                        let count = framing::channels_of(st.counted) as usize;
+                        let n = records::at_most(t, count);
+                        let l = records::layout_in(t, count, st.root, dates);
                         match framing::frame_of(frames, st, l.agree, l.octets, len) {
                             Framed::Refused(number) => {
                                 return come_to(
@@ -213,7 +184,7 @@ pub fn advance(s: &[u8], h: Head, t: &mut [u64]) -> Moved
                                     d,
                                     after,
                                     dates,
-                                    count,
+                                    read,
                                     frames + 1,
                                 );
                             }
@@ -225,7 +196,7 @@ pub fn advance(s: &[u8], h: Head, t: &mut [u64]) -> Moved
                     _ => {
                         st = effects::standing_after(st, effect);
                         c = d;
-                        items = count;
+                        items = read;
                     }
                 }
             }

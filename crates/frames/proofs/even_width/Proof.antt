@@ -1,12 +1,15 @@
 -- One width so far, and after the last channel of all.
-use Rattle.settings.specs.Settings.{channelLimit, zeroSettings}
-use Prim.Native.Nat.{ℕ, _-_, _≤_, _<_}
-use mathlib.Core.Path.{_≡_, ap, sym, _∙_}
-use mathlib.Core.List.{List}
-use native.Mathlib.Omega.{arith}
 use borrow.Author.Needs.{needs}
-use lib.ListN.{length, take, getD}
+use mathlib.Core.Path.{_≡_, refl, ap, sym, subst, _∙_}
+use mathlib.Core.List.{List}
+use Prim.Native.Nat.{ℕ, _-_, _≤_, _<_}
+use native.Mathlib.Omega.{arith}
+use lib.ListN.{take, getD}
 use Rattle.settings.specs.declared.Settings.{Settings}
+use Rattle.dated.specs.declared.Dates.{Dates}
+use Rattle.dated.specs.Dated.{zeroDated, settledAt}
+use Rattle.records.specs.Records.{recordsIn, channelsIn}
+use Rattle.frames.specs.Parts.{Few}
 use Rattle.values.specs.Sample.{widthOf}
 use Rattle.laid.specs.Turned.{Even}
 use borrow.Author.Count.{below-none, below-more}
@@ -15,25 +18,22 @@ use Rattle.frames.proofs.even_width.Statement.{statement}
 use Rattle.frames.proofs.even_width.Tie as tie
 
 abbrev Inv-loop : tie.InvT-loop
-Inv-loop count table v i₀ i = (i ≤ count) × (count ≤ channelLimit) × (length table ≡ channelLimit) × ((k : ℕ) → k < i → widthOf (getD table k zeroSettings .datatype) ≡ v)
+Inv-loop t root dates count v i₀ i = (i ≤ count) × Few count t × ((k : ℕ) → k < i → widthOf (settledAt root dates (getD (recordsIn t) k zeroDated) .datatype) ≡ v)
 
 abbrev μ-loop : tie.MeasureT-loop
-μ-loop count table v i₀ i = count - i
+μ-loop t root dates count v i₀ i = count - i
 
-array-copy-out-first : tie.Need-array-copy-out-first Inv-loop μ-loop
-array-copy-out-first c = search needs
+settled-requires : tie.Need-settled-requires Inv-loop μ-loop
+settled-requires c κs = search needs
 
 width-requires : tie.Need-width-requires Inv-loop μ-loop
 width-requires c κs = search needs
 
 loop-holds : tie.Need-loop-holds Inv-loop μ-loop
-loop-holds c = (omega arith, c .before .before .pre, search needs, below-none _)
+loop-holds c = (omega arith, c .before .before .before .pre, below-none _)
 
-mul-c : tie.Need-mul-c Inv-loop μ-loop
-mul-c c = omega arith
-
-array-copy-out-c : tie.Need-array-copy-out-c Inv-loop μ-loop
-array-copy-out-c c = omega arith
+settled-requires-2 : tie.Need-settled-requires-2 Inv-loop μ-loop
+settled-requires-2 c κs = search needs
 
 width-requires-2 : tie.Need-width-requires-2 Inv-loop μ-loop
 width-requires-2 c κs = search needs
@@ -42,30 +42,26 @@ returns : tie.Need-returns Inv-loop μ-loop
 returns c = λ h. let z : ⊥ = omega arith in absurd z
 
 add-i : tie.Need-add-i Inv-loop μ-loop
-add-i c = omega arith
+add-i c = omega (arith, c .before .before .before .before .loop .inv .1 .most, c .before .before .before .loop-test .taken)
 
 loop-less : tie.Need-loop-less Inv-loop μ-loop
 loop-less c = omega arith
 
 loop-again : tie.Need-loop-again Inv-loop μ-loop
 loop-again c =
-    let at-width2 = c .before in
-    let at-loop = at-width2 .before .before .before in
-    let inv = at-loop .loop .inv in
-    (omega arith, inv .1, inv .2, below-more _ _ (inv .3) (sym (at-width2 .width2 .ensures) ∙ c .if1 .left))
+    let inv = c .before .before .before .before .loop .inv in
+    (omega (arith, c .before .before .before .loop-test .taken), inv .1, below-more _ _ (inv .2) (ap (λ (y : Settings). widthOf (y .datatype)) (sym (c .before .before .settled2 .ensures)) ∙ sym (c .before .width2 .ensures) ∙ c .if1 .left))
 
-even-taken : (t : List Settings) (n i v : ℕ) → length t ≡ channelLimit → n ≤ channelLimit → n ≤ i → ((k : ℕ) → k < i → widthOf (getD t k zeroSettings .datatype) ≡ v) → Even v (take n t)
-even-taken t n i v e h l f j m =
-    let k : j < n = omega (arith, taken-long t n e h) in
-    ap (λ (c : Settings). widthOf (c .datatype)) (sym (nth t n j (taken-long t n e h) k .is)) ∙ f j (omega arith)
+even-taken : (root : Settings) (d : Dates) (u : List ℕ) {n : ℕ} → Few n u → (i v : ℕ) → n ≤ i → ((k : ℕ) → k < i → widthOf (settledAt root d (getD (recordsIn u) k zeroDated) .datatype) ≡ v) → Even v (take n (channelsIn root d u))
+even-taken root d u f i v l g j m =
+    let k : j < _ = subst (λ (n : ℕ). j < n) (taken-long root d u f) m in
+    ap (λ (c : Settings). widthOf (c .datatype)) (sym (nth root d u f k refl .is)) ∙ g j (omega arith)
 
 returns-2 : tie.Need-returns-2 Inv-loop μ-loop
 returns-2 c =
-    let at-loop = c .before in
-    let at-start = at-loop .before .before .before in
-    let a = at-start .args in
-    let inv = at-loop .loop .inv in
-    λ h. even-taken (a .t1) (a .count) (at-loop .loop .i) _ (inv .2) (inv .1) (c .loop-test .left) (inv .3)
+    let a = c .before .before .before .before .before .args in
+    let inv = c .before .loop .inv in
+    λ h. even-taken (a .root) (a .dates) (a .t .now) (inv .1) (c .before .loop .i) _ (c .loop-test .left) (inv .2)
 
 pub even-width-spec : {M : Type 1} → statement M
 even-width-spec =
@@ -73,11 +69,10 @@ even-width-spec =
     (tie.spec
     Inv-loop
     μ-loop
-    array-copy-out-first
+    settled-requires
     width-requires
     loop-holds
-    mul-c
-    array-copy-out-c
+    settled-requires-2
     width-requires-2
     returns
     add-i

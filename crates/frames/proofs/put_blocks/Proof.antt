@@ -1,47 +1,37 @@
 -- The blocks still to come of a sequence, and the sequences still to come, stored from here on, give the wanted buffer.
-use Rattle.settings.specs.Settings.{channelLimit, zeroSettings}
-use Rattle.frames.proofs.Coming.{Nth, nth, taken-long, blocks-sum, Blocks, blocks-first, blocks-next, blocks-place, blocks-done, Sequences, sequences-first, sequences-fit, sequences-room, sequences-next, sequences-done}
-use Prim.Native.Nat.{_-_, _≤_}
-use mathlib.Core.Path.{_≡_}
-use native.Mathlib.Omega.{arith}
 use borrow.Author.Needs.{needs}
-use lib.ListN.{length, take, getD}
+use Prim.Native.Nat.{_-_, _^_, _<_}
+use native.Mathlib.Omega.{arith}
+use lib.ListN.{length, take}
+use Rattle.records.specs.Records.{channelsIn}
+use Rattle.frames.specs.Parts.{Few}
+use Rattle.frames.proofs.Coming.{Nth, nth, taken-long, blocks-sum, Blocks, blocks-first, blocks-next, blocks-place, blocks-done, Sequences, sequences-first, sequences-fit, sequences-room, sequences-next, sequences-done}
 use Rattle.frames.proofs.put_blocks.Statement.{statement}
 use Rattle.frames.proofs.put_blocks.Tie as tie
 
 abbrev Inv-loop2 : tie.InvT-loop2
-Inv-loop2 w sequences count out₀ at table q place₀ next₀ i₀ out place next i =
-    (count ≤ channelLimit) × (length (take count table) ≡ count) × Blocks (take count table) w place₀ next₀ out₀ i place next out
+Inv-loop2 w sequences t root dates count out₀ at q place₀ next₀ i₀ out place next i = Few count t × Blocks (take count (channelsIn root dates t)) w place₀ next₀ out₀ i place next out
 
 abbrev μ-loop2 : tie.MeasureT-loop2
-μ-loop2 w sequences count out₀ at table q place₀ next₀ i₀ out place next i = count - i
+μ-loop2 w sequences t root dates count out₀ at q place₀ next₀ i₀ out place next i = count - i
 
 abbrev Inv-loop : tie.InvT-loop
-Inv-loop w sequences count out₀ at table q₀ place₀ next₀ out q place next =
-    (length (take count table) ≡ count) × Sequences (take count table) sequences w out₀ at q place next out
+Inv-loop w sequences t root dates count out₀ at q₀ place₀ next₀ out q place next = Few count t × Sequences (take count (channelsIn root dates t)) sequences w out₀ at q place next out
 
 abbrev μ-loop : tie.MeasureT-loop
-μ-loop w sequences count out₀ at table q₀ place₀ next₀ out q place next = sequences - q
+μ-loop w sequences t root dates count out₀ at q₀ place₀ next₀ out q place next = sequences - q
 
 loop-holds : tie.Need-loop-holds Inv-loop2 μ-loop2 Inv-loop μ-loop
-loop-holds c =
-    let at-start = c .before .before in
-    let pre = at-start .pre in
-    (taken-long _ _ (search needs) (pre .0 .0), sequences-first _ _ _ _ _ (pre .0 .1) (pre .1))
+loop-holds c = (c .before .before .before .pre .0 .0, sequences-first _ _ _ _ _ (c .before .before .before .pre .0 .1) (c .before .before .before .pre .1))
 
 loop2-holds : tie.Need-loop2-holds Inv-loop2 μ-loop2 Inv-loop μ-loop
 loop2-holds c =
-    let at-loop = c .before in
-    let at-start = at-loop .before .before .before in
-    let inv = at-loop .loop .inv in
+    let inv = c .before .loop .inv in
     let test = c .loop-test .taken in
-    (at-start .pre .0 .0, inv .0, blocks-first _ _ _ _ _ (sequences-fit (inv .1) test) (sequences-room (inv .1) test))
+    (inv .0, blocks-first _ _ _ _ _ (sequences-fit (inv .1) test) (sequences-room (inv .1) test))
 
-mul-c : tie.Need-mul-c Inv-loop2 μ-loop2 Inv-loop μ-loop
-mul-c c = omega (arith, c .before .loop2 .inv .2 .low)
-
-array-copy-out-c : tie.Need-array-copy-out-c Inv-loop2 μ-loop2 Inv-loop μ-loop
-array-copy-out-c c = omega (arith, c .before .loop2 .inv .2 .low)
+settled-requires : tie.Need-settled-requires Inv-loop2 μ-loop2 Inv-loop μ-loop
+settled-requires c κs = search needs
 
 width-requires : tie.Need-width-requires Inv-loop2 μ-loop2 Inv-loop μ-loop
 width-requires c κs = search needs
@@ -57,45 +47,35 @@ cast-place c = search needs
 
 -- The channel whose block comes next.
 channel :
-    (c : tie.In-loop2 Inv-loop2 μ-loop2 Inv-loop μ-loop) →
-    let a = c .before .before .before .before .before .before .args in
-    Nth (take (a .count) (a .t3)) (c .before .loop2 .i) (getD (a .t3) (c .before .loop2 .i) zeroSettings)
+    (c : tie.After-settled Inv-loop2 μ-loop2 Inv-loop μ-loop) →
+    let l = c .before .before .loop2 in
+    let a = c .before .before .before .before .before .before .before .before .args in
+    Nth (take (a .count) (channelsIn (a .root) (a .dates) (a .t .now))) (l .i) (c .settled .result)
 channel c =
-    let at-loop2 = c .before in
-    let at-start = at-loop2 .before .before .before .before .before in
-    let l = at-loop2 .loop2 in
-    nth (at-start .args .t3) (at-start .args .count) (l .i) (l .inv .1) (c .loop2-test .taken)
+    let at-loop2 = c .before .before in
+    let a = at-loop2 .before .before .before .before .before .before .args in
+    nth (a .root) (a .dates) (a .t .now) (at-loop2 .loop2 .inv .0) (c .before .loop2-test .taken) (c .settled .ensures)
+
+-- No slice is longer than an address tells.
+short : (c : tie.After-shared-slice-known Inv-loop2 μ-loop2 Inv-loop μ-loop) → length (c .before .args .w .now) < 2 ^ 64
+short c = search needs
 
 mul-place : tie.Need-mul-place Inv-loop2 μ-loop2 Inv-loop μ-loop
-mul-place c =
-    let at-width = c .before .before .before .before .before .before in
-    let at-loop2-test = at-width .before .before in
-    let at-loop2 = at-loop2-test .before in
-    omega (arith, blocks-sum (at-loop2 .loop2 .inv .2) (channel at-loop2-test) (at-width .width .ensures))
+mul-place c = omega (arith, blocks-sum (c .before .before .before .before .before .before .before .before .before .loop2 .inv .1) (channel (c .before .before .before .before .before .before .before)) (c .before .before .before .before .before .before .width .ensures), short (c .before .before .before .before .before .before .before .before .before .before .before .before .before .before))
 
 add-place : tie.Need-add-place Inv-loop2 μ-loop2 Inv-loop μ-loop
-add-place c =
-    let at-width = c .before .before .before .before .before .before in
-    let at-loop2-test = at-width .before .before in
-    let at-loop2 = at-loop2-test .before in
-    omega (arith, blocks-sum (at-loop2 .loop2 .inv .2) (channel at-loop2-test) (at-width .width .ensures))
+add-place c = omega (arith, blocks-sum (c .before .before .before .before .before .before .before .before .before .loop2 .inv .1) (channel (c .before .before .before .before .before .before .before)) (c .before .before .before .before .before .before .width .ensures), short (c .before .before .before .before .before .before .before .before .before .before .before .before .before .before))
 
 add-i : tie.Need-add-i Inv-loop2 μ-loop2 Inv-loop μ-loop
-add-i c =
-    let at-loop2 = c .before .before .before .before .before .before .before .before .before in
-    omega (arith, at-loop2 .loop2 .inv .0)
+add-i c = omega (arith, c .before .before .before .before .before .before .before .before .before .loop2 .inv .0 .most, c .before .before .before .before .before .before .before .before .loop2-test .taken)
 
 loop2-less : tie.Need-loop2-less Inv-loop2 μ-loop2 Inv-loop μ-loop
 loop2-less c = omega arith
 
 loop2-again : tie.Need-loop2-again Inv-loop2 μ-loop2 Inv-loop μ-loop
 loop2-again c =
-    let at-turn = c .before .before .before in
-    let at-width = at-turn .before .before .before in
-    let at-loop2-test = at-width .before .before in
-    let at-loop2 = at-loop2-test .before in
-    let inv = at-loop2 .loop2 .inv in
-    (inv .0, inv .1, blocks-next (inv .2) (channel at-loop2-test) (at-width .width .ensures) (at-turn .turn .ensures))
+    let inv = c .before .before .before .before .before .before .before .before .before .loop2 .inv in
+    (inv .0, blocks-next (inv .1) (channel (c .before .before .before .before .before .before .before)) (c .before .before .before .before .before .before .width .ensures) (c .before .before .before .turn .ensures))
 
 add-q : tie.Need-add-q Inv-loop2 μ-loop2 Inv-loop μ-loop
 add-q c = omega arith
@@ -105,14 +85,12 @@ loop-less c = omega arith
 
 loop-again : tie.Need-loop-again Inv-loop2 μ-loop2 Inv-loop μ-loop
 loop-again c =
-    let at-loop2 = c .before in
-    let at-loop-test = at-loop2 .before in
-    let at-loop = at-loop-test .before in
-    let inv = at-loop .loop .inv in
-    let blocks = at-loop2 .loop2 .inv .2 in
-    let all = at-loop2 .loop2 .inv .1 in
+    let a = c .before .before .before .before .before .before .before .args in
+    let inv = c .before .before .before .loop .inv in
+    let blocks = c .before .loop2 .inv .1 in
+    let all = taken-long (a .root) (a .dates) (a .t .now) (inv .0) in
     let end = c .loop2-test .left in
-    (inv .0, sequences-next (inv .1) _ (at-loop-test .loop-test .taken) (blocks-place blocks (omega (arith, all, end))) (blocks-done blocks (omega (arith, all, end))))
+    (inv .0, sequences-next (inv .1) _ (c .before .before .loop-test .taken) (blocks-place blocks (omega (arith, all, end))) (blocks-done blocks (omega (arith, all, end))))
 
 same-length : tie.Need-same-length Inv-loop2 μ-loop2 Inv-loop μ-loop
 same-length c = c .before .loop .inv .1 .coming .long
@@ -130,8 +108,7 @@ put-blocks-spec =
     μ-loop
     loop-holds
     loop2-holds
-    mul-c
-    array-copy-out-c
+    settled-requires
     width-requires
     cast-turn
     turn-requires

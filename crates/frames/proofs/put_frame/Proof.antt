@@ -13,23 +13,23 @@ use Rattle.frames.proofs.put_frame.Tie as tie
 
 -- The first records of the table, and their layout.
 told :
-    (c : tie.After-layout-of) →
-    let a = c .before .before .before .before .args in
-    FirstRecords (a .table) (a .count) (c .before .at-most .result) (c .layout-of .result)
-told c = record { full = search needs; few = c .before .at-most .ensures; layout = c .layout-of .ensures }
+    (c : tie.After-layout-in) →
+    let a = c .before .before .before .before .before .args in
+    FirstRecords (a .root) (a .dates) (a .t .now) (a .count) (c .before .at-most .result) (c .layout-in .result)
+told c = record { few = c .before .at-most .ensures; layout = c .layout-in .ensures }
 
 -- The waveform holds the sequences.
 held :
     (c : tie.Else1) →
-    let a = c .before .before .before .before .before .before .args in
-    SequencesHeld (a .sequences) (c .before .before .layout-of .result) (a .w .now) true
+    let a = c .before .before .before .before .before .before .before .args in
+    SequencesHeld (a .sequences) (c .before .before .layout-in .result) (a .w .now) true
 held c = sym (c .before .holds .ensures) ∙ not-false _ (c .if1 .left)
 
 at-most-requires : tie.Need-at-most-requires
 at-most-requires c κs = search needs
 
-layout-of-requires : tie.Need-layout-of-requires
-layout-of-requires c κs = search needs
+layout-in-requires : tie.Need-layout-in-requires
+layout-in-requires c κs = search needs
 
 holds-requires : tie.Need-holds-requires
 holds-requires c κs = search needs
@@ -37,31 +37,31 @@ holds-requires c κs = search needs
 returns : tie.Need-returns
 returns c =
     let at-holds = c .before in
-    let at-layout-of = at-holds .before in
-    let at-start = at-layout-of .before .before .before .before in
+    let at-layout-in = at-holds .before in
+    let at-start = at-layout-in .before .before .before .before .before in
     let a = at-start .args in
-    not-held (told at-layout-of) (a .sequences) (a .w .now) (a .start) (a .little) _ _ (sym (at-holds .holds .ensures) ∙ not-true _ (c .if1 .taken))
+    not-held (told at-layout-in) (a .sequences) (a .w .now) (a .start) (a .little) _ _ (sym (at-holds .holds .ensures) ∙ not-true _ (c .if1 .taken))
 
 mul-octets : tie.Need-mul-octets
 mul-octets c =
     let at-if1 = c .before in
-    let at-layout-of = at-if1 .before .before in
-    let at-start = at-layout-of .before .before .before .before in
+    let at-layout-in = at-if1 .before .before in
+    let at-start = at-layout-in .before .before .before .before .before in
     let a = at-start .args in
-    omega (arith, held-few (told at-layout-of) (a .sequences) (a .w .now) (held at-if1) .1)
+    omega (arith, held-few (told at-layout-in) (a .sequences) (a .w .now) (held at-if1) .1)
 
 cast-frame-size : tie.Need-cast-frame-size
 cast-frame-size c =
-    let at-layout-of = c .before .before .before .before in
-    omega (arith, told-groups (told at-layout-of))
+    let at-layout-in = c .before .before .before .before in
+    omega (arith, told-groups (told at-layout-in))
 
 cast-frame-size-2 : tie.Need-cast-frame-size-2
 cast-frame-size-2 c =
     let at-if1 = c .before .before in
-    let at-layout-of = at-if1 .before .before in
-    let at-start = at-layout-of .before .before .before .before in
+    let at-layout-in = at-if1 .before .before in
+    let at-start = at-layout-in .before .before .before .before .before in
     let a = at-start .args in
-    omega (arith, held-few (told at-layout-of) (a .sequences) (a .w .now) (held at-if1) .1)
+    omega (arith, held-few (told at-layout-in) (a .sequences) (a .w .now) (held at-if1) .1)
 
 frame-size-requires : tie.Need-frame-size-requires
 frame-size-requires c κs = search needs
@@ -74,11 +74,11 @@ returns-2 c =
     let at-overruns = c .before in
     let at-frame-size = at-overruns .before in
     let at-if1 = at-frame-size .before .before .before in
-    let at-layout-of = at-if1 .before .before in
-    let at-start = at-layout-of .before .before .before .before in
+    let at-layout-in = at-if1 .before .before in
+    let at-start = at-layout-in .before .before .before .before .before in
     let a = at-start .args in
     let h = sym (at-overruns .overruns .ensures) ∙ c .if2 .taken in
-    let long = given-long (told at-layout-of) (a .sequences) (a .w .now) (held at-if1) (a .start) (a .little) in
+    let long = given-long (told at-layout-in) (a .sequences) (a .w .now) (held at-if1) (a .start) (a .little) in
     putting-kept (omega (arith, ltb-true, at-frame-size .frame-size .ensures .0))
 
 store-frame-requires : tie.Need-store-frame-requires
@@ -87,11 +87,11 @@ store-frame-requires c κs =
     let at-overruns = at-if2 .before in
     let at-frame-size = at-overruns .before in
     let at-if1 = at-frame-size .before .before .before in
-    let at-layout-of = at-if1 .before .before in
-    let at-start = at-layout-of .before .before .before .before in
+    let at-layout-in = at-if1 .before .before in
+    let at-start = at-layout-in .before .before .before .before .before in
     let a = at-start .args in
     let h = sym (at-overruns .overruns .ensures) ∙ at-if2 .if2 .left in
-    frame-asked (told at-layout-of) (a .sequences) (a .w .now) (held at-if1) _ _ (omega (arith, ltb-false, at-frame-size .frame-size .ensures .0))
+    frame-asked (told at-layout-in) (a .sequences) (a .w .now) (held at-if1) _ _ (omega (arith, ltb-false, at-frame-size .frame-size .ensures .0))
 
 same-length : tie.Need-same-length
 same-length c = search needs
@@ -103,12 +103,12 @@ returns-3 c =
     let at-overruns = at-if2 .before in
     let at-frame-size = at-overruns .before in
     let at-if1 = at-frame-size .before .before .before in
-    let at-layout-of = at-if1 .before .before in
-    let at-start = at-layout-of .before .before .before .before in
+    let at-layout-in = at-if1 .before .before in
+    let at-start = at-layout-in .before .before .before .before .before in
     let a = at-start .args in
     let h = sym (at-overruns .overruns .ensures) ∙ at-if2 .if2 .left in
-    let long = given-long (told at-layout-of) (a .sequences) (a .w .now) (held at-if1) (a .start) (a .little) in
-    let parts = parts-given (told at-layout-of) (a .sequences) (a .w .now) (held at-if1) (a .little) (toZ-ofZ (at-start .fits .start)) in
+    let long = given-long (told at-layout-in) (a .sequences) (a .w .now) (held at-if1) (a .start) (a .little) in
+    let parts = parts-given (told at-layout-in) (a .sequences) (a .w .now) (held at-if1) (a .little) (toZ-ofZ (at-start .fits .start)) in
     putting (omega (arith, ltb-false, at-frame-size .frame-size .ensures .0)) (put-as parts (at-store-frame .store-frame .ensures))
 
 pub put-frame-spec : {M : Type 1} → statement M
@@ -116,7 +116,7 @@ put-frame-spec =
     tie.close
     (tie.spec
     at-most-requires
-    layout-of-requires
+    layout-in-requires
     holds-requires
     returns
     mul-octets

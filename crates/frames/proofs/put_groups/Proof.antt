@@ -1,65 +1,52 @@
 -- The groups still to come, stored from here on, give the wanted buffer.
-use Rattle.settings.specs.Settings.{channelLimit}
-use Rattle.frames.proofs.Coming.{Grouped, grouped-first, grouped-next, grouped-done, nth, taken-long}
-use Prim.Native.Nat.{_-_, _≤_}
-use mathlib.Core.Path.{_≡_}
-use native.Mathlib.Omega.{arith}
 use borrow.Author.Needs.{needs}
-use lib.ListN.{length, take}
+use Prim.Native.Nat.{_-_}
+use native.Mathlib.Omega.{arith}
+use lib.ListN.{take}
+use Rattle.records.specs.Records.{channelsIn}
+use Rattle.frames.specs.Parts.{Few}
+use Rattle.frames.proofs.Coming.{Grouped, grouped-first, grouped-next, grouped-done, nth, taken-long}
 use Rattle.frames.proofs.put_groups.Statement.{statement}
 use Rattle.frames.proofs.put_groups.Tie as tie
 
 abbrev Inv-loop : tie.InvT-loop
-Inv-loop out₀ at count table i₀ next₀ out i next = (count ≤ channelLimit) × (length (take count table) ≡ count) × Grouped (take count table) out₀ at i next out
+Inv-loop out₀ at t root dates count i₀ next₀ out i next = Few count t × Grouped (take count (channelsIn root dates t)) out₀ at i next out
 
 abbrev μ-loop : tie.MeasureT-loop
-μ-loop out₀ at count table i₀ next₀ out i next = count - i
+μ-loop out₀ at t root dates count i₀ next₀ out i next = count - i
 
 loop-holds : tie.Need-loop-holds Inv-loop μ-loop
-loop-holds c =
-    let at-start = c .before in
-    let pre = at-start .pre in
-    (pre .0, taken-long _ _ (search needs) (pre .0), grouped-first _ _ _ (pre .1))
+loop-holds c = (c .before .before .pre .0, grouped-first _ _ _ (c .before .before .pre .1))
 
-mul-c : tie.Need-mul-c Inv-loop μ-loop
-mul-c c =
-    let at-loop = c .before in
-    omega (arith, at-loop .loop .inv .0)
-
-array-copy-out-c : tie.Need-array-copy-out-c Inv-loop μ-loop
-array-copy-out-c c = omega arith
+settled-requires : tie.Need-settled-requires Inv-loop μ-loop
+settled-requires c κs = search needs
 
 cast-put-group : tie.Need-cast-put-group Inv-loop μ-loop
-cast-put-group c = omega arith
+cast-put-group c = omega (arith, c .before .before .before .loop .inv .0 .most, c .before .before .loop-test .taken)
 
 put-group-requires : tie.Need-put-group-requires Inv-loop μ-loop
 put-group-requires c κs = search needs
 
 add-i : tie.Need-add-i Inv-loop μ-loop
-add-i c = omega arith
+add-i c = omega (arith, c .before .before .before .before .before .before .loop .inv .0 .most, c .before .before .before .before .before .loop-test .taken)
 
 loop-less : tie.Need-loop-less Inv-loop μ-loop
 loop-less c = omega arith
 
 loop-again : tie.Need-loop-again Inv-loop μ-loop
 loop-again c =
-    let at-put-group = c .before .before in
-    let at-loop-test = at-put-group .before .before .before in
-    let at-loop = at-loop-test .before in
-    let at-start = at-loop .before .before in
-    let a = at-start .args in
-    let l = at-loop .loop in
-    let n = nth (a .t3) (a .count) (l .i) (l .inv .1) (at-loop-test .loop-test .taken) in
-    (l .inv .0, l .inv .1, grouped-next (l .inv .2) n (at-put-group .put-group .ensures))
+    let a = c .before .before .before .before .before .before .before .before .before .args in
+    let inv = c .before .before .before .before .before .before .loop .inv in
+    (inv .0, grouped-next (inv .1) (nth (a .root) (a .dates) (a .t .now) (inv .0) (c .before .before .before .before .before .loop-test .taken) (c .before .before .before .before .settled .ensures)) (c .before .before .put-group .ensures))
 
 same-length : tie.Need-same-length Inv-loop μ-loop
-same-length c = c .before .loop .inv .2 .coming .long
+same-length c = c .before .loop .inv .1 .coming .long
 
 returns : tie.Need-returns Inv-loop μ-loop
 returns c =
-    let at-loop = c .before in
-    let inv = at-loop .loop .inv in
-    grouped-done (inv .2) (omega (arith, inv .1, c .loop-test .left))
+    let a = c .before .before .before .before .args in
+    let inv = c .before .loop .inv in
+    grouped-done (inv .1) (omega (arith, taken-long (a .root) (a .dates) (a .t .now) (inv .0), c .loop-test .left))
 
 pub put-groups-spec : {M : Type 1} → statement M
 put-groups-spec =
@@ -68,8 +55,7 @@ put-groups-spec =
     Inv-loop
     μ-loop
     loop-holds
-    mul-c
-    array-copy-out-c
+    settled-requires
     cast-put-group
     put-group-requires
     add-i

@@ -4,6 +4,7 @@ use mathlib.Core.List.{List}
 use native.Mathlib.Omega.{arith}
 use borrow.Author.Tests.{not-true, not-false}
 use lib.ListN.{take}
+use Rattle.records.specs.Records.{channelsIn}
 use Prim.Native.Nat.{ℕ, _<_}
 use Rattle.settings.specs.declared.Settings.{Settings}
 use Rattle.laid.specs.Turned.{Even}
@@ -30,9 +31,9 @@ returns : tie.Need-returns
 returns c =
     let at-copy = c .before .before in
     let at-if1 = at-copy .before .before in
-    let at-start = at-if1 .before .before .before .before in
+    let at-start = at-if1 .before .before .before .before .before in
     let a = at-start .args in
-    let cs = take (a .count) (a .table) in
+    let cs = take (a .count) (channelsIn (a .root) (a .dates) (a .t .now)) in
     put-as (samples-big {little = a .little} cs _ _ _ (not-true _ (at-if1 .if1 .taken)) (at-start .pre .0 .1))
     (put-fits (taken-room (a .octets) (a .at) (a .w .now) (a .out .now) (at-start .pre .1 .1)) (at-copy .copy .ensures))
 
@@ -48,9 +49,9 @@ returns-2 c =
     let at-if2 = at-copy2 .before .before in
     let at-if1 = at-if2 .before in
     let at-even-width = at-if1 .before in
-    let at-start = at-even-width .before .before .before in
+    let at-start = at-even-width .before .before .before .before in
     let a = at-start .args in
-    let cs = take (a .count) (a .table) in
+    let cs = take (a .count) (channelsIn (a .root) (a .dates) (a .t .now)) in
     let one = one-wide cs _ (at-even-width .even-width .ensures) (at-if2 .if2 .taken) in
     let little = not-false _ (at-if1 .if1 .left) in
     put-as (samples-narrow cs _ _ _ (at-start .pre .0 .1) one ∙ samples-little {little = a .little} cs _ _ little)
@@ -66,9 +67,9 @@ returns-3 : tie.Need-returns-3
 returns-3 c =
     let at-put-blocks = c .before .before in
     let at-if1 = at-put-blocks .before .before .before .before in
-    let at-start = at-if1 .before .before .before .before in
+    let at-start = at-if1 .before .before .before .before .before in
     let a = at-start .args in
-    put-as (samples-little {little = a .little} (take (a .count) (a .table)) _ _ (not-false _ (at-if1 .if1 .left))) (at-put-blocks .put-blocks .ensures)
+    put-as (samples-little {little = a .little} (take (a .count) (channelsIn (a .root) (a .dates) (a .t .now))) _ _ (not-false _ (at-if1 .if1 .left))) (at-put-blocks .put-blocks .ensures)
 
 div-turn : tie.Need-div-turn
 div-turn c = search needs
@@ -84,9 +85,9 @@ returns-4 c =
     let at-turn = c .before .before in
     let at-if1 = at-turn .before .before .before .before in
     let at-even-width = at-if1 .before in
-    let at-start = at-even-width .before .before .before in
+    let at-start = at-even-width .before .before .before .before in
     let a = at-start .args in
-    let cs = take (a .count) (a .table) in
+    let cs = take (a .count) (channelsIn (a .root) (a .dates) (a .t .now)) in
     let v = at-even-width .even-width in
     let p : 0 < v .result = omega arith in
     let pre = at-start .pre in

@@ -8,8 +8,9 @@ use lib.ListN.{length}
 use Rattle.items.specs.declared.Item.{Item}
 use Rattle.items.proofs.Walks.{found-as}
 use Rattle.records.specs.Records.{recordsIn}
+use Rattle.records.proofs.Channels.{channels-few}
 use Rattle.walk.specs.Advance.{Stand, stand, advanceOf}
-use Rattle.walk.proofs.Turns.{advance-end, advance-fault, Turning, turning-later, turning-stands, turning-count, turning-all, turning-one, turning-refused, Framing, channels-few, framing-refused, framing-last, framing-taken, answered}
+use Rattle.walk.proofs.Turns.{advance-end, advance-fault, Turning, turning-later, turning-stands, turning-count, turning-all, turning-one, turning-refused, Framing, turning-framed, framing-refused, framing-last, framing-taken, answered}
 use Rattle.walk.proofs.advance.Statement.{statement}
 use Rattle.walk.proofs.advance.Tie as tie
 
@@ -55,7 +56,7 @@ abbrev Given : Type 0
 Given = tie.After-frame-of Inv-loop μ-loop
 
 abbrev at-frame : Given → tie.After-effect3 Inv-loop μ-loop
-at-frame c = c .before .before .before .before .before .before
+at-frame c = c .before .before .before .before .before .before .before
 
 abbrev known : Given → Known
 known c = at-frame c .before .before
@@ -63,10 +64,10 @@ known c = at-frame c .before .before
 framing : (c : Given)
     → let k = known c in
     let waveform = at-frame c .effect3 .given .0 in
-    Framing (file-of (at-loop k)) (here (at-loop k)) (item-of k) (k .before .before .renewed .result) (waveform .0) (waveform .1 .0) (c .before .before .before .channels-in .result) (c .before .layout-in .result) (c .frame-of .result)
+    Framing (file-of (at-loop k)) (here (at-loop k)) (item-of k) (k .before .before .renewed .result) (waveform .0) (waveform .1 .0) (c .before .before .before .at-most .result) (c .before .layout-in .result) (c .frame-of .result)
 framing c =
-    let t = turn (known c) in
-    record { turn = record { found = t .found; asks = sym (at-frame c .effect3 .given .1) ∙ t .asks }; counts = c .before .before .before .channels-in .ensures; laid = c .before .layout-in .ensures; gives = c .frame-of .ensures }
+    let at-count = c .before .before .before in
+    turning-framed (turn (known c)) (at-frame c .effect3 .given .1) (at-count .before .before .channels-of .ensures) (at-count .at-most .ensures) (c .before .layout-in .ensures) (c .frame-of .ensures)
 
 -- ---- the needs
 
@@ -163,11 +164,8 @@ enum-known-effect-2 c = search needs
 cast-k : tie.Need-cast-k Inv-loop μ-loop
 cast-k c = search needs
 
-get-requires : tie.Need-get-requires Inv-loop μ-loop
-get-requires c κs = search needs
-
-settle-requires : tie.Need-settle-requires Inv-loop μ-loop
-settle-requires c κs = search needs
+settled-requires : tie.Need-settled-requires Inv-loop μ-loop
+settled-requires c κs = search needs
 
 apply-requires : tie.Need-apply-requires Inv-loop μ-loop
 apply-requires c κs = search needs
@@ -180,26 +178,35 @@ put-requires c κs = search needs
 
 loop-less-3 : tie.Need-loop-less-3 Inv-loop μ-loop
 loop-less-3 c =
-    let at-one = c .before .before .before .before .before .before .before .before .before .before in
+    let at-one = c .before .before .before .before .before .before .before .before .before in
     omega (arith, turning-later (turn (at-one .before .before)))
 
 loop-again-3 : tie.Need-loop-again-3 Inv-loop μ-loop
 loop-again-3 c =
     let at-put = c .before .before in
-    let at-settle = at-put .before .before .before .before in
-    let at-one = at-settle .before .before .before .before in
+    let at-settled = at-put .before .before .before .before in
+    let at-one = at-settled .before .before .before in
     let k = at-one .before .before in
     let inv = at-loop k .loop .inv in
-    (turning-one (turn k) (at-one .effect2 .given .1) (at-settle .before .get .ensures) (at-settle .settle .ensures) (at-put .before .before .apply .ensures) (at-put .before .note .ensures) (at-put .put .ensures .records) (k .before .wrapping-add-u64 .ensures) ∙ inv .0, at-put .put .ensures .long ∙ inv .1)
+    let stored = at-put .put .ensures in (
+      turning-one (turn k) (at-one .effect2 .given .1) (at-settled .settled .ensures) (at-put .before .before .apply .ensures) (at-put .before .note .ensures) (stored .records) (k .before .wrapping-add-u64 .ensures) ∙ inv .0,
+      stored .long ∙ inv .1,
+    )
 
 enum-known-effect-3 : tie.Need-enum-known-effect-3 Inv-loop μ-loop
 enum-known-effect-3 c = search needs
 
-channels-in-requires : tie.Need-channels-in-requires Inv-loop μ-loop
-channels-in-requires c κs = search needs
+channels-of-requires : tie.Need-channels-of-requires Inv-loop μ-loop
+channels-of-requires c κs = search needs
+
+cast-count : tie.Need-cast-count Inv-loop μ-loop
+cast-count c = search needs
+
+at-most-requires : tie.Need-at-most-requires Inv-loop μ-loop
+at-most-requires c κs = search needs
 
 layout-in-requires : tie.Need-layout-in-requires Inv-loop μ-loop
-layout-in-requires c κs = channels-few _ _ (c .before .channels-in .ensures)
+layout-in-requires c κs = search needs
 
 frame-of-requires : tie.Need-frame-of-requires Inv-loop μ-loop
 frame-of-requires c κs = search needs
@@ -214,7 +221,7 @@ come-to-requires-3 : tie.Need-come-to-requires-3 Inv-loop μ-loop
 come-to-requires-3 c κs = search needs
 
 same-length-3 : tie.Need-same-length-3 Inv-loop μ-loop
-same-length-3 c = c .before .before .before .before .before .before .before .before .before .before .before .before .before .before .before .before .before .before .before .before .loop .inv .1
+same-length-3 c = at-loop (known (c .before .before .before .before .before)) .loop .inv .1
 
 returns-3 : tie.Need-returns-3 Inv-loop μ-loop
 returns-3 c =
@@ -227,7 +234,7 @@ enum-known-sequences : tie.Need-enum-known-sequences Inv-loop μ-loop
 enum-known-sequences c = search needs
 
 taken-requires : tie.Need-taken-requires Inv-loop μ-loop
-taken-requires c κs = channels-few _ _ (c .before .before .before .before .before .before .channels-in .ensures) .0
+taken-requires c κs = channels-few _ _ (c .before .before .before .before .before .before .at-most .ensures) .0
 
 add-come-to : tie.Need-add-come-to Inv-loop μ-loop
 add-come-to c =
@@ -238,7 +245,7 @@ come-to-requires-4 : tie.Need-come-to-requires-4 Inv-loop μ-loop
 come-to-requires-4 c κs = search needs
 
 same-length-4 : tie.Need-same-length-4 Inv-loop μ-loop
-same-length-4 c = c .before .before .before .before .before .before .before .before .before .before .before .before .before .before .before .before .before .before .before .before .loop .inv .1
+same-length-4 c = at-loop (known (c .before .before .before .before .before)) .loop .inv .1
 
 returns-4 : tie.Need-returns-4 Inv-loop μ-loop
 returns-4 c =
@@ -310,15 +317,16 @@ advance-spec =
     loop-again-2
     enum-known-effect-2
     cast-k
-    get-requires
-    settle-requires
+    settled-requires
     apply-requires
     note-requires
     put-requires
     loop-less-3
     loop-again-3
     enum-known-effect-3
-    channels-in-requires
+    channels-of-requires
+    cast-count
+    at-most-requires
     layout-in-requires
     frame-of-requires
     enum-known-number
