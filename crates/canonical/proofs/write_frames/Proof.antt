@@ -27,7 +27,9 @@ started : {s u v : List ℕ} {h : Head} → length s ≤ octetsLimit → length 
 started {s = s} {u = u} l f k e = rw (e, k .records) (reaches-cleared s (recordsIn u) l (records-full u f))
 
 put-order-requires : tie.Need-put-order-requires Inv-loop μ-loop
-put-order-requires c κs = omega (arith, c .before .before .before .pre .room)
+put-order-requires c κs =
+    let at-start = c .before .before .before in
+    omega (arith, at-start .pre .room)
 
 slice-aggregate-clear : tie.Need-slice-aggregate-clear Inv-loop μ-loop
 slice-aggregate-clear c = search needs
@@ -40,8 +42,14 @@ first-requires c κs = search needs
 
 loop-holds : tie.Need-loop-holds Inv-loop μ-loop
 loop-holds c =
-    let long = length-replicate {A = ℕ} tableWords 0 in
-    (writing-first (c .before .before .before .before .before .before .before .before .before .before .pre) (started (ready-small (c .before .before .before .before .before .before .before .before .before .before .pre)) long (c .before .before .clear .ensures) (c .first .ensures)) (c .before .before .before .before .before .before .put-order .ensures), c .before .before .clear .ensures .long ∙ long)
+    let at-clear = c .before .before in
+    let at-put-order = at-clear .before .before .before .before in
+    let at-start = at-put-order .before .before .before .before in
+    let long = length-replicate {A = ℕ} tableWords 0 in (
+      writing-first (at-start .pre) (started (ready-small (at-start .pre)) long (at-clear .clear .ensures) (c .first .ensures))
+          (at-put-order .put-order .ensures),
+      at-clear .clear .ensures .long ∙ long,
+    )
 
 slice-aggregate-advance : tie.Need-slice-aggregate-advance Inv-loop μ-loop
 slice-aggregate-advance c = sym (c .before .loop .inv .1)
@@ -56,7 +64,11 @@ part-requires : tie.Need-part-requires Inv-loop μ-loop
 part-requires c κs = search needs
 
 cast-put-frame : tie.Need-cast-put-frame Inv-loop μ-loop
-cast-put-frame c = frame-start (c .before .before .before .before .before .before .before .before .before .before .before .before .loop .inv .0) (c .before .before .before .before .before .before .step .given .1) (c .before .before .before .before .before .before .before .before .before .before .advance .ensures .same)
+cast-put-frame c =
+    let at-step = c .before .before .before .before .before .before in
+    let at-advance = at-step .before .before .before .before in
+    let at-loop = at-advance .before .before in
+    frame-start (at-loop .loop .inv .0) (at-step .step .given .1) (at-advance .advance .ensures .same)
 
 slice-aggregate-put-frame : tie.Need-slice-aggregate-put-frame Inv-loop μ-loop
 slice-aggregate-put-frame c = search needs
@@ -68,19 +80,37 @@ put-frame-requires : tie.Need-put-frame-requires Inv-loop μ-loop
 put-frame-requires c κs = search needs
 
 loop-less : tie.Need-loop-less Inv-loop μ-loop
-loop-less c = omega (arith, writing-later (c .before .before .before .before .before .before .before .before .before .before .before .before .before .before .before .before .before .before .loop .inv .0) (c .before .before .before .before .before .before .before .before .before .before .before .before .step .given .1) (c .before .before .before .before .before .before .before .before .before .before .before .before .before .before .before .before .advance .ensures .same))
+loop-less c =
+    let at-step = c .before .before .before .before .before .before .before .before .before .before .before .before in
+    let at-advance = at-step .before .before .before .before in
+    let at-loop = at-advance .before .before in
+    omega (arith, writing-later (at-loop .loop .inv .0) (at-step .step .given .1) (at-advance .advance .ensures .same))
 
 loop-again : tie.Need-loop-again Inv-loop μ-loop
-loop-again c = (
-  writing-frame (c .before .before .before .before .before .before .before .before .before .before .before .before .before .before .before .before .before .before .loop .inv .0) (c .before .before .before .before .before .before .before .before .before .before .before .before .step .given .1) (c .before .before .before .before .before .before .before .before .before .before .before .before .before .before .before .before .advance .ensures .same) (λ (k : ℕ). omega (arith, c .before .before .before .before .before .before .before .before .before .before .before .before .before .before .before .before .before .before .before .before .before .before .before .before .before .before .before .before .shared-slice-known .given k)) (c .before .before .before .before .before .before .before .before .before .before .part .ensures) (c .before .before .put-frame .ensures),
-  c .before .before .before .before .before .before .before .before .before .before .before .before .before .before .before .before .advance .ensures .long ∙ c .before .before .before .before .before .before .before .before .before .before .before .before .before .before .before .before .before .before .loop .inv .1,
-)
+loop-again c =
+    let at-put-frame = c .before .before in
+    let at-part = at-put-frame .before .before .before .before .before .before .before .before in
+    let at-step = at-part .before .before in
+    let at-advance = at-step .before .before .before .before in
+    let at-loop = at-advance .before .before in
+    let at-shared-slice-known = at-loop .before .before .before .before .before .before .before .before .before .before in (
+      writing-frame (at-loop .loop .inv .0) (at-step .step .given .1) (at-advance .advance .ensures .same) (λ (k : ℕ). omega (arith, at-shared-slice-known .shared-slice-known .given k))
+          (at-part .part .ensures) (at-put-frame .put-frame .ensures),
+      at-advance .advance .ensures .long ∙ at-loop .loop .inv .1,
+    )
 
 same-length : tie.Need-same-length Inv-loop μ-loop
-same-length c = put-long (c .before .before .before .before .before .loop .inv .0 .put) ∙ put-long (c .before .before .before .before .before .before .before .before .before .before .before .before .put-order .ensures)
+same-length c =
+    let at-loop = c .before .before .before .before .before in
+    let at-put-order = at-loop .before .before .before .before .before .before .before in
+    put-long (at-loop .loop .inv .0 .put) ∙ put-long (at-put-order .put-order .ensures)
 
 returns : tie.Need-returns Inv-loop μ-loop
-returns c = written-done (c .before .before .before .before .before .loop .inv .0) (c .before .before .before .advance .result .step) (c .match .keys2) (c .before .before .before .advance .ensures .same) (c .before .before .before .before .before .before .before .before .before .before .before .before .put-order .ensures)
+returns c =
+    let at-advance = c .before .before .before in
+    let at-loop = at-advance .before .before in
+    let at-put-order = at-loop .before .before .before .before .before .before .before in
+    written-done (at-loop .loop .inv .0) (at-advance .advance .result .step) (c .match .keys2) (at-advance .advance .ensures .same) (at-put-order .put-order .ensures)
 
 pub write-frames-spec : {M : Type 1} → statement M
 write-frames-spec =

@@ -30,7 +30,9 @@ width-requires : tie.Need-width-requires Inv-loop μ-loop
 width-requires c κs = search needs
 
 loop-holds : tie.Need-loop-holds Inv-loop μ-loop
-loop-holds c = (omega arith, c .before .before .before .pre, below-none _)
+loop-holds c =
+    let at-start = c .before .before .before in
+    (omega arith, at-start .pre, below-none _)
 
 settled-requires-2 : tie.Need-settled-requires-2 Inv-loop μ-loop
 settled-requires-2 c κs = search needs
@@ -42,15 +44,21 @@ returns : tie.Need-returns Inv-loop μ-loop
 returns c = λ h. let z : ⊥ = omega arith in absurd z
 
 add-i : tie.Need-add-i Inv-loop μ-loop
-add-i c = omega (arith, c .before .before .before .before .loop .inv .1 .most, c .before .before .before .loop-test .taken)
+add-i c =
+    let at-loop-test = c .before .before .before in
+    let at-loop = at-loop-test .before in
+    omega (arith, at-loop .loop .inv .1 .most, at-loop-test .loop-test .taken)
 
 loop-less : tie.Need-loop-less Inv-loop μ-loop
 loop-less c = omega arith
 
 loop-again : tie.Need-loop-again Inv-loop μ-loop
 loop-again c =
-    let inv = c .before .before .before .before .loop .inv in
-    (omega (arith, c .before .before .before .loop-test .taken), inv .1, below-more _ _ (inv .2) (ap (λ (y : Settings). widthOf (y .datatype)) (sym (c .before .before .settled2 .ensures)) ∙ sym (c .before .width2 .ensures) ∙ c .if1 .left))
+    let at-settled2 = c .before .before in
+    let at-loop-test = at-settled2 .before in
+    let at-loop = at-loop-test .before in
+    let inv = at-loop .loop .inv in
+    (omega (arith, at-loop-test .loop-test .taken), inv .1, below-more _ _ (inv .2) (ap (λ (y : Settings). widthOf (y .datatype)) (sym (at-settled2 .settled2 .ensures)) ∙ sym (c .before .width2 .ensures) ∙ c .if1 .left))
 
 even-taken : (root : Settings) (d : Dates) (u : List ℕ) {n : ℕ} → Few n u → (i v : ℕ) → n ≤ i → ((k : ℕ) → k < i → widthOf (settledAt root d (getD (recordsIn u) k zeroDated) .datatype) ≡ v) → Even v (take n (channelsIn root d u))
 even-taken root d u f i v l g j m =
@@ -59,7 +67,8 @@ even-taken root d u f i v l g j m =
 
 returns-2 : tie.Need-returns-2 Inv-loop μ-loop
 returns-2 c =
-    let a = c .before .before .before .before .before .args in
+    let at-start = c .before .before .before .before .before in
+    let a = at-start .args in
     let inv = c .before .loop .inv in
     λ h. even-taken (a .root) (a .dates) (a .t .now) (inv .1) (c .before .loop .i) _ (c .loop-test .left) (inv .2)
 

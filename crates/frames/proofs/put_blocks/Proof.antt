@@ -22,7 +22,9 @@ abbrev μ-loop : tie.MeasureT-loop
 μ-loop w sequences t root dates count out₀ at q₀ place₀ next₀ out q place next = sequences - q
 
 loop-holds : tie.Need-loop-holds Inv-loop2 μ-loop2 Inv-loop μ-loop
-loop-holds c = (c .before .before .before .pre .0 .0, sequences-first _ _ _ _ _ (c .before .before .before .pre .0 .1) (c .before .before .before .pre .1))
+loop-holds c =
+    let at-start = c .before .before .before in
+    (at-start .pre .0 .0, sequences-first _ _ _ _ _ (at-start .pre .0 .1) (at-start .pre .1))
 
 loop2-holds : tie.Need-loop2-holds Inv-loop2 μ-loop2 Inv-loop μ-loop
 loop2-holds c =
@@ -61,21 +63,35 @@ short : (c : tie.After-shared-slice-known Inv-loop2 μ-loop2 Inv-loop μ-loop) �
 short c = search needs
 
 mul-place : tie.Need-mul-place Inv-loop2 μ-loop2 Inv-loop μ-loop
-mul-place c = omega (arith, blocks-sum (c .before .before .before .before .before .before .before .before .before .loop2 .inv .1) (channel (c .before .before .before .before .before .before .before)) (c .before .before .before .before .before .before .width .ensures), short (c .before .before .before .before .before .before .before .before .before .before .before .before .before .before))
+mul-place c =
+    let at-before = c .before .before .before .before .before .before in
+    let at-loop2 = at-before .before .before .before in
+    let at-before- = at-loop2 .before .before .before .before in
+    omega (arith, blocks-sum (at-loop2 .loop2 .inv .1) (channel (c .before .before .before .before .before .before .before)) (at-before .width .ensures), short (c .before .before .before .before .before .before .before .before .before .before .before .before .before .before))
 
 add-place : tie.Need-add-place Inv-loop2 μ-loop2 Inv-loop μ-loop
-add-place c = omega (arith, blocks-sum (c .before .before .before .before .before .before .before .before .before .loop2 .inv .1) (channel (c .before .before .before .before .before .before .before)) (c .before .before .before .before .before .before .width .ensures), short (c .before .before .before .before .before .before .before .before .before .before .before .before .before .before))
+add-place c =
+    let at-before = c .before .before .before .before .before .before in
+    let at-loop2 = at-before .before .before .before in
+    let at-before- = at-loop2 .before .before .before .before in
+    omega (arith, blocks-sum (at-loop2 .loop2 .inv .1) (channel (c .before .before .before .before .before .before .before)) (at-before .width .ensures), short (c .before .before .before .before .before .before .before .before .before .before .before .before .before .before))
 
 add-i : tie.Need-add-i Inv-loop2 μ-loop2 Inv-loop μ-loop
-add-i c = omega (arith, c .before .before .before .before .before .before .before .before .before .loop2 .inv .0 .most, c .before .before .before .before .before .before .before .before .loop2-test .taken)
+add-i c =
+    let at-loop2-test = c .before .before .before .before .before .before .before .before in
+    let at-loop2 = at-loop2-test .before in
+    omega (arith, at-loop2 .loop2 .inv .0 .most, at-loop2-test .loop2-test .taken)
 
 loop2-less : tie.Need-loop2-less Inv-loop2 μ-loop2 Inv-loop μ-loop
 loop2-less c = omega arith
 
 loop2-again : tie.Need-loop2-again Inv-loop2 μ-loop2 Inv-loop μ-loop
 loop2-again c =
-    let inv = c .before .before .before .before .before .before .before .before .before .loop2 .inv in
-    (inv .0, blocks-next (inv .1) (channel (c .before .before .before .before .before .before .before)) (c .before .before .before .before .before .before .width .ensures) (c .before .before .before .turn .ensures))
+    let at-turn = c .before .before .before in
+    let at-before = at-turn .before .before .before in
+    let at-loop2 = at-before .before .before .before in
+    let inv = at-loop2 .loop2 .inv in
+    (inv .0, blocks-next (inv .1) (channel (c .before .before .before .before .before .before .before)) (at-before .width .ensures) (at-turn .turn .ensures))
 
 add-q : tie.Need-add-q Inv-loop2 μ-loop2 Inv-loop μ-loop
 add-q c = omega arith
@@ -85,12 +101,15 @@ loop-less c = omega arith
 
 loop-again : tie.Need-loop-again Inv-loop2 μ-loop2 Inv-loop μ-loop
 loop-again c =
-    let a = c .before .before .before .before .before .before .before .args in
-    let inv = c .before .before .before .loop .inv in
+    let at-loop-test = c .before .before in
+    let at-loop = at-loop-test .before in
+    let at-start = at-loop .before .before .before .before in
+    let a = at-start .args in
+    let inv = at-loop .loop .inv in
     let blocks = c .before .loop2 .inv .1 in
     let all = taken-long (a .root) (a .dates) (a .t .now) (inv .0) in
     let end = c .loop2-test .left in
-    (inv .0, sequences-next (inv .1) _ (c .before .before .loop-test .taken) (blocks-place blocks (omega (arith, all, end))) (blocks-done blocks (omega (arith, all, end))))
+    (inv .0, sequences-next (inv .1) _ (at-loop-test .loop-test .taken) (blocks-place blocks (omega (arith, all, end))) (blocks-done blocks (omega (arith, all, end))))
 
 same-length : tie.Need-same-length Inv-loop2 μ-loop2 Inv-loop μ-loop
 same-length c = c .before .loop .inv .1 .coming .long

@@ -22,29 +22,41 @@ settled-requires : tie.Need-settled-requires Inv-loop μ-loop
 settled-requires c κs = search needs
 
 cast-put-group : tie.Need-cast-put-group Inv-loop μ-loop
-cast-put-group c = omega (arith, c .before .before .before .loop .inv .0 .most, c .before .before .loop-test .taken)
+cast-put-group c =
+    let at-loop-test = c .before .before in
+    let at-loop = at-loop-test .before in
+    omega (arith, at-loop .loop .inv .0 .most, at-loop-test .loop-test .taken)
 
 put-group-requires : tie.Need-put-group-requires Inv-loop μ-loop
 put-group-requires c κs = search needs
 
 add-i : tie.Need-add-i Inv-loop μ-loop
-add-i c = omega (arith, c .before .before .before .before .before .before .loop .inv .0 .most, c .before .before .before .before .before .loop-test .taken)
+add-i c =
+    let at-loop-test = c .before .before .before .before .before in
+    let at-loop = at-loop-test .before in
+    omega (arith, at-loop .loop .inv .0 .most, at-loop-test .loop-test .taken)
 
 loop-less : tie.Need-loop-less Inv-loop μ-loop
 loop-less c = omega arith
 
 loop-again : tie.Need-loop-again Inv-loop μ-loop
 loop-again c =
-    let a = c .before .before .before .before .before .before .before .before .before .args in
-    let inv = c .before .before .before .before .before .before .loop .inv in
-    (inv .0, grouped-next (inv .1) (nth (a .root) (a .dates) (a .t .now) (inv .0) (c .before .before .before .before .before .loop-test .taken) (c .before .before .before .before .settled .ensures)) (c .before .before .put-group .ensures))
+    let at-put-group = c .before .before in
+    let at-settled = at-put-group .before .before in
+    let at-loop-test = at-settled .before in
+    let at-loop = at-loop-test .before in
+    let at-start = at-loop .before .before .before in
+    let a = at-start .args in
+    let inv = at-loop .loop .inv in
+    (inv .0, grouped-next (inv .1) (nth (a .root) (a .dates) (a .t .now) (inv .0) (at-loop-test .loop-test .taken) (at-settled .settled .ensures)) (at-put-group .put-group .ensures))
 
 same-length : tie.Need-same-length Inv-loop μ-loop
 same-length c = c .before .loop .inv .1 .coming .long
 
 returns : tie.Need-returns Inv-loop μ-loop
 returns c =
-    let a = c .before .before .before .before .args in
+    let at-start = c .before .before .before .before in
+    let a = at-start .args in
     let inv = c .before .loop .inv in
     grouped-done (inv .1) (omega (arith, taken-long (a .root) (a .dates) (a .t .now) (inv .0), c .loop-test .left))
 

@@ -114,7 +114,9 @@ first-requires : tie.Need-first-requires Inv-loop2 μ-loop2 Inv-loop μ-loop
 first-requires c κs = search needs
 
 loop-holds : tie.Need-loop-holds Inv-loop2 μ-loop2 Inv-loop μ-loop
-loop-holds c = passing-from (c .before .table .ensures) (c .first .ensures) (c .before .before .before .pre)
+loop-holds c =
+    let at-start = c .before .before .before in
+    passing-from (c .before .table .ensures) (c .first .ensures) (at-start .pre)
 
 next-item-requires : tie.Need-next-item-requires Inv-loop2 μ-loop2 Inv-loop μ-loop
 next-item-requires c κs = search needs
@@ -127,6 +129,7 @@ scan-requires c κs = search needs
 
 returns : tie.Need-returns Inv-loop2 μ-loop2 Inv-loop μ-loop
 returns c =
+    let at-before = c .before .before in
     let at-next = c .before .before .before in
     c .scan .ensures ∙ scanned-end (at-next .before .loop .inv .pass) (at-next .next-item .ensures) (c .before .enum-told .given .1)
 
@@ -167,28 +170,38 @@ note-requires : tie.Need-note-requires Inv-loop2 μ-loop2 Inv-loop μ-loop
 note-requires c κs = search needs
 
 mul-table : tie.Need-mul-table Inv-loop2 μ-loop2 Inv-loop μ-loop
-mul-table c = omega (arith, c .before .before .before .before .before .if1 .taken)
+mul-table c =
+    let at-if1 = c .before .before .before .before .before in
+    omega (arith, at-if1 .if1 .taken)
 
 array-set-from-table : tie.Need-array-set-from-table Inv-loop2 μ-loop2 Inv-loop μ-loop
-array-set-from-table c = omega (arith, c .before .before .before .before .before .if1 .taken)
+array-set-from-table c =
+    let at-if1 = c .before .before .before .before .before in
+    omega (arith, at-if1 .if1 .taken)
 
 moved-requires : tie.Need-moved-requires Inv-loop2 μ-loop2 Inv-loop μ-loop
 moved-requires c κs = search needs
 
 loop-less : tie.Need-loop-less Inv-loop2 μ-loop2 Inv-loop μ-loop
 loop-less c =
+    let at-along = c .before .before .before in
+    let at-before = at-along .before .before in
     let at-opens = c .before .before .before .before .before .before in
     let b = at-opens .before .before .before in
-    omega (arith, turn-later (met b), stretch-on _ _ _ _ _ (c .before .before .before .along .ensures), ap (λ (d : Cursor). d .at) (c .moved .ensures))
+    omega (arith, turn-later (met b), stretch-on _ _ _ _ _ (at-along .along .ensures), ap (λ (d : Cursor). d .at) (c .moved .ensures))
 
 loop-again : tie.Need-loop-again Inv-loop2 μ-loop2 Inv-loop μ-loop
 loop-again c =
+    let at-along = c .before .before .before in
+    let at-settle = at-along .before in
+    let at-before = at-settle .before in
     let at-opens = c .before .before .before .before .before .before in
     let b = at-opens .before .before .before in
     let o = opens at-opens in
     let entered = passing-on (at-loop b .loop .inv) (met b) (refl, turn-nothing (met b) (opened-nothing _ _ o)) in
-    let held = ap (λ (x : Settings). stretchOf (file-of b) (b .renewed .result) (at-loop b .loop .st .little) (at-loop b .loop .st .root) x) (c .before .before .before .before .settle .ensures) in
-    passing-at (passing-group entered (at-opens .before .opened .result) (group-entered _ _ refl (met b .found) o) (at-opens .if1 .taken) (opened-counted o) (c .before .before .before .along .ensures ∙ held) (c .before .note .ensures)) (c .moved .ensures)
+    let held = ap (λ (x : Settings). stretchOf (file-of b) (b .renewed .result) (at-loop b .loop .st .little) (at-loop b .loop .st .root) x) (at-settle .settle .ensures) in
+    passing-at (passing-group entered (at-opens .before .opened .result) (group-entered _ _ refl (met b .found) o) (at-opens .if1 .taken) (opened-counted o) (at-along .along .ensures ∙ held) (c .before .note .ensures))
+    (c .moved .ensures)
 
 item-effect-requires : tie.Need-item-effect-requires Inv-loop2 μ-loop2 Inv-loop μ-loop
 item-effect-requires c κs = search needs
@@ -203,7 +216,9 @@ standing-after-requires : tie.Need-standing-after-requires Inv-loop2 μ-loop2 In
 standing-after-requires c κs = search needs
 
 loop-less-2 : tie.Need-loop-less-2 Inv-loop2 μ-loop2 Inv-loop μ-loop
-loop-less-2 c = omega (arith, turn-later (turn (c .before .before .before .before)))
+loop-less-2 c =
+    let at-before = c .before .before .before in
+    omega (arith, turn-later (turn (c .before .before .before .before)))
 
 loop-again-2 : tie.Need-loop-again-2 Inv-loop2 μ-loop2 Inv-loop μ-loop
 loop-again-2 c =
@@ -221,10 +236,13 @@ standing-after-requires-2 : tie.Need-standing-after-requires-2 Inv-loop2 μ-loop
 standing-after-requires-2 c κs = search needs
 
 loop-less-3 : tie.Need-loop-less-3 Inv-loop2 μ-loop2 Inv-loop μ-loop
-loop-less-3 c = omega (arith, turn-later (turn (c .before .before .before .before .before)))
+loop-less-3 c =
+    let at-before = c .before .before .before .before in
+    omega (arith, turn-later (turn (c .before .before .before .before .before)))
 
 loop-again-3 : tie.Need-loop-again-3 Inv-loop2 μ-loop2 Inv-loop μ-loop
 loop-again-3 c =
+    let at-before = c .before .before in
     let at-all = c .before .before .before in
     let k = at-all .before .before in
     passing-all (passing k) (turn k) (at-all .effect .given .1) (c .standing-after2 .ensures) (c .before .defined .ensures)
@@ -257,7 +275,9 @@ array-set-from-table-2 : tie.Need-array-set-from-table-2 Inv-loop2 μ-loop2 Inv-
 array-set-from-table-2 c = search needs
 
 loop-less-4 : tie.Need-loop-less-4 Inv-loop2 μ-loop2 Inv-loop μ-loop
-loop-less-4 c = omega (arith, turn-later (turn (c .before .before .before .before .before .before .before .before)))
+loop-less-4 c =
+    let at-before = c .before .before .before .before .before .before .before in
+    omega (arith, turn-later (turn (c .before .before .before .before .before .before .before .before)))
 
 loop-again-4 : tie.Need-loop-again-4 Inv-loop2 μ-loop2 Inv-loop μ-loop
 loop-again-4 c =
@@ -267,7 +287,9 @@ loop-again-4 c =
     passing-one (passing k) (turn k) (at-one .effect2 .given .1) (at-stood .settle2 .ensures) (c .before .apply .ensures) (c .note2 .ensures)
 
 loop-less-5 : tie.Need-loop-less-5 Inv-loop2 μ-loop2 Inv-loop μ-loop
-loop-less-5 c = omega (arith, turn-later (turn (c .before .before .before .before)))
+loop-less-5 c =
+    let at-before = c .before .before .before in
+    omega (arith, turn-later (turn (c .before .before .before .before)))
 
 loop-again-5 : tie.Need-loop-again-5 Inv-loop2 μ-loop2 Inv-loop μ-loop
 loop-again-5 c =
@@ -289,6 +311,7 @@ none-requires c κs = search needs
 
 loop2-holds : tie.Need-loop2-holds Inv-loop2 μ-loop2 Inv-loop μ-loop
 loop2-holds c =
+    let at-before = c .before .before .before .before in
     let k = c .before .before .before .before .before in
     summing-none _ (stands-full (passing k)) (rw (c .before .channels-of .ensures) (channels-between _ (scanning-counted (passing k .pass)) .1)) (c .none .ensures)
 
@@ -305,16 +328,20 @@ more-requires : tie.Need-more-requires Inv-loop2 μ-loop2 Inv-loop μ-loop
 more-requires c κs = search needs
 
 add-i : tie.Need-add-i Inv-loop2 μ-loop2 Inv-loop μ-loop
-add-i c = omega (arith, c .before .before .before .before .loop2 .inv .few, c .before .before .before .loop2-test .taken)
+add-i c =
+    let at-loop2-test = c .before .before .before in
+    let at-loop2 = at-loop2-test .before in
+    omega (arith, at-loop2 .loop2 .inv .few, at-loop2-test .loop2-test .taken)
 
 loop2-less : tie.Need-loop2-less Inv-loop2 μ-loop2 Inv-loop μ-loop
 loop2-less c = omega arith
 
 loop2-again : tie.Need-loop2-again Inv-loop2 μ-loop2 Inv-loop μ-loop
 loop2-again c =
+    let at-before = c .before .before .before in
     let at-sum = c .before .before .before .before in
     let k = at-sum .before .before .before .before .before .before in
-    settled-more (passing k) (at-sum .loop2 .inv) _ (c .before .before .before .loop2-test .taken) (c .before .settle3 .ensures) (c .more .ensures)
+    settled-more (passing k) (at-sum .loop2 .inv) _ (at-before .loop2-test .taken) (c .before .settle3 .ensures) (c .more .ensures)
 
 frame-of-requires : tie.Need-frame-of-requires Inv-loop2 μ-loop2 Inv-loop μ-loop
 frame-of-requires c κs = search needs
@@ -326,7 +353,10 @@ refused-item-requires : tie.Need-refused-item-requires Inv-loop2 μ-loop2 Inv-lo
 refused-item-requires c κs = search needs
 
 returns-3 : tie.Need-returns-3 Inv-loop2 μ-loop2 Inv-loop μ-loop
-returns-3 c = c .refused-item .ensures ∙ framing-refused (framing (c .before .before .before .before)) (c .before .before .number .given .1)
+returns-3 c =
+    let at-number = c .before .before in
+    let at-before = at-number .before in
+    c .refused-item .ensures ∙ framing-refused (framing (c .before .before .before .before)) (at-number .number .given .1)
 
 enum-known-sequences : tie.Need-enum-known-sequences Inv-loop2 μ-loop2 Inv-loop μ-loop
 enum-known-sequences c = search needs
@@ -345,20 +375,24 @@ settle-requires-4 c κs = search needs
 
 with-frame-requires : tie.Need-with-frame-requires Inv-loop2 μ-loop2 Inv-loop μ-loop
 with-frame-requires c κs =
+    let at-before = c .before .before .before in
     let at-taken = c .before .before .before .before in
     framing-room (framing (at-taken .before .before)) (at-taken .sequences .given .1)
 
 loop-less-6 : tie.Need-loop-less-6 Inv-loop2 μ-loop2 Inv-loop μ-loop
 loop-less-6 c =
+    let at-before = c .before .before .before .before .before .before in
     let given = c .before .before .before .before .before .before .before in
     omega (arith, turn-later (framing given .turn))
 
 loop-again-6 : tie.Need-loop-again-6 Inv-loop2 μ-loop2 Inv-loop μ-loop
 loop-again-6 c =
+    let at-index = c .before .before .before in
+    let at-before = at-index .before in
     let at-taken = c .before .before .before .before .before in
     let given = at-taken .before .before in
     let p = passing (known given) in
-    passing-on p (turn (known given)) (framing-taken (framing given) (at-taken .sequences .given .1) (settled-seen p (c .before .before .before .index .ensures) (c .before .settle4 .ensures)) (c .with-frame .ensures))
+    passing-on p (turn (known given)) (framing-taken (framing given) (at-taken .sequences .given .1) (settled-seen p (at-index .index .ensures) (c .before .settle4 .ensures)) (c .with-frame .ensures))
 
 enum-known-effect-4 : tie.Need-enum-known-effect-4 Inv-loop2 μ-loop2 Inv-loop μ-loop
 enum-known-effect-4 c = search needs

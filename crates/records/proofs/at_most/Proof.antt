@@ -9,10 +9,14 @@ at-most-requires : tie.Need-at-most-requires
 at-most-requires c κs = search needs
 
 returns : tie.Need-returns
-returns c = omega (arith, c .before .at-most .ensures, records-long (c .before .before .before .args .t .now), c .if1 .taken)
+returns c =
+    let at-start = c .before .before .before in
+    omega (arith, c .before .at-most .ensures, records-long (at-start .args .t .now), c .if1 .taken)
 
 returns-2 : tie.Need-returns-2
-returns-2 c = omega (arith, c .before .at-most .ensures, records-long (c .before .before .before .args .t .now), c .if1 .left)
+returns-2 c =
+    let at-start = c .before .before .before in
+    omega (arith, c .before .at-most .ensures, records-long (at-start .args .t .now), c .if1 .left)
 
 pub at-most-spec : {M : Type 1} → statement M
 at-most-spec = tie.close (tie.spec at-most-requires returns returns-2)

@@ -37,7 +37,10 @@ more-requires : tie.Need-more-requires Inv-loop μ-loop
 more-requires c κs = search needs
 
 add-i : tie.Need-add-i Inv-loop μ-loop
-add-i c = omega (arith, c .before .before .before .loop .inv .1 .few, c .before .before .loop-test .taken)
+add-i c =
+    let at-loop-test = c .before .before in
+    let at-loop = at-loop-test .before in
+    omega (arith, at-loop .loop .inv .1 .few, at-loop-test .loop-test .taken)
 
 loop-less : tie.Need-loop-less Inv-loop μ-loop
 loop-less c = omega arith

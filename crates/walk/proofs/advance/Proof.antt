@@ -84,10 +84,13 @@ come-to-requires : tie.Need-come-to-requires Inv-loop μ-loop
 come-to-requires c κs = search needs
 
 same-length : tie.Need-same-length Inv-loop μ-loop
-same-length c = c .before .before .before .before .loop .inv .1
+same-length c =
+    let at-loop = c .before .before .before .before in
+    at-loop .loop .inv .1
 
 returns : tie.Need-returns Inv-loop μ-loop
 returns c =
+    let at-before = c .before .before in
     let at-next = c .before .before .before in
     let l = at-next .before in
     answered (c .come-to .ensures) refl (advance-end (file-of l) (here l) (at-next .next-item .ensures) (c .before .enum-told .given .1) ∙ l .loop .inv .0) (l .loop .inv .1)
@@ -99,7 +102,9 @@ come-to-requires-2 : tie.Need-come-to-requires-2 Inv-loop μ-loop
 come-to-requires-2 c κs = search needs
 
 same-length-2 : tie.Need-same-length-2 Inv-loop μ-loop
-same-length-2 c = c .before .before .before .before .before .loop .inv .1
+same-length-2 c =
+    let at-loop = c .before .before .before .before .before in
+    at-loop .loop .inv .1
 
 returns-2 : tie.Need-returns-2 Inv-loop μ-loop
 returns-2 c =
@@ -130,7 +135,9 @@ standing-after-requires : tie.Need-standing-after-requires Inv-loop μ-loop
 standing-after-requires c κs = search needs
 
 loop-less : tie.Need-loop-less Inv-loop μ-loop
-loop-less c = omega (arith, turning-later (turn (c .before .before .before .before)))
+loop-less c =
+    let at-before = c .before .before .before in
+    omega (arith, turning-later (turn (c .before .before .before .before)))
 
 loop-again : tie.Need-loop-again Inv-loop μ-loop
 loop-again c =
@@ -149,10 +156,13 @@ standing-after-requires-2 : tie.Need-standing-after-requires-2 Inv-loop μ-loop
 standing-after-requires-2 c κs = search needs
 
 loop-less-2 : tie.Need-loop-less-2 Inv-loop μ-loop
-loop-less-2 c = omega (arith, turning-later (turn (c .before .before .before .before .before)))
+loop-less-2 c =
+    let at-before = c .before .before .before .before in
+    omega (arith, turning-later (turn (c .before .before .before .before .before)))
 
 loop-again-2 : tie.Need-loop-again-2 Inv-loop μ-loop
 loop-again-2 c =
+    let at-before = c .before .before in
     let at-all = c .before .before .before in
     let k = at-all .before .before in
     let inv = at-loop k .loop .inv in
@@ -178,6 +188,7 @@ put-requires c κs = search needs
 
 loop-less-3 : tie.Need-loop-less-3 Inv-loop μ-loop
 loop-less-3 c =
+    let at-before = c .before .before .before .before .before .before .before .before in
     let at-one = c .before .before .before .before .before .before .before .before .before in
     omega (arith, turning-later (turn (at-one .before .before)))
 
@@ -221,10 +232,13 @@ come-to-requires-3 : tie.Need-come-to-requires-3 Inv-loop μ-loop
 come-to-requires-3 c κs = search needs
 
 same-length-3 : tie.Need-same-length-3 Inv-loop μ-loop
-same-length-3 c = at-loop (known (c .before .before .before .before .before)) .loop .inv .1
+same-length-3 c =
+    let at-before = c .before .before .before .before in
+    at-loop (known (c .before .before .before .before .before)) .loop .inv .1
 
 returns-3 : tie.Need-returns-3 Inv-loop μ-loop
 returns-3 c =
+    let at-before = c .before .before in
     let at-number = c .before .before .before in
     let given = at-number .before .before in
     let inv = at-loop (known given) .loop .inv in
@@ -234,7 +248,9 @@ enum-known-sequences : tie.Need-enum-known-sequences Inv-loop μ-loop
 enum-known-sequences c = search needs
 
 taken-requires : tie.Need-taken-requires Inv-loop μ-loop
-taken-requires c κs = channels-few _ _ (c .before .before .before .before .before .before .at-most .ensures) .0
+taken-requires c κs =
+    let at-at-most = c .before .before .before .before .before .before in
+    channels-few _ _ (at-at-most .at-most .ensures) .0
 
 add-come-to : tie.Need-add-come-to Inv-loop μ-loop
 add-come-to c =
@@ -245,10 +261,13 @@ come-to-requires-4 : tie.Need-come-to-requires-4 Inv-loop μ-loop
 come-to-requires-4 c κs = search needs
 
 same-length-4 : tie.Need-same-length-4 Inv-loop μ-loop
-same-length-4 c = at-loop (known (c .before .before .before .before .before)) .loop .inv .1
+same-length-4 c =
+    let at-before = c .before .before .before .before in
+    at-loop (known (c .before .before .before .before .before)) .loop .inv .1
 
 returns-4 : tie.Need-returns-4 Inv-loop μ-loop
 returns-4 c =
+    let at-before = c .before .before in
     let at-taken = c .before .before .before in
     let given = at-taken .before .before in
     let inv = at-loop (known given) .loop .inv in
@@ -264,10 +283,13 @@ come-to-requires-5 : tie.Need-come-to-requires-5 Inv-loop μ-loop
 come-to-requires-5 c κs = search needs
 
 same-length-5 : tie.Need-same-length-5 Inv-loop μ-loop
-same-length-5 c = c .before .before .before .before .before .before .before .before .before .before .before .before .loop .inv .1
+same-length-5 c =
+    let at-loop = c .before .before .before .before .before .before .before .before .before .before .before .before in
+    at-loop .loop .inv .1
 
 returns-5 : tie.Need-returns-5 Inv-loop μ-loop
 returns-5 c =
+    let at-before = c .before .before in
     let at-refused = c .before .before .before in
     let k = at-refused .before .before in
     let inv = at-loop k .loop .inv in
