@@ -21,7 +21,7 @@ noted at s = record { settings = s; at = at }
 abbrev pub datedTable : List Dated
 datedTable = replicate channelLimit (noted 0 defaultSettings)
 
--- What the language reads past the end of an array of records: every number 0. Reads are in range, so that it does not matter.
+-- What is read past the last record: every number 0, and so of the time before the first item.
 abbrev pub zeroDated : Dated
 zeroDated = noted 0 zeroSettings
 

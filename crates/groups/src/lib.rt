@@ -17,11 +17,6 @@ ghost use Rattle.groups.specs.Parts.{unsignedBy, firstItems, scaleItems,
 use settings::Scale;
 use settings::Settings;
 
-// How many numbers one octet, and four, can tell apart.
-const ONE_OCTET: u64 = 256;
-
-const FOUR_OCTETS: u64 = 4_294_967_296;
-
 // A signed number in two's complement, where `full` numbers can be told apart.
 fn unsigned(z: i64, full: u64) -> u64
     requires { ⌜ mag z < full ⌝ }
@@ -38,8 +33,8 @@ fn put_scale(out: &mut [u8], at: usize, tag: u8, x: Scale) -> usize
     requires { ⌜ at + length (scaleItem tag x) ≤ length (now out) ⌝ }
     ensures { λ r. ⌜ Put (now (out .entry)) at (scaleItem tag x) r (now (out .exit)) ⌝ }
 {
-    let exponent = unsigned(x.exponent as i64, ONE_OCTET);
-    let mantissa = unsigned(x.mantissa as i64, FOUR_OCTETS);
+    let exponent = unsigned(x.exponent as i64, octets::ONE_OCTET);
+    let mantissa = unsigned(x.mantissa as i64, octets::FOUR_OCTETS);
     let a = stores::put_two(out, at, tag, 6);
     let b = stores::put_octet(out, a, x.unit);
     let c = stores::put_number(out, b, 1, exponent);
@@ -139,7 +134,7 @@ fn store_head(out: &mut [u8], at: usize, count: u32, sequences: u32, start: i32)
     requires { ⌜ at + length (headItems count sequences start) ≤ length (now out) ⌝ }
     ensures { λ r. ⌜ Put (now (out .entry)) at (headItems count sequences start) r (now (out .exit)) ⌝ }
 {
-    let z = unsigned(start as i64, FOUR_OCTETS);
+    let z = unsigned(start as i64, octets::FOUR_OCTETS);
     let a = stores::put_field(out, at, 0x05, 4, count as u64);
     let b = put_sequences(out, a, sequences);
     stores::put_field(out, b, 0x07, 4, z)

@@ -3,12 +3,19 @@
 // For the crates that read items, attributes and samples: none of them turns octets into numbers by itself.
 // Promises: each public function answers for every input and its whole answer is a definition of specs/. What lies past
 // the end is not there, and octets past the eighth (of a signed number, the fourth) are not looked at.
-// NumberRead first: specs/Number.antt; then the laws of proofs/Laws.antt and proofs/Octets.antt, which callers cite.
+// Read first: specs/Number.antt; then the laws of proofs/Laws.antt and proofs/Octets.antt, which callers cite.
 ghost use mathlib.Core.Path.{_≡_};
 ghost use mathlib.Core.Bool.{true, false};
 ghost use Prim.Native.Nat.{_+_, _*_, _<_, _≤_, min};
 ghost use lib.ListN.{length, take, drop};
 ghost use Rattle.octets.specs.Number.{range, lowOf, numberOf, twos, signedOf, NumberRead};
+
+// How many numbers one octet, two and four can tell apart.
+pub const ONE_OCTET: u64 = 256;
+
+pub const TWO_OCTETS: u64 = 65_536;
+
+pub const FOUR_OCTETS: u64 = 4_294_967_296;
 
 // The octets of s from at on, at most n.
 pub fn part(s: &[u8], at: usize, n: usize) -> &[u8]
@@ -27,7 +34,7 @@ pub fn part(s: &[u8], at: usize, n: usize) -> &[u8]
 
 // An octet as a number.
 fn wide(b: u8) -> u64
-    ensures { λ r. ⌜ (r ≡ b) × (r < 256) ⌝ }
+    ensures { λ r. ⌜ (r ≡ b) × (r < range 1) ⌝ }
 {
     b as u64
 }
@@ -179,5 +186,9 @@ pub fn signed(s: &[u8], little: bool) -> i32
 pub fn signed_octet(b: u8) -> i8
     ensures { λ r. ⌜ r ≡ twos 1 b ⌝ }
 {
-    if b < 128 { b as i8 } else { !((255 - b) as i8) }
+    if b < 128 {
+        b as i8
+    } else {
+        !((u8::MAX - b) as i8)
+    }
 }

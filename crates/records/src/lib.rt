@@ -51,21 +51,21 @@ fn word(t: &[u64], i: usize, a: usize) -> u64
 fn one(x: u64) -> u8
     ensures { λ r. ⌜ r ≡ lowOf 1 x ⌝ }
 {
-    (x % 256) as u8
+    (x % octets::ONE_OCTET) as u8
 }
 
 // The number of its two lowest octets.
 fn two(x: u64) -> u16
     ensures { λ r. ⌜ r ≡ lowOf 2 x ⌝ }
 {
-    (x % 65536) as u16
+    (x % octets::TWO_OCTETS) as u16
 }
 
 // The number of its four lowest octets.
 fn four(x: u64) -> u32
     ensures { λ r. ⌜ r ≡ lowOf 4 x ⌝ }
 {
-    (x % 4_294_967_296) as u32
+    (x % octets::FOUR_OCTETS) as u32
 }
 
 // A unit, an exponent and a mantissa.

@@ -1,7 +1,7 @@
 -- Laws of a frame where the file's items lead: what a reader computes of it is document 01's rule.
 --     frame-carried      what its waveform gives
 --     count-few, counts-there, groups-small    its channels are few, and their groups take little
---     taken-few, taken-small, taken-root       what is known of one that is taken
+--     taken-small, taken-root                  what is known of one that is taken
 -- Assumes nothing.
 use mathlib.Core.Path.{_≡_, refl, sym, ap, _∙_}
 use mathlib.Core.List.{List}
@@ -21,7 +21,7 @@ use Rattle.standing.specs.declared.Standing.{Standing}
 use Rattle.effects.specs.declared.Effect.{Effect}
 use Rattle.framing.specs.declared.Framed.{Framed}
 use Rattle.framing.specs.declared.Framed.the-variants.{Taken}
-use Rattle.standing.specs.Standing.{octetsLimit, framesLimit}
+use Rattle.standing.specs.Standing.{octetsLimit}
 use Rattle.effects.specs.Effects.{effectOf}
 use Rattle.framing.specs.Framing.{channelsOf, framedAs}
 use Rattle.framing.specs.AnyNumbers.{framedBy}
@@ -73,9 +73,6 @@ module _ {s : List ℕ} {table : List Settings} {c : Cursor} {st : Standing} {me
       (ee : Effect.Frame start len ≡ effectOf s st i) (er : r ≡ framedBy frames st (l .agree) (l .octets) len) (fr : r ≡ Taken sequences x) where
     taken : TakenBy frames st (l .agree) (l .octets) len sequences x
     taken = taken-found frames st (l .agree) (l .octets) len (er ∙ framed-here i start len ee) fr
-
-    pub taken-few : frames < framesLimit
-    taken-few = taken .few
 
     pub taken-small : sequences * l .octets ≤ octetsLimit
     taken-small = omega (arith, taken .fits, waveform-short s (waveform-found s st i ee refl))
