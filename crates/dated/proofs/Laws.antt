@@ -1,5 +1,5 @@
 -- Laws of records kept as they stood at a time: what stands for their channels is what document 01's rule says.
---     Each, each-at, each-timed    what holds of each time
+--     EachTime, each-at, each-timed    what holds of each time
 --     Sound, sound-..       every time noted is before now
 --     settled-now           a record of now says what stands
 --     settled-root          a definition outside a group changes what stands for a channel by that change
@@ -25,7 +25,7 @@ use Rattle.dated.specs.Dated.{noted, firstDates, timed, rootDefined, all
 -- ---- times
 
 -- What holds of each time.
-pub record Each (P : ℕ → Type 0) (t : Times) : Type 0 where
+pub record EachTime (P : ℕ → Type 0) (t : Times) : Type 0 where
   pub block : P (t .block)
   pub class : P (t .class)
   pub lead : P (t .lead)
@@ -35,7 +35,7 @@ pub record Each (P : ℕ → Type 0) (t : Times) : Type 0 where
   pub offset : P (t .offset)
   pub null : P (t .null)
 
-each-timed : {P : ℕ → Type 0} {t : Times} (c : Change) (m : ℕ) → P m → Each P t → Each P (timed c m t)
+each-timed : {P : ℕ → Type 0} {t : Times} (c : Change) (m : ℕ) → P m → EachTime P t → EachTime P (timed c m t)
 each-timed (Block n) m p e = record { block = p; class = e .class; lead = e .lead; datatype = e .datatype; interval = e .interval; resolution = e .resolution; offset = e .offset; null = e .null }
 each-timed (Class n) m p e = record { block = e .block; class = p; lead = e .lead; datatype = e .datatype; interval = e .interval; resolution = e .resolution; offset = e .offset; null = e .null }
 each-timed (Lead n) m p e = record { block = e .block; class = e .class; lead = p; datatype = e .datatype; interval = e .interval; resolution = e .resolution; offset = e .offset; null = e .null }
@@ -45,7 +45,7 @@ each-timed (Resolution n) m p e = record { block = e .block; class = e .class; l
 each-timed (Offset n) m p e = record { block = e .block; class = e .class; lead = e .lead; datatype = e .datatype; interval = e .interval; resolution = e .resolution; offset = p; null = e .null }
 each-timed (Null n) m p e = record { block = e .block; class = e .class; lead = e .lead; datatype = e .datatype; interval = e .interval; resolution = e .resolution; offset = e .offset; null = p }
 
-each-map : {P Q : ℕ → Type 0} {t : Times} → ((n : ℕ) → P n → Q n) → Each P t → Each Q t
+each-map : {P Q : ℕ → Type 0} {t : Times} → ((n : ℕ) → P n → Q n) → EachTime P t → EachTime Q t
 each-map {t = t} f e =
     record {
       block = f (t .block) (e .block);
@@ -60,7 +60,7 @@ each-map {t = t} f e =
 
 -- Every time that was noted is before now.
 pub record Sound (d : Dates) : Type 0 where
-  pub times : Each (λ n. n < d .now) (d .times)
+  pub times : EachTime (λ n. n < d .now) (d .times)
   pub cleared : d .cleared < d .now
 
 pub sound-first : Sound firstDates

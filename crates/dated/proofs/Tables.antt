@@ -1,6 +1,6 @@
 -- Laws of a table of records kept as they stood, and of what stands for its channels.
---     Kept, kept-..         the times are sound, and no record is after now
---     table-first, table-cleared    every channel has the root settings: before the first item, and after tag 05
+--     Timely, timely-..         the times are sound, and no record is after now
+--     table-begins, table-cleared    every channel has the root settings: before the first item, and after tag 05
 --     table-root            a definition outside a group
 --     table-set, table-at   a record stored, and one looked at
 --     default-at            each place of the table holds the default settings
@@ -39,30 +39,30 @@ until-replicate n zero x h = none
 until-replicate n (suc m) x h = more h (until-replicate n m x h)
 
 -- The times are sound, no record is after now, and now is no later than a bound.
-pub record Kept (bound : ℕ) (d : Dates) (t : List Dated) : Type 0 where
+pub record Timely (bound : ℕ) (d : Dates) (t : List Dated) : Type 0 where
   pub sound : Sound d
   pub until : Until (d .now) t
   pub low : d .now ≤ bound
 
-pub kept-first : Kept 1 firstDates datedTable
-kept-first = record { sound = sound-first; until = until-replicate 1 channelLimit (noted 0 defaultSettings) (omega arith); low = omega arith }
+pub timely-first : Timely 1 firstDates datedTable
+timely-first = record { sound = sound-first; until = until-replicate 1 channelLimit (noted 0 defaultSettings) (omega arith); low = omega arith }
 
-module _ {b : ℕ} {d : Dates} {t : List Dated} (k : Kept b d t) where
-  pub kept-longer : {b' : ℕ} → b ≤ b' → Kept b' d t
-  kept-longer h = record { sound = k .sound; until = k .until; low = omega (arith, k .low) }
+module _ {b : ℕ} {d : Dates} {t : List Dated} (k : Timely b d t) where
+  pub timely-longer : {b' : ℕ} → b ≤ b' → Timely b' d t
+  timely-longer h = record { sound = k .sound; until = k .until; low = omega (arith, k .low) }
 
-  pub kept-set : (i : ℕ) (s : Settings) → Kept b d (set t i (noted (d .now) s))
-  kept-set i s = record { sound = k .sound; until = until-set i (noted (d .now) s) (omega arith) (k .until); low = k .low }
+  pub timely-set : (i : ℕ) (s : Settings) → Timely b d (set t i (noted (d .now) s))
+  timely-set i s = record { sound = k .sound; until = until-set i (noted (d .now) s) (omega arith) (k .until); low = k .low }
 
   module _ (low : b + 1 < 2 ^ 32) where
     room : d .now + 1 < 2 ^ 32
     room = omega (arith, low, k .low)
 
-    pub kept-root : (c : Change) → Kept (b + 1) (rootDefined c d) t
-    kept-root c = record { sound = sound-root d room c (k .sound); until = until-later (omega (arith, now-grows d room)) (k .until); low = omega (arith, now-grows d room, k .low) }
+    pub timely-root : (c : Change) → Timely (b + 1) (rootDefined c d) t
+    timely-root c = record { sound = sound-root d room c (k .sound); until = until-later (omega (arith, now-grows d room)) (k .until); low = omega (arith, now-grows d room, k .low) }
 
-    pub kept-cleared : Kept (b + 1) (allCleared d) t
-    kept-cleared = record { sound = sound-cleared d room (k .sound); until = until-later (omega (arith, now-grows d room)) (k .until); low = omega (arith, now-grows d room, k .low) }
+    pub timely-cleared : Timely (b + 1) (allCleared d) t
+    timely-cleared = record { sound = sound-cleared d room (k .sound); until = until-later (omega (arith, now-grows d room)) (k .until); low = omega (arith, now-grows d room, k .low) }
 
 -- ---- what stands for the channels
 
@@ -82,7 +82,7 @@ module _ (root : Settings) (d : Dates) where
   cleared-all none = refl
   cleared-all (more {x} h u) = (λ i. settled-cleared root d x h i ∷ cleared-all u i)
 
-  module _ {b : ℕ} {t : List Dated} (k : Kept b d t) where
+  module _ {b : ℕ} {t : List Dated} (k : Timely b d t) where
     pub table-root : (c : Change) → b + 1 < 2 ^ 32 → settledIn (applied c root) (rootDefined c d) t ≡ allApplied c (settledIn root d t)
     table-root c low = root-all c (omega (arith, low, k .low)) (k .sound) (k .until)
 
@@ -110,8 +110,8 @@ unfolding settledIn settledAt
 first-all root s zero = refl
 first-all root s (suc n) = ap (λ (u : List Settings). root ∷ u) (first-all root s n)
 
-pub table-first : (root : Settings) → settledIn root firstDates datedTable ≡ replicate channelLimit root
-table-first root = first-all root defaultSettings channelLimit
+pub table-begins : (root : Settings) → settledIn root firstDates datedTable ≡ replicate channelLimit root
+table-begins root = first-all root defaultSettings channelLimit
 
 -- Each place of the table holds the default settings.
 pub default-at : (i : ℕ) (x : Dated) → i < channelLimit → getD datedTable i x .settings ≡ defaultSettings

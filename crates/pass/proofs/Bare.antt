@@ -34,7 +34,7 @@ use Rattle.verdict.specs.Verdict.{state}
 use Rattle.verdict.specs.Reached.{Reached}
 use Rattle.pass.specs.Passing.{Scanning, noneMet, metWith}
 use Rattle.pass.proofs.Scans.{scanning-first, scanning-on}
-use Rattle.pass.proofs.Turns.{Turn, turn-all, Framing, framing-taken}
+use Rattle.pass.proofs.Turns.{Facing, facing-all, Framing, framing-taken}
 use Rattle.pass.proofs.Stretches.{root-law}
 
 -- What is known where no group has set a channel.
@@ -55,10 +55,10 @@ module _ {s : List ℕ} {q : Asked} {c : Cursor} {m : Met} where
   bare-at {st = st} e p = subst (λ (x : Cursor). Bare s q x st m) (sym e) p
 
 module _ {s : List ℕ} {q : Asked} {c : Cursor} {st : Standing} {m : Met} where
-  pub bare-all : {i : Item} {d : Cursor} {e : Effect} {ch : Change} {st' : Standing} → Turn s q (replicate channelLimit (st .root)) c st m i d e → e ≡ Effect.All ch → st' ≡ standingAfter st (Effect.All ch) → Bare s q d st' m
+  pub bare-all : {i : Item} {d : Cursor} {e : Effect} {ch : Change} {st' : Standing} → Facing s q (replicate channelLimit (st .root)) c st m i d e → e ≡ Effect.All ch → st' ≡ standingAfter st (Effect.All ch) → Bare s q d st' m
   unfolding allApplied
   bare-all {d = d} {ch = ch} {st' = st'} t b w =
-      let k = turn-all t b w in
+      let k = facing-all t b w in
       subst (λ (u : List Settings). Scanning s q u d st' m) (map-replicate (applied ch) channelLimit (st .root) ∙ ap (replicate channelLimit) (sym (k .0))) (k .1)
 
   pub bare-root : {base : Settings} {t : Stretch} {st' : Standing} → Bare s q c st m → c .within ≡ Root → base ≡ defaultSettings → t ≡ stretchOf s c (st .little) base (st .root) → st' ≡ withRoot (t .settings) st → Bare s q (cursor (t .at) Root) st' m

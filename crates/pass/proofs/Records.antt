@@ -22,7 +22,7 @@ use Rattle.settings.specs.Settings.{channelLimit, defaultSettings, zeroSettings
 use Rattle.dated.specs.declared.Dated.{Dated}
 use Rattle.dated.specs.declared.Dates.{Dates}
 use Rattle.dated.specs.Dated.{noted, datedTable, zeroDated, firstDates, rootDefined, allCleared, settledAt, settledIn}
-use Rattle.dated.proofs.Tables.{Kept, kept-first, kept-longer, kept-set, kept-root, kept-cleared, table-long, table-first, table-set, table-at}
+use Rattle.dated.proofs.Tables.{Timely, timely-first, timely-longer, timely-set, timely-root, timely-cleared, table-long, table-begins, table-set, table-at}
 use Rattle.layout.specs.declared.Layout.{Layout}
 use Rattle.layout.specs.Measure.{More}
 use Rattle.layout.proofs.Laws.{Summing, summing-more}
@@ -38,12 +38,12 @@ use Rattle.verdict.proofs.Settled.{carried-count, carried-all, carried-one}
 use Rattle.verdict.specs.Reached.{Reached}
 use Rattle.pass.specs.Passing.{Scanning}
 use Rattle.pass.proofs.Scans.{scanning-on}
-use Rattle.pass.proofs.Turns.{Turn, turn-later, turn-goes}
+use Rattle.pass.proofs.Turns.{Facing, facing-later, facing-goes}
 use Rattle.pass.proofs.Stretches.{InGroup, group-law, stretch-on}
 
 pub record Passing (s : List ℕ) (q : Asked) (table : List Dated) (dates : Dates) (c : Cursor) (st : Standing) (m : Met) : Type 0 where
   pub full : length table ≡ channelLimit
-  pub kept : Kept (c .at + 1) dates table
+  pub kept : Timely (c .at + 1) dates table
   pub pass : Scanning s q (settledIn (st .root) dates table) c st m
 
 pub passing-from : {s : List ℕ} {q : Asked} {c : Cursor} {st : Standing} {m : Met} {table : List Dated} {dates : Dates} → table ≡ datedTable → dates ≡ firstDates → Scanning s q (replicate channelLimit (st .root)) c st m → Passing s q table dates c st m
@@ -51,8 +51,8 @@ passing-from {s} {q} {c} {st} {m} et ed p =
     rw (et, ed)
     (record {
       full = length-replicate channelLimit (noted 0 defaultSettings);
-      kept = kept-longer kept-first (omega arith);
-      pass = subst (λ (u : List Settings). Scanning s q u c st m) (sym (table-first (st .root))) p;
+      kept = timely-longer timely-first (omega arith);
+      pass = subst (λ (u : List Settings). Scanning s q u c st m) (sym (table-begins (st .root))) p;
     })
 
 module _ {s : List ℕ} {q : Asked} {table : List Dated} {dates : Dates} {c : Cursor} {st : Standing} {m : Met} (p : Passing s q table dates c st m) where
@@ -75,19 +75,19 @@ module _ {s : List ℕ} {q : Asked} {table : List Dated} {dates : Dates} {c : Cu
 
   -- ---- behind an item
 
-  module _ {i : Item} {d : Cursor} {e : Effect} (t : Turn s q stands c st m i d e) where
+  module _ {i : Item} {d : Cursor} {e : Effect} (t : Facing s q stands c st m i d e) where
     room : c .at + 1 + 1 < 2 ^ 32
-    room = omega (arith, turn-later t, p .pass .long)
+    room = omega (arith, facing-later t, p .pass .long)
 
     on : c .at + 1 + 1 ≤ d .at + 1
-    on = omega (arith, turn-later t)
+    on = omega (arith, facing-later t)
 
     -- Every record is as it was.
     pub passing-on : {st' : Standing} {m' : Met} → (st' .root ≡ st .root) × Scanning s q stands d st' m' → Passing s q table dates d st' m'
     passing-on {st' = st'} {m' = m'} k =
         record {
           full = p .full;
-          kept = kept-longer (p .kept) (omega (arith, on));
+          kept = timely-longer (p .kept) (omega (arith, on));
           pass = subst (λ (r : Settings). Scanning s q (settledIn r dates table) d st' m') (sym (k .0)) (k .1);
         }
 
@@ -101,9 +101,9 @@ module _ {s : List ℕ} {q : Asked} {table : List Dated} {dates : Dates} {c : Cu
         rw ed
         (record {
           full = p .full;
-          kept = kept-longer (kept-cleared (p .kept) room) on;
+          kept = timely-longer (timely-cleared (p .kept) room) on;
           pass = subst (λ (r : Settings). Scanning s q (settledIn r (allCleared dates) table) d st' m) (sym (ap (λ (x : Standing). x .root) v))
-              (turn-goes t v (does b ∙ carried-count s st dates table (t .before .met) (p .kept) (p .full) n));
+              (facing-goes t v (does b ∙ carried-count s st dates table (t .before .met) (p .kept) (p .full) n));
         })
 
     pub passing-all : {ch : Change} {st' : Standing} {dates' : Dates} → e ≡ Effect.All ch → st' ≡ standingAfter st (Effect.All ch) → dates' ≡ rootDefined ch dates → Passing s q table dates' d st' m
@@ -111,9 +111,9 @@ module _ {s : List ℕ} {q : Asked} {table : List Dated} {dates : Dates} {c : Cu
         rw ed
         (record {
           full = p .full;
-          kept = kept-longer (kept-root (p .kept) room ch) on;
+          kept = timely-longer (timely-root (p .kept) room ch) on;
           pass = subst (λ (r : Settings). Scanning s q (settledIn r (rootDefined ch dates) table) d st' m) (sym (ap (λ (x : Standing). x .root) w))
-              (turn-goes t w (does b ∙ carried-all s st dates table (t .before .met) (p .kept) (p .full) ch room));
+              (facing-goes t w (does b ∙ carried-all s st dates table (t .before .met) (p .kept) (p .full) ch room));
         })
 
     -- The record of a channel, brought up to date and changed.
@@ -121,7 +121,7 @@ module _ {s : List ℕ} {q : Asked} {table : List Dated} {dates : Dates} {c : Cu
     changed channel ch = noted (dates .now) (applied ch (settledAt (st .root) dates (getD table channel zeroDated)))
 
     one-set : {channel : ℕ} {ch : Change} → e ≡ Effect.One channel ch → Scanning s q (settledIn (st .root) dates (set table channel (changed channel ch))) d st m
-    one-set {channel = channel} {ch = ch} b = turn-goes t refl (does b ∙ carried-one s st dates table (t .before .met) (p .kept) (p .full) channel ch)
+    one-set {channel = channel} {ch = ch} b = facing-goes t refl (does b ∙ carried-one s st dates table (t .before .met) (p .kept) (p .full) channel ch)
 
     pub passing-one : {channel : ℕ} {ch : Change} {stood v : Settings} {x : Dated} → e ≡ Effect.One channel ch
         → stood ≡ settledAt (st .root) dates (getD table channel zeroDated) → v ≡ applied ch stood → x ≡ noted (dates .now) v
@@ -130,7 +130,7 @@ module _ {s : List ℕ} {q : Asked} {table : List Dated} {dates : Dates} {c : Cu
         rw (ex ∙ ap (noted (dates .now)) (ev ∙ ap (applied ch) es))
         (record {
           full = length-set table channel (changed channel ch) ∙ p .full;
-          kept = kept-longer (kept-set (p .kept) channel (changed channel ch .settings)) (omega (arith, on));
+          kept = timely-longer (timely-set (p .kept) channel (changed channel ch .settings)) (omega (arith, on));
           pass = one-set b;
         })
 
@@ -151,7 +151,7 @@ module _ {s : List ℕ} {q : Asked} {table : List Dated} {dates : Dates} {c : Cu
       rw ex
       (record {
         full = length-set table k (noted (dates .now) (a .settings)) ∙ p .full;
-        kept = kept-longer (kept-set (p .kept) k (a .settings)) (omega (arith, stretch-on s c (st .little) (st .root) held e));
+        kept = timely-longer (timely-set (p .kept) k (a .settings)) (omega (arith, stretch-on s c (st .little) (st .root) held e));
         pass = scanning-on (p .pass)
             (subst (λ (u : List Settings). Reached s (state st u (p .pass .met)) (cursor (a .at) (c .within))) (stands-set k (a .settings))
             (group-law s st (p .pass .met) stands k few z (c .within) g (c .at) held a e

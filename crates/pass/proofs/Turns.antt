@@ -1,5 +1,5 @@
 -- The pass, turn by turn, by what stands for the channels.
---     Turn, turn-..          an item met and what it asks for, and the laws of the turn: where the pass stands behind it, or what it answers
+--     Facing, facing-..          an item met and what it asks for, and the laws of the turn: where the pass stands behind it, or what it answers
 --     Framing, framing-..    the same of a waveform
 -- Assumes nothing.
 use mathlib.Core.Path.{_≡_, refl, sym, ap, _∙_}
@@ -72,53 +72,53 @@ stood ks b s x u (Effect.Refused n) h = absurd (miss ks 8 (b .3) h)
 -- ---- an item
 
 -- An item is met, behind which the cursor d stands, and asks for e; the table is what stands for all channels.
-pub record Turn (s : List ℕ) (q : Asked) (table : List Settings) (c : Cursor) (st : Standing) (m : Met) (i : Item) (d : Cursor) (e : Effect) : Type 0 where
+pub record Facing (s : List ℕ) (q : Asked) (table : List Settings) (c : Cursor) (st : Standing) (m : Met) (i : Item) (d : Cursor) (e : Effect) : Type 0 where
   pub before : Scanning s q table c st m
   pub found : nextOf s c ≡ FoundItem i d
   pub asks : e ≡ effectOf s st i
 
-module _ {s : List ℕ} {q : Asked} {table : List Settings} {c : Cursor} {st : Standing} {m : Met} {i : Item} {d : Cursor} {e : Effect} (t : Turn s q table c st m i d e) where
-  pub turn-later : (c .at < length s) × (c .at < d .at)
-  turn-later = next-later s c refl (t .found)
+module _ {s : List ℕ} {q : Asked} {table : List Settings} {c : Cursor} {st : Standing} {m : Met} {i : Item} {d : Cursor} {e : Effect} (t : Facing s q table c st m i d e) where
+  pub facing-later : (c .at < length s) × (c .at < d .at)
+  facing-later = next-later s c refl (t .found)
 
   abbrev here : State
   here = state st table (t .before .met)
 
   -- An item that gives no frame; what stands after it is known, however that is kept.
-  pub turn-goes : {table' : List Settings} {st' st'' : Standing} → st'' ≡ st' → carried s here e ≡ goes (state st' table' (t .before .met)) → Scanning s q table' d st'' m
-  turn-goes {table' = table'} w g =
+  pub facing-goes : {table' : List Settings} {st' st'' : Standing} → st'' ≡ st' → carried s here e ≡ goes (state st' table' (t .before .met)) → Scanning s q table' d st'' m
+  facing-goes {table' = table'} w g =
       scanning-on (t .before)
       (behind (t .before .reached) (t .found) (ap (carried s here) (sym (t .asks)) ∙ g ∙ ap (λ (x : Standing). goes (state x table' (t .before .met))) (sym w)))
 
-  pub turn-nothing : e ≡ Effect.Pass → Scanning s q table d st m
+  pub facing-nothing : e ≡ Effect.Pass → Scanning s q table d st m
   unfolding carried
-  turn-nothing b = turn-goes refl (ap (carried s here) b)
+  facing-nothing b = facing-goes refl (ap (carried s here) b)
 
-  pub turn-stands : (ks : List ℕ) → Plain ks → T (not (hasKey ks 2)) ⊎ (table ≡ replicate channelLimit (st .root)) → {st' : Standing} → OneOf ks (tagOf the-type e) → st' ≡ standingAfter st e → (st' .root ≡ st .root) × Scanning s q table d st' m
-  turn-stands ks h u b w =
+  pub facing-stands : (ks : List ℕ) → Plain ks → T (not (hasKey ks 2)) ⊎ (table ≡ replicate channelLimit (st .root)) → {st' : Standing} → OneOf ks (tagOf the-type e) → st' ≡ standingAfter st e → (st' .root ≡ st .root) × Scanning s q table d st' m
+  facing-stands ks h u b w =
       let k = stood ks h s here u e b in
-      (ap (λ (x : Standing). x .root) w ∙ k .root, turn-goes w (k .carries))
+      (ap (λ (x : Standing). x .root) w ∙ k .root, facing-goes w (k .carries))
 
-  pub turn-all : {ch : Change} {st' : Standing} → e ≡ Effect.All ch → st' ≡ standingAfter st (Effect.All ch) → (st' .root ≡ applied ch (st .root)) × Scanning s q (allApplied ch table) d st' m
+  pub facing-all : {ch : Change} {st' : Standing} → e ≡ Effect.All ch → st' ≡ standingAfter st (Effect.All ch) → (st' .root ≡ applied ch (st .root)) × Scanning s q (allApplied ch table) d st' m
   unfolding carried
-  turn-all b w = (ap (λ (x : Standing). x .root) w, turn-goes w (ap (carried s here) b))
+  facing-all b w = (ap (λ (x : Standing). x .root) w, facing-goes w (ap (carried s here) b))
 
-  pub turn-refused : {n : ℕ} → e ≡ Effect.Refused n → refusedScan (refusal n (placeAt i)) ≡ scanOf q s
+  pub facing-refused : {n : ℕ} → e ≡ Effect.Refused n → refusedScan (refusal n (placeAt i)) ≡ scanOf q s
   unfolding carried
-  turn-refused {n = n} b = scanned-refuses (t .before) n (placeAt i) refl (t .found) refl (ap (carried s here) (sym (t .asks) ∙ b))
+  facing-refused {n = n} b = scanned-refuses (t .before) n (placeAt i) refl (t .found) refl (ap (carried s here) (sym (t .asks) ∙ b))
 
 -- ---- a waveform
 
 -- A waveform is met: l is the layout of its channels, and r what it gives.
 pub record Framing (s : List ℕ) (q : Asked) (table : List Settings) (c : Cursor) (st : Standing) (m : Met) (i : Item) (d : Cursor) (start len : ℕ) (l : Layout) (r : Framed) : Type 0 where
-  pub turn : Turn s q table c st m i d (Effect.Frame start len)
+  pub turn : Facing s q table c st m i d (Effect.Frame start len)
   pub laid : l ≡ layoutOf (q .channel) (take (channelsOf (st .counted)) table)
   pub gives : r ≡ framedBy (m .frames) st (l .agree) (l .octets) len
 
-pub turn-framing : {s : List ℕ} {q : Asked} {table : List Settings} {c : Cursor} {st : Standing} {m : Met} {i : Item} {d : Cursor} {e : Effect} {start len : ℕ} {l : Layout} {r : Framed}
-    → Turn s q table c st m i d e → e ≡ Effect.Frame start len → l ≡ layoutOf (q .channel) (take (channelsOf (st .counted)) table) → r ≡ framedBy (m .frames) st (l .agree) (l .octets) len
+pub facing-framing : {s : List ℕ} {q : Asked} {table : List Settings} {c : Cursor} {st : Standing} {m : Met} {i : Item} {d : Cursor} {e : Effect} {start len : ℕ} {l : Layout} {r : Framed}
+    → Facing s q table c st m i d e → e ≡ Effect.Frame start len → l ≡ layoutOf (q .channel) (take (channelsOf (st .counted)) table) → r ≡ framedBy (m .frames) st (l .agree) (l .octets) len
     → Framing s q table c st m i d start len l r
-turn-framing t b el g = record { turn = record { before = t .before; found = t .found; asks = sym b ∙ t .asks }; laid = el; gives = g }
+facing-framing t b el g = record { turn = record { before = t .before; found = t .found; asks = sym b ∙ t .asks }; laid = el; gives = g }
 
 module _ {s : List ℕ} {q : Asked} {table : List Settings} {c : Cursor} {st : Standing} {m : Met} {i : Item} {d : Cursor} {start len : ℕ} {l : Layout} {r : Framed}
     (f : Framing s q table c st m i d start len l r) where

@@ -5,7 +5,7 @@
 --     records-at, records-past       one that is there, and one that is not
 --     holding-none, holding-put      nothing stored, and one record stored
 --     Clearing, clearing-more, clearing-all    the times of the first records set back, one more, and all
---     kept-outdated, table-outdated            with all times set back no record is after now, and every channel has the root settings
+--     timely-outdated, table-outdated            with all times set back no record is after now, and every channel has the root settings
 -- Assumes nothing.
 use mathlib.Core.Path.{_≡_, refl, sym, ap, _∙_}
 use mathlib.Core.List.{List, [], _∷_, map}
@@ -26,7 +26,7 @@ use Rattle.settings.specs.Settings.{channelLimit}
 use Rattle.dated.specs.declared.Dated.{Dated}
 use Rattle.dated.specs.declared.Dates.{Dates}
 use Rattle.dated.specs.Dated.{noted, zeroDated, settledAt, settledIn}
-use Rattle.dated.proofs.Tables.{Until, none, more, Kept}
+use Rattle.dated.proofs.Tables.{Until, none, more, Timely}
 use Rattle.records.specs.Records.{recordWords, recordNumbers, timeWord, tableWords, scaleBy, bitsBy, recordBy, wordsAt, recordAt}
 use Rattle.records.specs.Records.{recordsFrom, recordsHeld, recordsIn, outdated}
 use Rattle.records.specs.Records.{Holding, Overlaid}
@@ -264,8 +264,8 @@ until-outdated : (n : ℕ) (xs : List Dated) → Until n (map outdated xs)
 until-outdated n [] = none
 until-outdated n (x ∷ xs) = more {x = outdated x} (omega arith) (until-outdated n xs)
 
-pub kept-outdated : {b : ℕ} {d : Dates} {t : List Dated} (xs : List Dated) → Kept b d t → Kept b d (map outdated xs)
-kept-outdated {d = d} xs k = record { sound = k .sound; until = until-outdated (d .now) xs; low = k .low }
+pub timely-outdated : {b : ℕ} {d : Dates} {t : List Dated} (xs : List Dated) → Timely b d t → Timely b d (map outdated xs)
+timely-outdated {d = d} xs k = record { sound = k .sound; until = until-outdated (d .now) xs; low = k .low }
 
 pub table-outdated : (root : Settings) (d : Dates) (xs : List Dated) → settledIn root d (map outdated xs) ≡ replicate (length xs) root
 unfolding settledIn settledAt

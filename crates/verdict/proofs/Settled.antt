@@ -14,14 +14,14 @@ use Rattle.settings.specs.Settings.{channelLimit, zeroSettings, applied}
 use Rattle.dated.specs.declared.Dated.{Dated}
 use Rattle.dated.specs.declared.Dates.{Dates}
 use Rattle.dated.specs.Dated.{noted, zeroDated, rootDefined, allCleared, settledAt, settledIn}
-use Rattle.dated.proofs.Tables.{Kept, table-long, table-root, table-cleared, table-set, table-at}
+use Rattle.dated.proofs.Tables.{Timely, table-long, table-root, table-cleared, table-set, table-at}
 use Rattle.layout.specs.Frame.{Frame}
 use Rattle.standing.specs.declared.Standing.{Standing}
 use Rattle.effects.specs.declared.Effect.{Effect}
 use Rattle.effects.specs.Effects.{standingAfter}
 use Rattle.verdict.specs.Verdict.{State, state, goes, oneChanged, carried}
 
-module _ (s : List ℕ) (st : Standing) (dates : Dates) (table : List Dated) (fs : List Frame) {b : ℕ} (k : Kept b dates table) (full : length table ≡ channelLimit) where
+module _ (s : List ℕ) (st : Standing) (dates : Dates) (table : List Dated) (fs : List Frame) {b : ℕ} (k : Timely b dates table) (full : length table ≡ channelLimit) where
   -- What stands for all channels.
   abbrev stands : List Settings
   stands = settledIn (st .root) dates table

@@ -21,7 +21,7 @@ use Rattle.settings.specs.Settings.{channelLimit, defaultSettings, applied}
 use Rattle.dated.specs.declared.Dated.{Dated}
 use Rattle.dated.specs.declared.Dates.{Dates}
 use Rattle.dated.specs.Dated.{firstDates, noted, rootDefined, allCleared, settledIn}
-use Rattle.dated.proofs.Tables.{Kept, kept-first, kept-longer, kept-set, kept-root, kept-cleared, table-first}
+use Rattle.dated.proofs.Tables.{Timely, timely-first, timely-longer, timely-set, timely-root, timely-cleared, table-begins}
 use Rattle.layout.specs.declared.Layout.{Layout}
 use Rattle.layout.specs.Frame.{Frame, sequenceOctets, allAgree}
 use Rattle.layout.specs.Measure.{layoutOf}
@@ -33,7 +33,7 @@ use Rattle.framing.specs.declared.Framed.{Framed}
 use Rattle.framing.specs.Framing.{channelsOf}
 use Rattle.framing.specs.AnyNumbers.{framedBy}
 use Rattle.records.specs.Records.{outdated}
-use Rattle.records.proofs.Laws.{kept-outdated, table-outdated}
+use Rattle.records.proofs.Laws.{timely-outdated, table-outdated}
 use Rattle.verdict.specs.Verdict.{State, state, goes, refuses, withFrame, carried, placeAt, accepted, refused, interpret, verdict}
 use Rattle.verdict.specs.Reached.{Reached, begin, behind as one-behind}
 use Rattle.verdict.proofs.Keeps.{interpret-refuses, reached-verdict}
@@ -48,7 +48,7 @@ use Rattle.walk.proofs.Turns.{Later, turn-later, advance-on, advance-st
 pub record Reaches (s : List ℕ) (met : List Frame) (x : Stand) : Type 0 where
   pub long : length s ≤ octetsLimit
   pub full : length (x .records) ≡ channelLimit
-  pub kept : Kept (x .cursor .at + 1) (x .dates) (x .records)
+  pub kept : Timely (x .cursor .at + 1) (x .dates) (x .records)
   pub items : x .items ≤ x .cursor .at
   pub count : x .frames ≡ length met
   pub reached : Reached s (state (x .standing) (standsFor x) met) (x .cursor)
@@ -58,10 +58,10 @@ reaches-first s h =
     record {
       long = h;
       full = length-replicate channelLimit (noted 0 defaultSettings);
-      kept = kept-longer kept-first (omega arith);
+      kept = timely-longer timely-first (omega arith);
       items = omega arith;
       count = refl;
-      reached = rw table-first begin;
+      reached = rw table-begins begin;
     }
 
 -- The same where all records are of the time before the first item, whatever they say.
@@ -70,7 +70,7 @@ reaches-cleared s xs h e =
     record {
       long = h;
       full = length-map xs outdated ∙ e;
-      kept = kept-longer (kept-outdated xs kept-first) (omega arith);
+      kept = timely-longer (timely-outdated xs timely-first) (omega arith);
       items = omega arith;
       count = refl;
       reached = subst (λ (u : List Settings). Reached s (state firstStanding u []) (cursor 0 Root)) (sym (table-outdated defaultSettings firstDates xs ∙ ap (λ (n : ℕ). replicate n defaultSettings) e)) begin;
@@ -113,13 +113,13 @@ module _ {s : List ℕ} {met : List Frame} {x : Stand} (p : Reaches s met x) whe
     more-items = omega (arith, forward, p .items, p .long)
 
     -- The item leads on.
-    leads-on : (st : Standing) (dates : Dates) (records : List Dated) → length records ≡ channelLimit → Kept (d .at + 1) dates records
+    leads-on : (st : Standing) (dates : Dates) (records : List Dated) → length records ≡ channelLimit → Timely (d .at + 1) dates records
         → carried s here (effectOf s (x .standing) i) ≡ goes (state st (settledIn (st .root) dates records) met) → Reaches s met (behind x d st dates records (x .frames))
     leads-on st dates records l k g = record { long = p .long; full = l; kept = k; items = more-items; count = p .count; reached = one-behind (p .reached) found g }
 
     -- Nothing but what stands changes, and not the root settings.
     stays : (st : Standing) → carried s here (effectOf s (x .standing) i) ≡ goes (state st (settledIn (st .root) (x .dates) (x .records)) met) → Reaches s met (behind x d st (x .dates) (x .records) (x .frames))
-    stays st g = leads-on st (x .dates) (x .records) (p .full) (kept-longer (p .kept) (omega (arith, further))) g
+    stays st g = leads-on st (x .dates) (x .records) (p .full) (timely-longer (p .kept) (omega (arith, further))) g
 
     refuses-here : (n : ℕ) → carried s here (effectOf s (x .standing) i) ≡ refuses n → refused (refusal n (placeAt i)) ≡ verdict s
     refuses-here n g = sym (interpret-refuses s here i (itemsFrom s d) n g) ∙ ap (interpret s here) (sym (items-found s (x .cursor) i d found)) ∙ left
@@ -153,7 +153,7 @@ module _ {s : List ℕ} {met : List Frame} {x : Stand} (p : Reaches s met x) whe
             record {
               long = p .long;
               full = p .full;
-              kept = kept-longer (p .kept) (omega (arith, further));
+              kept = timely-longer (p .kept) (omega (arith, further));
               items = more-items;
               count = rw length-append (omega (arith, p .count));
               reached = one-behind (p .reached) found
@@ -178,15 +178,15 @@ module _ {s : List ℕ} {met : List Frame} {x : Stand} (p : Reaches s met x) whe
     effect-reaches Effect.Pass a = stays (x .standing) (ap (carried s here) (sym a))
     effect-reaches (Effect.Order little) a = stays (standingAfter (x .standing) (Effect.Order little)) (ap (carried s here) (sym a))
     effect-reaches (Effect.Count n) a =
-        leads-on (standingAfter (x .standing) (Effect.Count n)) (allCleared (x .dates)) (x .records) (p .full) (kept-longer (kept-cleared (p .kept) room) further)
+        leads-on (standingAfter (x .standing) (Effect.Count n)) (allCleared (x .dates)) (x .records) (p .full) (timely-longer (timely-cleared (p .kept) room) further)
         (ap (carried s here) (sym a) ∙ carried-count s (x .standing) (x .dates) (x .records) met (p .kept) (p .full) n)
     effect-reaches (Effect.Sequences n) a = stays (standingAfter (x .standing) (Effect.Sequences n)) (ap (carried s here) (sym a))
     effect-reaches (Effect.Start z) a = stays (standingAfter (x .standing) (Effect.Start z)) (ap (carried s here) (sym a))
     effect-reaches (Effect.All ch) a =
-        leads-on (standingAfter (x .standing) (Effect.All ch)) (rootDefined ch (x .dates)) (x .records) (p .full) (kept-longer (kept-root (p .kept) room ch) further)
+        leads-on (standingAfter (x .standing) (Effect.All ch)) (rootDefined ch (x .dates)) (x .records) (p .full) (timely-longer (timely-root (p .kept) room ch) further)
         (ap (carried s here) (sym a) ∙ carried-all s (x .standing) (x .dates) (x .records) met (p .kept) (p .full) ch room)
     effect-reaches (Effect.One channel ch) a =
-        leads-on (x .standing) (x .dates) (oneNoted x channel (applied ch)) (length-set (x .records) channel _ ∙ p .full) (kept-longer (kept-set (p .kept) channel _) (omega (arith, further)))
+        leads-on (x .standing) (x .dates) (oneNoted x channel (applied ch)) (length-set (x .records) channel _ ∙ p .full) (timely-longer (timely-set (p .kept) channel _) (omega (arith, further)))
         (ap (carried s here) (sym a) ∙ carried-one s (x .standing) (x .dates) (x .records) met (p .kept) (p .full) channel ch)
     effect-reaches (Effect.Frame start len) a =
         subst (λ (cs : List Settings). TurnReaches s met (x .cursor .at) (framedTurn x d (placeAt i) start len (framedBy (x .frames) (x .standing) (allAgree cs) (sequenceOctets cs) len))) (sym (shown a)) (framed-reaches a (given a) refl)

@@ -1,7 +1,7 @@
 -- Laws of one walk.
 --     advance-on, -stops    one item further; where the walk stops
 --     Turning, turning-..   an item met and what it asks for: what the walk does with it
---     Framing, framing-..   the same of a waveform
+--     Measured, measured-..   the same of a waveform
 --     answered              the answer of an advance
 -- Assumes nothing.
 use mathlib.Core.Path.{_≡_, refl, sym, ap, subst, _∙_}
@@ -46,7 +46,7 @@ use Rattle.walk.specs.declared.Waveform.{Waveform}
 use Rattle.walk.specs.declared.Step.{Step}
 use Rattle.walk.specs.declared.Head.{Head}
 use Rattle.walk.specs.declared.Moved.{Moved}
-use Rattle.walk.specs.Advance.{Stand, stand, standsFor, Stop, stop, Turn, on, stops, behind, channelsAt, waveformBy, framedTurn, goesOn, effectTurn, nextTurn, turnOf, turned, advanceIn, advanceOf, standOf, movedTo, Advances}
+use Rattle.walk.specs.Advance.{Stand, stand, standsFor, Stop, stop, Turn, on, stops, behind, channelsAt, waveformBy, framedTurn, goesOn, effectTurn, nextTurn, turnOf, afterTurn, advanceIn, advanceOf, standOf, movedTo, Advances}
 
 -- ---- one item further
 
@@ -87,28 +87,28 @@ turn-later s x = next-turn-later s x (nextOf s (x .cursor)) refl
 
 -- More turns than there are octets left change nothing.
 advance-turns : (j k : ℕ) (s : List ℕ) (x : Stand) → length s - x .cursor .at < j → length s - x .cursor .at < k → advanceIn j s x ≡ advanceIn k s x
-unfolding advanceIn turned
+unfolding advanceIn afterTurn
 advance-turns zero k s x h l = let z : ⊥ = omega arith in absurd z
 advance-turns (suc j) zero s x h l = let z : ⊥ = omega arith in absurd z
 advance-turns (suc j) (suc k) s x h l = by (turnOf s x) (turn-later s x) (λ y p q. advance-turns j k s y p q)
   where
     by : (t : Turn) → Later (length s) (x .cursor .at) t
         → ((y : Stand) → length s - y .cursor .at < j → length s - y .cursor .at < k → advanceIn j s y ≡ advanceIn k s y)
-        → turned (advanceIn j s) t ≡ turned (advanceIn k s) t
+        → afterTurn (advanceIn j s) t ≡ afterTurn (advanceIn k s) t
     by (on y) p ih = ih y (omega arith) (omega arith)
     by (stops z) p ih = refl
 
 module _ (s : List ℕ) (x : Stand) where
   pub advance-on : (y : Stand) → turnOf s x ≡ on y → advanceOf s x ≡ advanceOf s y
-  unfolding advanceOf advanceIn turned
+  unfolding advanceOf advanceIn afterTurn
   advance-on y e =
       let p = subst (Later (length s) (x .cursor .at)) e (turn-later s x) in
-      ap (turned (advanceIn (length s - x .cursor .at) s)) e
+      ap (afterTurn (advanceIn (length s - x .cursor .at) s)) e
       ∙ advance-turns (length s - x .cursor .at) (suc (length s - y .cursor .at)) s y (omega arith) (omega arith)
 
   pub advance-stops : (z : Stop) → turnOf s x ≡ stops z → advanceOf s x ≡ z
-  unfolding advanceOf advanceIn turned
-  advance-stops z e = ap (turned (advanceIn (length s - x .cursor .at) s)) e
+  unfolding advanceOf advanceIn afterTurn
+  advance-stops z e = ap (afterTurn (advanceIn (length s - x .cursor .at) s)) e
 
   -- The end, and a fault of form.
   pub advance-end : {n : Next} → n ≡ nextOf s (x .cursor) → n ≡ End → stop Step.Ended x ≡ advanceOf s x
@@ -215,16 +215,16 @@ framed-few frames st agree octets long =
     (λ _. leb-false framesLimit frames h))))))
 
 -- The frame's channels are the first n records, and l is their layout.
-pub record Framing (s : List ℕ) (x : Stand) (i : Item) (d : Cursor) (start len n : ℕ) (l : Layout) (r : Framed) : Type 0 where
+pub record Measured (s : List ℕ) (x : Stand) (i : Item) (d : Cursor) (start len n : ℕ) (l : Layout) (r : Framed) : Type 0 where
   pub turn : Turning s x i d (Effect.Frame start len)
   pub counts : n ≡ min (min (channelsOf (x .standing .counted)) channelLimit) (length (x .records))
   pub laid : l ≡ layoutOf 0 (channelsAt x)
   pub gives : r ≡ framedBy (x .frames) (x .standing) (l .agree) (l .octets) len
 
-pub turning-framed : {s : List ℕ} {x : Stand} {i : Item} {d : Cursor} {e : Effect} {start len count n : ℕ} {l : Layout} {r : Framed} → Turning s x i d e → e ≡ Effect.Frame start len → count ≡ channelsOf (x .standing .counted)
+pub turning-measured : {s : List ℕ} {x : Stand} {i : Item} {d : Cursor} {e : Effect} {start len count n : ℕ} {l : Layout} {r : Framed} → Turning s x i d e → e ≡ Effect.Frame start len → count ≡ channelsOf (x .standing .counted)
     → n ≡ min (min count channelLimit) (length (x .records)) → l ≡ layoutOf 0 (take (min count channelLimit) (standsFor x)) → r ≡ framedBy (x .frames) (x .standing) (l .agree) (l .octets) len
-    → Framing s x i d start len n l r
-turning-framed {x = x} t b ec en el er =
+    → Measured s x i d start len n l r
+turning-measured {x = x} t b ec en el er =
     record {
       turn = record { found = t .found; asks = sym b ∙ t .asks };
       counts = en ∙ ap (λ (k : ℕ). min (min k channelLimit) (length (x .records))) ec;
@@ -232,7 +232,7 @@ turning-framed {x = x} t b ec en el er =
       gives = er;
     }
 
-module _ {s : List ℕ} {x : Stand} {i : Item} {d : Cursor} {start len n : ℕ} {l : Layout} {r : Framed} (f : Framing s x i d start len n l r) where
+module _ {s : List ℕ} {x : Stand} {i : Item} {d : Cursor} {start len n : ℕ} {l : Layout} {r : Framed} (f : Measured s x i d start len n l r) where
   counts-shown : n ≡ min (min (channelsOf (x .standing .counted)) channelLimit) (length (standsFor x))
   counts-shown = f .counts ∙ ap (min (min (channelsOf (x .standing .counted)) channelLimit)) (sym (table-long (x .standing .root) (x .dates) (x .records)))
 
@@ -243,18 +243,18 @@ module _ {s : List ℕ} {x : Stand} {i : Item} {d : Cursor} {start len n : ℕ} 
   unfolding effectTurn layoutOf
   framed = ap (framedTurn x d (placeAt i) start len) (sym (f .gives ∙ (λ k. framedBy (x .frames) (x .standing) (f .laid k .agree) (f .laid k .octets) len)))
 
-  pub framing-refused : {number : ℕ} → r ≡ Framed.Refused number → stop (Step.Refused (refusal number (placeAt i))) x ≡ advanceOf s x
+  pub measured-refused : {number : ℕ} → r ≡ Framed.Refused number → stop (Step.Refused (refusal number (placeAt i))) x ≡ advanceOf s x
   unfolding framedTurn
-  framing-refused {number = number} g = sym (advance-stops s x (stop (Step.Refused (refusal number (placeAt i))) x) (turns (f .turn) ∙ framed ∙ ap (framedTurn x d (placeAt i) start len) g))
+  measured-refused {number = number} g = sym (advance-stops s x (stop (Step.Refused (refusal number (placeAt i))) x) (turns (f .turn) ∙ framed ∙ ap (framedTurn x d (placeAt i) start len) g))
 
   module _ {sequences : ℕ} {after : Standing} (g : r ≡ Framed.Taken sequences after) where
-    pub framing-last : x .frames < framesLimit
-    framing-last = subst (Few (x .frames)) (sym (f .gives) ∙ g) (framed-few (x .frames) (x .standing) (l .agree) (l .octets) len)
+    pub measured-last : x .frames < framesLimit
+    measured-last = subst (Few (x .frames)) (sym (f .gives) ∙ g) (framed-few (x .frames) (x .standing) (l .agree) (l .octets) len)
 
-    pub framing-taken : {w : Waveform} {items : ℕ} → w ≡ waveformBy (x .standing) n sequences start len (l .octets) → items ≡ (x .items + 1) % 2 ^ 64
+    pub measured-taken : {w : Waveform} {items : ℕ} → w ≡ waveformBy (x .standing) n sequences start len (l .octets) → items ≡ (x .items + 1) % 2 ^ 64
         → stop (Step.Frame w) (stand d after (x .dates) (x .records) items (x .frames + 1)) ≡ advanceOf s x
     unfolding framedTurn layoutOf
-    framing-taken ew ei =
+    measured-taken ew ei =
         (λ k. stop (Step.Frame (ew k)) (stand d after (x .dates) (x .records) (ei k) (x .frames + 1)))
         ∙ (λ k. stop (Step.Frame (waveformBy (x .standing) (counted k) sequences start len (f .laid k .octets))) (behind x d after (x .dates) (x .records) (x .frames + 1)))
         ∙ sym

@@ -113,14 +113,14 @@ nextTurn s x (Next.Refused r) = stops (stop (Step.Refused r) x)
 unfoldable pub turnOf : List ℕ → Stand → Turn
 turnOf s x = nextTurn s x (nextOf s (x .cursor))
 
-unfoldable pub turned : (Stand → Stop) → Turn → Stop
-turned more (on y) = more y
-turned more (stops z) = z
+unfoldable pub afterTurn : (Stand → Stop) → Turn → Stop
+afterTurn more (on y) = more y
+afterTurn more (stops z) = z
 
 -- Each item takes octets, so that as many turns as there are octets, and one, are enough.
 unfoldable pub advanceIn : ℕ → List ℕ → Stand → Stop
 advanceIn zero s x = stop Step.Ended x
-advanceIn (suc turns) s x = turned (advanceIn turns s) (turnOf s x)
+advanceIn (suc turns) s x = afterTurn (advanceIn turns s) (turnOf s x)
 
 -- From a stand to the next frame, the end, or the refusal.
 unfoldable pub advanceOf : List ℕ → Stand → Stop

@@ -17,7 +17,7 @@ use Rattle.layout.proofs.Laws.{Summing, summing-none, summed-up}
 use Rattle.pass.specs.declared.Asked.{Asked}
 use Rattle.verdict.proofs.Bounds.{channels-between}
 use Rattle.pass.proofs.Scans.{scanning-counted, scanned-end, scanned-fault}
-use Rattle.pass.proofs.Turns.{Turn, turn-later, turn-nothing, turn-stands, turn-refused, Framing, turn-framing, framing-refused, framing-room, framing-taken}
+use Rattle.pass.proofs.Turns.{Facing, facing-later, facing-nothing, facing-stands, facing-refused, Framing, facing-framing, framing-refused, framing-room, framing-taken}
 use Rattle.pass.proofs.Stretches.{Opened, opened-group, opened-nothing, opened-counted, group-entered, stretch-on}
 use Rattle.pass.proofs.Records.{Passing, passing-from, passing-at, passing-on, passing-count, passing-all, passing-one, passing-outside, passing-group, settled-more, settled-seen, stands-full}
 use Rattle.pass.proofs.scan_channels.Statement.{statement}
@@ -56,7 +56,7 @@ file-of c = at-loop c .before .before .before .before .args .s .now
 abbrev asked-of : Behind → Asked
 asked-of c = at-loop c .before .before .before .before .args .asked
 
-met : (c : Behind) → let l = at-loop c .loop in Turn (file-of c) (asked-of c) (settledIn (l .st .root) (l .dates) (l .table)) (l .c) (l .st) (l .met) (item-of c) (c .renewed .result) (effectOf (file-of c) (l .st) (item-of c))
+met : (c : Behind) → let l = at-loop c .loop in Facing (file-of c) (asked-of c) (settledIn (l .st .root) (l .dates) (l .table)) (l .c) (l .st) (l .met) (item-of c) (c .renewed .result) (effectOf (file-of c) (l .st) (item-of c))
 met c =
     let at-next = at-item c .before .before in
     record { before = at-loop c .loop .inv .pass; found = sym (at-next .next-item .ensures) ∙ found-as (at-item c .item .given .1) (c .renewed .ensures); asks = refl }
@@ -75,7 +75,7 @@ behind c = c .before .before .before .before
 turn : (c : Known)
     → let b = behind c in
     let l = at-loop b .loop in
-    Turn (file-of b) (asked-of b) (settledIn (l .st .root) (l .dates) (l .table)) (l .c) (l .st) (l .met) (item-of b) (b .renewed .result) (c .item-effect .result)
+    Facing (file-of b) (asked-of b) (settledIn (l .st .root) (l .dates) (l .table)) (l .c) (l .st) (l .met) (item-of b) (b .renewed .result) (c .item-effect .result)
 turn c =
     let m = met (behind c) in
     record { before = m .before; found = m .found; asks = c .item-effect .ensures }
@@ -103,7 +103,7 @@ framing : (c : Given)
     Framing (file-of b) (asked-of b) (settledIn (l .st .root) (l .dates) (l .table)) (l .c) (l .st) (l .met) (item-of b) (b .renewed .result) (waveform .0) (waveform .1 .0) (at-sum c .loop2 .l) (c .frame-of .result)
 framing c =
     let at-count = at-sum c .before .before in
-    turn-framing (turn (known c)) (at-frame c .effect3 .given .1) (summed-up (at-sum c .loop2 .inv) _ (at-count .channels-of .ensures) (c .before .loop2-test .left)) (c .frame-of .ensures)
+    facing-framing (turn (known c)) (at-frame c .effect3 .given .1) (summed-up (at-sum c .loop2 .inv) _ (at-count .channels-of .ensures) (c .before .loop2-test .left)) (c .frame-of .ensures)
 
 -- ---- the needs
 
@@ -188,7 +188,7 @@ loop-less c =
     let at-before = at-along .before .before in
     let at-opens = c .before .before .before .before .before .before in
     let b = at-opens .before .before .before in
-    omega (arith, turn-later (met b), stretch-on _ _ _ _ _ (at-along .along .ensures), ap (λ (d : Cursor). d .at) (c .moved .ensures))
+    omega (arith, facing-later (met b), stretch-on _ _ _ _ _ (at-along .along .ensures), ap (λ (d : Cursor). d .at) (c .moved .ensures))
 
 loop-again : tie.Need-loop-again Inv-loop2 μ-loop2 Inv-loop μ-loop
 loop-again c =
@@ -198,7 +198,7 @@ loop-again c =
     let at-opens = c .before .before .before .before .before .before in
     let b = at-opens .before .before .before in
     let o = opens at-opens in
-    let entered = passing-on (at-loop b .loop .inv) (met b) (refl, turn-nothing (met b) (opened-nothing _ _ o)) in
+    let entered = passing-on (at-loop b .loop .inv) (met b) (refl, facing-nothing (met b) (opened-nothing _ _ o)) in
     let held = ap (λ (x : Settings). stretchOf (file-of b) (b .renewed .result) (at-loop b .loop .st .little) (at-loop b .loop .st .root) x) (at-settle .settle .ensures) in
     passing-at (passing-group entered (at-opens .before .opened .result) (group-entered _ _ refl (met b .found) o) (at-opens .if1 .taken) (opened-counted o) (at-along .along .ensures ∙ held) (c .before .note .ensures))
     (c .moved .ensures)
@@ -218,7 +218,7 @@ standing-after-requires c κs = search needs
 loop-less-2 : tie.Need-loop-less-2 Inv-loop2 μ-loop2 Inv-loop μ-loop
 loop-less-2 c =
     let at-before = c .before .before .before in
-    omega (arith, turn-later (turn (c .before .before .before .before)))
+    omega (arith, facing-later (turn (c .before .before .before .before)))
 
 loop-again-2 : tie.Need-loop-again-2 Inv-loop2 μ-loop2 Inv-loop μ-loop
 loop-again-2 c =
@@ -238,7 +238,7 @@ standing-after-requires-2 c κs = search needs
 loop-less-3 : tie.Need-loop-less-3 Inv-loop2 μ-loop2 Inv-loop μ-loop
 loop-less-3 c =
     let at-before = c .before .before .before .before in
-    omega (arith, turn-later (turn (c .before .before .before .before .before)))
+    omega (arith, facing-later (turn (c .before .before .before .before .before)))
 
 loop-again-3 : tie.Need-loop-again-3 Inv-loop2 μ-loop2 Inv-loop μ-loop
 loop-again-3 c =
@@ -277,7 +277,7 @@ array-set-from-table-2 c = search needs
 loop-less-4 : tie.Need-loop-less-4 Inv-loop2 μ-loop2 Inv-loop μ-loop
 loop-less-4 c =
     let at-before = c .before .before .before .before .before .before .before in
-    omega (arith, turn-later (turn (c .before .before .before .before .before .before .before .before)))
+    omega (arith, facing-later (turn (c .before .before .before .before .before .before .before .before)))
 
 loop-again-4 : tie.Need-loop-again-4 Inv-loop2 μ-loop2 Inv-loop μ-loop
 loop-again-4 c =
@@ -289,7 +289,7 @@ loop-again-4 c =
 loop-less-5 : tie.Need-loop-less-5 Inv-loop2 μ-loop2 Inv-loop μ-loop
 loop-less-5 c =
     let at-before = c .before .before .before in
-    omega (arith, turn-later (turn (c .before .before .before .before)))
+    omega (arith, facing-later (turn (c .before .before .before .before)))
 
 loop-again-5 : tie.Need-loop-again-5 Inv-loop2 μ-loop2 Inv-loop μ-loop
 loop-again-5 c =
@@ -383,7 +383,7 @@ loop-less-6 : tie.Need-loop-less-6 Inv-loop2 μ-loop2 Inv-loop μ-loop
 loop-less-6 c =
     let at-before = c .before .before .before .before .before .before in
     let given = c .before .before .before .before .before .before .before in
-    omega (arith, turn-later (framing given .turn))
+    omega (arith, facing-later (framing given .turn))
 
 loop-again-6 : tie.Need-loop-again-6 Inv-loop2 μ-loop2 Inv-loop μ-loop
 loop-again-6 c =
@@ -403,18 +403,18 @@ refused-item-requires-2 c κs = search needs
 returns-4 : tie.Need-returns-4 Inv-loop2 μ-loop2 Inv-loop μ-loop
 returns-4 c =
     let at-refused = c .before .before in
-    c .refused-item2 .ensures ∙ turn-refused (turn (at-refused .before .before)) (at-refused .effect4 .given .1)
+    c .refused-item2 .ensures ∙ facing-refused (turn (at-refused .before .before)) (at-refused .effect4 .given .1)
 
 standing-after-requires-3 : tie.Need-standing-after-requires-3 Inv-loop2 μ-loop2 Inv-loop μ-loop
 standing-after-requires-3 c κs = search needs
 
 loop-less-7 : tie.Need-loop-less-7 Inv-loop2 μ-loop2 Inv-loop μ-loop
-loop-less-7 c = omega (arith, turn-later (turn (c .before .before)))
+loop-less-7 c = omega (arith, facing-later (turn (c .before .before)))
 
 loop-again-7 : tie.Need-loop-again-7 Inv-loop2 μ-loop2 Inv-loop μ-loop
 loop-again-7 c =
     let k = c .before .before in
-    passing-on (passing k) (turn k) (turn-stands (turn k) (0 ∷ 1 ∷ 3 ∷ 4 ∷ []) (tt, tt, tt, tt) (inl tt) (c .before .match2 .keys6) (c .standing-after3 .ensures))
+    passing-on (passing k) (turn k) (facing-stands (turn k) (0 ∷ 1 ∷ 3 ∷ 4 ∷ []) (tt, tt, tt, tt) (inl tt) (c .before .match2 .keys6) (c .standing-after3 .ensures))
 
 pub scan-channels-spec : {M : Type 1} → statement M
 scan-channels-spec =

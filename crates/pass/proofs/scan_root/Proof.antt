@@ -11,7 +11,7 @@ use Rattle.items.specs.Walk.{cursor}
 use Rattle.settings.specs.Settings.{channelLimit}
 use Rattle.effects.specs.Effects.{standingAfter}
 use Rattle.pass.proofs.Scans.{scanning-counted, scanned-end, scanned-fault}
-use Rattle.pass.proofs.Turns.{Turn, turn-later, turn-stands, turn-refused, turn-framing, framing-refused, framing-room}
+use Rattle.pass.proofs.Turns.{Facing, facing-later, facing-stands, facing-refused, facing-framing, framing-refused, framing-room}
 use Rattle.pass.proofs.Stretches.{begins-root}
 use Rattle.pass.proofs.Bare.{Bare, bare-first, bare-on, bare-at, bare-all, bare-root, bare-taken}
 use Rattle.pass.proofs.scan_root.Statement.{statement}
@@ -30,7 +30,7 @@ turn : (c : tie.After-item-effect Inv-loop μ-loop)
     → let at-item = c .before .before in
     let at-loop = at-item .before .before .before .before .before in
     let at-start = at-loop .before .before .before .before .before in
-    Turn (at-start .args .s .now) (at-start .args .asked) (replicate channelLimit (at-loop .loop .st .root)) (at-loop .loop .c) (at-loop .loop .st) (at-loop .loop .met) (at-item .item .given .0 .0) (at-item .item .given .0 .1 .0) (c .item-effect .result)
+    Facing (at-start .args .s .now) (at-start .args .asked) (replicate channelLimit (at-loop .loop .st .root)) (at-loop .loop .c) (at-loop .loop .st) (at-loop .loop .met) (at-item .item .given .0 .0) (at-item .item .given .0 .1 .0) (c .item-effect .result)
 turn c =
     let at-item = c .before .before in
     let at-next = at-item .before .before in
@@ -120,7 +120,7 @@ renewed-requires : tie.Need-renewed-requires Inv-loop μ-loop
 renewed-requires c κs = search needs
 
 loop-less-2 : tie.Need-loop-less-2 Inv-loop μ-loop
-loop-less-2 c = omega (arith, turn-later (turn (c .before .before .before .before)), ap (λ (d : Cursor). d .at) (c .renewed .ensures))
+loop-less-2 c = omega (arith, facing-later (turn (c .before .before .before .before)), ap (λ (d : Cursor). d .at) (c .renewed .ensures))
 
 loop-again-2 : tie.Need-loop-again-2 Inv-loop μ-loop
 loop-again-2 c =
@@ -157,7 +157,7 @@ returns-4 c =
     let at-frame = at-number .before .before in
     let at-layout = at-frame .before in
     let at-effect = at-layout .before .before in
-    c .refused-item .ensures ∙ framing-refused (turn-framing (turn (at-effect .before .before)) (at-effect .effect .given .1) (at-layout .root-layout .ensures) (at-frame .frame-of .ensures)) (at-number .number .given .1)
+    c .refused-item .ensures ∙ framing-refused (facing-framing (turn (at-effect .before .before)) (at-effect .effect .given .1) (at-layout .root-layout .ensures) (at-frame .frame-of .ensures)) (at-number .number .given .1)
 
 enum-known-sequences : tie.Need-enum-known-sequences Inv-loop μ-loop
 enum-known-sequences c = search needs
@@ -168,7 +168,7 @@ with-frame-requires c κs =
     let at-frame = at-taken .before .before in
     let at-layout = at-frame .before in
     let at-effect = at-layout .before .before in
-    framing-room (turn-framing (turn (at-effect .before .before)) (at-effect .effect .given .1) (at-layout .root-layout .ensures) (at-frame .frame-of .ensures)) (at-taken .sequences .given .1)
+    framing-room (facing-framing (turn (at-effect .before .before)) (at-effect .effect .given .1) (at-layout .root-layout .ensures) (at-frame .frame-of .ensures)) (at-taken .sequences .given .1)
 
 renewed-requires-2 : tie.Need-renewed-requires-2 Inv-loop μ-loop
 renewed-requires-2 c κs = search needs
@@ -176,7 +176,7 @@ renewed-requires-2 c κs = search needs
 loop-less-3 : tie.Need-loop-less-3 Inv-loop μ-loop
 loop-less-3 c =
     let at-frame = c .before .before .before .before .before in
-    omega (arith, turn-later (turn (at-frame .before .before .before .before .before)), ap (λ (d : Cursor). d .at) (c .renewed2 .ensures))
+    omega (arith, facing-later (turn (at-frame .before .before .before .before .before)), ap (λ (d : Cursor). d .at) (c .renewed2 .ensures))
 
 loop-again-3 : tie.Need-loop-again-3 Inv-loop μ-loop
 loop-again-3 c =
@@ -184,7 +184,7 @@ loop-again-3 c =
     let at-frame = at-taken .before .before in
     let at-layout = at-frame .before in
     let at-effect = at-layout .before .before in
-    let framed = turn-framing (turn (at-effect .before .before)) (at-effect .effect .given .1) (at-layout .root-layout .ensures) (at-frame .frame-of .ensures) in
+    let framed = facing-framing (turn (at-effect .before .before)) (at-effect .effect .given .1) (at-layout .root-layout .ensures) (at-frame .frame-of .ensures) in
     bare-at (c .renewed2 .ensures) (bare-taken framed (at-taken .sequences .given .1) (c .before .with-frame .ensures))
 
 enum-known-effect-2 : tie.Need-enum-known-effect-2 Inv-loop μ-loop
@@ -196,7 +196,7 @@ refused-item-requires-2 c κs = search needs
 returns-5 : tie.Need-returns-5 Inv-loop μ-loop
 returns-5 c =
     let at-effect = c .before .before in
-    c .refused-item2 .ensures ∙ turn-refused (turn (at-effect .before .before)) (at-effect .effect2 .given .1)
+    c .refused-item2 .ensures ∙ facing-refused (turn (at-effect .before .before)) (at-effect .effect2 .given .1)
 
 standing-after-requires-2 : tie.Need-standing-after-requires-2 Inv-loop μ-loop
 standing-after-requires-2 c κs = search needs
@@ -205,12 +205,12 @@ renewed-requires-3 : tie.Need-renewed-requires-3 Inv-loop μ-loop
 renewed-requires-3 c κs = search needs
 
 loop-less-4 : tie.Need-loop-less-4 Inv-loop μ-loop
-loop-less-4 c = omega (arith, turn-later (turn (c .before .before .before)), ap (λ (d : Cursor). d .at) (c .renewed3 .ensures))
+loop-less-4 c = omega (arith, facing-later (turn (c .before .before .before)), ap (λ (d : Cursor). d .at) (c .renewed3 .ensures))
 
 loop-again-4 : tie.Need-loop-again-4 Inv-loop μ-loop
 loop-again-4 c =
     let at-arm = c .before .before in
-    bare-at (c .renewed3 .ensures) (bare-on (turn-stands (turn (at-arm .before)) (0 ∷ 1 ∷ 2 ∷ 3 ∷ 4 ∷ []) (tt, tt, tt, tt) (inr refl) (at-arm .match2 .keys5) (c .before .standing-after2 .ensures)))
+    bare-at (c .renewed3 .ensures) (bare-on (facing-stands (turn (at-arm .before)) (0 ∷ 1 ∷ 2 ∷ 3 ∷ 4 ∷ []) (tt, tt, tt, tt) (inr refl) (at-arm .match2 .keys5) (c .before .standing-after2 .ensures)))
 
 pub scan-root-spec : {M : Type 1} → statement M
 scan-root-spec =

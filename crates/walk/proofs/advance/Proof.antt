@@ -10,7 +10,7 @@ use Rattle.items.proofs.Walks.{found-as}
 use Rattle.records.specs.Records.{recordsIn}
 use Rattle.records.proofs.Channels.{channels-few}
 use Rattle.walk.specs.Advance.{Stand, stand, advanceOf}
-use Rattle.walk.proofs.Turns.{advance-end, advance-fault, Turning, turning-later, turning-stands, turning-count, turning-all, turning-one, turning-refused, Framing, turning-framed, framing-refused, framing-last, framing-taken, answered}
+use Rattle.walk.proofs.Turns.{advance-end, advance-fault, Turning, turning-later, turning-stands, turning-count, turning-all, turning-one, turning-refused, Measured, turning-measured, measured-refused, measured-last, measured-taken, answered}
 use Rattle.walk.proofs.advance.Statement.{statement}
 use Rattle.walk.proofs.advance.Tie as tie
 
@@ -64,10 +64,10 @@ known c = at-frame c .before .before
 framing : (c : Given)
     → let k = known c in
     let waveform = at-frame c .effect3 .given .0 in
-    Framing (file-of (at-loop k)) (here (at-loop k)) (item-of k) (k .before .before .renewed .result) (waveform .0) (waveform .1 .0) (c .before .before .before .at-most .result) (c .before .layout-in .result) (c .frame-of .result)
+    Measured (file-of (at-loop k)) (here (at-loop k)) (item-of k) (k .before .before .renewed .result) (waveform .0) (waveform .1 .0) (c .before .before .before .at-most .result) (c .before .layout-in .result) (c .frame-of .result)
 framing c =
     let at-count = c .before .before .before in
-    turning-framed (turn (known c)) (at-frame c .effect3 .given .1) (at-count .before .before .channels-of .ensures) (at-count .at-most .ensures) (c .before .layout-in .ensures) (c .frame-of .ensures)
+    turning-measured (turn (known c)) (at-frame c .effect3 .given .1) (at-count .before .before .channels-of .ensures) (at-count .at-most .ensures) (c .before .layout-in .ensures) (c .frame-of .ensures)
 
 -- ---- the needs
 
@@ -242,7 +242,7 @@ returns-3 c =
     let at-number = c .before .before .before in
     let given = at-number .before .before in
     let inv = at-loop (known given) .loop .inv in
-    answered (c .come-to3 .ensures) (c .before .refused-at .ensures) (framing-refused (framing given) (at-number .number .given .1) ∙ inv .0) (inv .1)
+    answered (c .come-to3 .ensures) (c .before .refused-at .ensures) (measured-refused (framing given) (at-number .number .given .1) ∙ inv .0) (inv .1)
 
 enum-known-sequences : tie.Need-enum-known-sequences Inv-loop μ-loop
 enum-known-sequences c = search needs
@@ -255,7 +255,7 @@ taken-requires c κs =
 add-come-to : tie.Need-add-come-to Inv-loop μ-loop
 add-come-to c =
     let at-taken = c .before .before in
-    omega (arith, framing-last (framing (at-taken .before .before)) (at-taken .sequences .given .1))
+    omega (arith, measured-last (framing (at-taken .before .before)) (at-taken .sequences .given .1))
 
 come-to-requires-4 : tie.Need-come-to-requires-4 Inv-loop μ-loop
 come-to-requires-4 c κs = search needs
@@ -271,7 +271,7 @@ returns-4 c =
     let at-taken = c .before .before .before in
     let given = at-taken .before .before in
     let inv = at-loop (known given) .loop .inv in
-    answered (c .come-to4 .ensures) refl (framing-taken (framing given) (at-taken .sequences .given .1) (c .before .taken .ensures) (known given .before .wrapping-add-u64 .ensures) ∙ inv .0) (inv .1)
+    answered (c .come-to4 .ensures) refl (measured-taken (framing given) (at-taken .sequences .given .1) (c .before .taken .ensures) (known given .before .wrapping-add-u64 .ensures) ∙ inv .0) (inv .1)
 
 enum-known-effect-4 : tie.Need-enum-known-effect-4 Inv-loop μ-loop
 enum-known-effect-4 c = search needs
