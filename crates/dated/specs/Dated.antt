@@ -1,7 +1,7 @@
 -- How a reader keeps what stands for a channel: as it stood at a time, with the times of the root's definitions. None of it is a rule of document 01;
 -- that it says what document 01's rule says is proved.
-use mathlib.Core.List.{List, map}
-use Prim.Native.Nat.{ℕ, _+_, _%_, _^_}
+use mathlib.Core.List.{List, [], _∷_, map}
+use Prim.Native.Nat.{ℕ, zero, suc, _+_, _%_, _^_}
 use lib.Dec.{leb, eqb}
 use lib.ListN.{replicate}
 use Rattle.octets.specs.Pick.{pick}
@@ -76,3 +76,17 @@ settledAt root d x =
 -- What stands for all channels now.
 unfoldable pub settledIn : Settings → Dates → List Dated → List Settings
 settledIn root d t = map (settledAt root d) t
+
+-- A record brought up to date: what stands for its channel, of now.
+abbrev pub upToDate : Settings → Dates → Dated → Dated
+upToDate root d x = noted (d .now) (settledAt root d x)
+
+-- The first n records brought up to date.
+unfoldable pub refreshed : ℕ → Settings → Dates → List Dated → List Dated
+refreshed zero root d t = t
+refreshed (suc n) root d [] = []
+refreshed (suc n) root d (x ∷ t) = upToDate root d x ∷ refreshed n root d t
+
+-- What the records hold.
+unfoldable pub held : List Dated → List Settings
+held t = map (λ (x : Dated). x .settings) t

@@ -4,7 +4,7 @@
 --     passed-more    one channel further
 --     passed-all     after the last one
 --     Summing        the same over the first records of a table
---     summing-start, summing-none, summing-more, summed-up    before the first one, one further, after the last one
+--     summing-start, summing-none, summing-more, summed-below, summed-up    before the first one, one further, between two, after the last one
 --     take-few       no more records are taken than there are
 --     null-le, channel-few, groups-few    a null, a channel number and groups take few octets
 --     sequences-item-few, head-few, frame-few    and so do 06, a frame's head, and a frame
@@ -12,7 +12,7 @@
 use mathlib.Core.Path.{_≡_, refl, sym, ap, _∙_}
 use mathlib.Core.List.{List, [], _∷_}
 use mathlib.Core.Bool.{Bool, true, false}
-use Prim.Native.Nat.{ℕ, suc, _+_, _-_, _*_, _^_, _≤_, _<_, _%_, min}
+use Prim.Native.Nat.{ℕ, zero, suc, _+_, _-_, _*_, _^_, _≤_, _<_, _%_, min}
 use native.Mathlib.Nat.{add-assoc, zero-add, add-zero, mod-eq-of-lt}
 use native.Mathlib.Numerals.{add-one}
 use native.Mathlib.Omega.{arith}
@@ -141,6 +141,13 @@ passed-all channel cs i l h p =
     let g : l .groups ≡ groupsSize 0 cs = sym (add-zero (l .groups)) ∙ rw d at (p .groups) in
     λ k. record { agree = a k; octets = o k; below = b k; groups = g k }
 
+octets-split : (i : ℕ) (cs : List Settings) → octetsBelow i cs + sequenceOctets (drop i cs) ≡ sequenceOctets cs
+unfolding octetsBelow sequenceOctets
+octets-split zero cs = zero-add (sequenceOctets cs)
+octets-split (suc i) [] = refl
+octets-split (suc i) (c ∷ cs) =
+    add-assoc (blockOctets c) (octetsBelow i cs) (sequenceOctets (drop i cs)) ∙ ap (λ (n : ℕ). blockOctets c + n) (octets-split i cs)
+
 -- The first n records of a table, i of them behind.
 pub record Summing (channel : ℕ) (table : List Settings) (n i : ℕ) (l : Layout) : Type 0 where
   pub few : n ≤ channelLimit
@@ -162,6 +169,10 @@ module _ {channel : ℕ} {table : List Settings} {n i : ℕ} {l : Layout} (p : S
         long = p .long;
         passed = passed-more channel (take n table) i (getD table i zeroSettings) l m (omega (arith, p .few)) (omega (arith, p .long)) (sym (getD-take n table i zeroSettings h)) (p .passed) g;
       }
+
+  -- What is summed up so far is the octets below the next one.
+  pub summed-below : l .octets ≡ octetsBelow i (take n table)
+  summed-below = omega (arith, p .passed .octets, octets-split i (take n table))
 
   pub summed-up : (count : ℕ) → n ≡ count → n ≤ i → l ≡ layoutOf channel (take count table)
   summed-up count e h = passed-all channel (take n table) i l (omega (arith, p .long)) (p .passed) ∙ ap (λ (k : ℕ). layoutOf channel (take k table)) e

@@ -3,7 +3,8 @@
 --     overlaid-more          one word more stored
 --     records-long, records-full     how many there are; one for each channel of a frame
 --     records-at, records-past       one that is there, and one that is not
---     holding-none, holding-put      nothing stored, and one record stored
+--     holding-none, holding-same, holding-put      nothing stored, and one record stored
+--     below-aside                    what is kept below a channel is of no record
 --     Clearing, clearing-more, clearing-all    the times of the first records set back, one more, and all
 --     timely-outdated, table-outdated            with all times set back no record is after now, and every channel has the root settings
 -- Assumes nothing.
@@ -19,7 +20,7 @@ use lib.Dec.{ltb, eqb, lit<}
 use lib.IntN.{ℤ}
 use lib.Signed.{mag}
 use lib.ListN.{length, getD, set, replicate, length-set, length-map, List·getD-map, List·getD-eq-default}
-use lib.Seq.{getD-set-same, getD-set-other, set-out, ext-getD}
+use lib.Seq.{getD-set-same, getD-set-other, set-out, set-getD, ext-getD}
 use Rattle.octets.specs.Number.{range, lowOf, twos}
 use Rattle.settings.specs.declared.Settings.{Settings}
 use Rattle.settings.specs.Settings.{channelLimit}
@@ -27,7 +28,7 @@ use Rattle.dated.specs.declared.Dated.{Dated}
 use Rattle.dated.specs.declared.Dates.{Dates}
 use Rattle.dated.specs.Dated.{noted, zeroDated, settledAt, settledIn}
 use Rattle.dated.proofs.Tables.{Until, none, more, Timely}
-use Rattle.records.specs.Records.{recordWords, recordNumbers, timeWord, tableWords, scaleBy, bitsBy, recordBy, wordsAt, recordAt}
+use Rattle.records.specs.Records.{recordWords, recordNumbers, timeWord, belowWord, tableWords, scaleBy, bitsBy, recordBy, wordsAt, recordAt}
 use Rattle.records.specs.Records.{recordsFrom, recordsHeld, recordsIn, outdated}
 use Rattle.records.specs.Records.{Holding, Overlaid}
 
@@ -160,6 +161,15 @@ records-are u v xs l n h =
     let c : k < recordsHeld v = omega (arith, records-long v) in
     records-at v k zeroDated c ∙ h k (omega (arith, m)))
 
+-- What is kept below a channel is of no record.
+pub below-aside : (u : List ℕ) (k x : ℕ) → recordsIn (set u (place k + belowWord) x) ≡ recordsIn u
+below-aside u k x =
+    records-are u (set u (place k + belowWord) x) (recordsIn u) (length-set u (place k + belowWord) x) (records-long u)
+    (λ j h.
+    same-by (wordsAt (set u (place k + belowWord) x) (place j)) (wordsAt u (place j))
+    (λ a l. getD-set-other u (place k + belowWord) (place j + a) x 0 (λ e. let z : ⊥ = omega arith in z))
+    ∙ sym (records-at u j zeroDated h))
+
 -- ---- one record stored
 
 sides : (j k : ℕ) → (j ≡ k → ⊥) → (j < k) ⊎ (k < j)
@@ -174,6 +184,10 @@ module _ (u : List ℕ) (k : ℕ) (x : Dated) where
   -- There is no such record.
   pub holding-none : recordsHeld u ≤ k → Holding u (set (recordsIn u) k x) u
   holding-none h = record { records = sym (set-out (recordsIn u) k x (omega (arith, records-long u))); long = refl; others = λ m l. refl }
+
+  -- The record is what it would be.
+  pub holding-same : x ≡ getD (recordsIn u) k zeroDated → Holding u (set (recordsIn u) k x) u
+  holding-same e = record { records = sym (ap (set (recordsIn u) k) e ∙ set-getD (recordsIn u) k zeroDated); long = refl; others = λ m l. refl }
 
   module _ {w v : List ℕ} (h : k < recordsHeld u) (o : Overlaid u (place k) w recordNumbers v) where
     -- The other records are as they were.

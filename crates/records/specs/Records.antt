@@ -3,7 +3,7 @@ use mathlib.Core.Path.{_≡_}
 use mathlib.Core.List.{List, [], _∷_}
 use mathlib.Core.Logic.{_⊎_}
 use Prim.Native.Nat.{ℕ, zero, suc, _+_, _*_, _/_, _%_, _≤_, _<_}
-use lib.ListN.{length, getD}
+use lib.ListN.{length, getD, take}
 use Rattle.octets.specs.Number.{lowOf, twos}
 use Rattle.values.specs.declared.Bits.{Bits}
 use Rattle.settings.specs.declared.Scale.{Scale}
@@ -11,9 +11,12 @@ use Rattle.settings.specs.declared.Settings.{Settings}
 use Rattle.settings.specs.Settings.{channelLimit}
 use Rattle.dated.specs.declared.Dated.{Dated}
 use Rattle.dated.specs.declared.Dates.{Dates}
-use Rattle.dated.specs.Dated.{noted, settledIn}
+use Rattle.dated.specs.Dated.{noted, settledIn, refreshed, held}
+use Rattle.layout.specs.declared.Layout.{Layout}
+use Rattle.layout.specs.Frame.{octetsBelow}
+use Rattle.layout.specs.Measure.{layoutOf}
 
--- The words of a record: one for each of its numbers, and one that is spare.
+-- The words of a record: one for each of its numbers, and one for the octets of a sequence below its channel.
 abbrev pub recordWords : ℕ
 recordWords = 16
 
@@ -24,6 +27,10 @@ recordNumbers = 15
 -- The place of a record's time among its numbers.
 abbrev pub timeWord : ℕ
 timeWord = 14
+
+-- The place behind them of the octets below its channel.
+abbrev pub belowWord : ℕ
+belowWord = 15
 
 -- The words of a record for each channel that a frame may have.
 abbrev pub tableWords : ℕ
@@ -77,6 +84,14 @@ recordsIn u = recordsFrom (recordsHeld u) 0 u
 abbrev pub channelsIn : Settings → Dates → List ℕ → List Settings
 channelsIn root d u = settledIn root d (recordsIn u)
 
+-- What the records hold.
+abbrev pub heldIn : List ℕ → List Settings
+heldIn u = held (recordsIn u)
+
+-- The octets of a sequence below a channel, as they are kept with its record.
+abbrev pub belowIn : List ℕ → ℕ → ℕ
+belowIn u k = getD u (k * recordWords + belowWord) 0
+
 -- A record of the time before the first item: whatever it says, the root settings stand for its channel.
 abbrev pub outdated : Dated → Dated
 outdated x = noted 0 (x .settings)
@@ -86,6 +101,13 @@ pub record Holding (u : List ℕ) (xs : List Dated) (v : List ℕ) : Type 0 wher
   pub records : recordsIn v ≡ xs
   pub long : length v ≡ length u
   pub others : (m : ℕ) → (recordNumbers ≤ m % recordWords) ⊎ (recordsHeld u * recordWords ≤ m) → getD v m 0 ≡ getD u m 0
+
+-- The first n records are brought up to date, with each the octets below its channel, and l is their channels' layout.
+pub record Refreshed (u : List ℕ) (n : ℕ) (root : Settings) (d : Dates) (l : Layout) (v : List ℕ) : Type 0 where
+  pub layout : l ≡ layoutOf 0 (take n (channelsIn root d u))
+  pub records : recordsIn v ≡ refreshed n root d (recordsIn u)
+  pub long : length v ≡ length u
+  pub below : (k : ℕ) → k < n → k < recordsHeld u → belowIn v k ≡ octetsBelow k (channelsIn root d u)
 
 -- The words v are the words u with the first n of w from place i on.
 pub record Overlaid (u : List ℕ) (i : ℕ) (w : List ℕ) (n : ℕ) (v : List ℕ) : Type 0 where

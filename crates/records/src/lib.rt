@@ -1,20 +1,22 @@
 // The records of channels, kept in words that a caller lends: nothing is copied where a walk goes from frame to frame.
 //
-// A record takes `Records::WORDS` words, one number a word and one word spare; words hold as many records as there is room for. A number is that of
-// the lowest octets of its word, so that any words at all are records.
-// Promises, for any words and any number of a record: `get` answers a record, `put` stores one, and `clear` sends all channels back to the root
-// settings. Where there is no such record `get` answers zeros and `put` stores nothing. Words of no record's numbers stay as they are. `settled` answers
-// what stands for a record's channel, `at_most` how many of so many channels have records, and `layout_in` their layout.
+// A record takes `Records::WORDS` words, one number a word and one for the octets of a sequence below its channel; words hold as many records as
+// there is room for. A number is that of the lowest octets of its word, so that any words at all are records.
+// Promises, for any words and any number of a record: `get` answers a record, `held` its settings, `put` stores one, and `clear` sends all channels back to
+// the root settings. Where there is no such record `get` answers zeros and `put` stores nothing. Words of no record's numbers stay as they are. `settled`
+// answers what stands for a record's channel, `at_most` how many of so many channels have records, and `layout_in` the layout that their records give.
+// `refresh` brings the records of so many channels up to date, keeps the octets below each, and answers the layout.
 // Read first: specs/Records.antt.
 ghost use mathlib.Core.Path.{_≡_};
 ghost use mathlib.Core.List.{map};
-ghost use Prim.Native.Nat.{_+_, _<_, _≤_, min};
+ghost use Prim.Native.Nat.{_+_, _*_, _<_, _≤_, min};
 ghost use lib.ListN.{length, getD, set, take};
 ghost use Rattle.octets.specs.Number.{lowOf, twos};
 ghost use Rattle.settings.specs.Settings.{channelLimit};
-ghost use Rattle.dated.specs.Dated.{zeroDated, settledAt};
+ghost use Rattle.dated.specs.Dated.{zeroDated, settledAt, upToDate};
 ghost use Rattle.layout.specs.Measure.{layoutOf};
-ghost use Rattle.records.specs.Records.{recordNumbers, scaleBy, bitsBy, recordBy, wordsAt, recordsIn, channelsIn, outdated, Holding, Overlaid};
+ghost use Rattle.records.specs.Records.{recordNumbers, scaleBy, bitsBy, recordBy, wordsAt, recordsHeld, recordsIn, heldIn, outdated, Holding, Refreshed, Overlaid};
+ghost use Rattle.records.specs.Records.{recordWords, belowWord};
 use dated::Dated;
 use dated::Dates;
 use layout::Layout;
@@ -37,6 +39,9 @@ impl Records {
 
     // The word of a record's time.
     const TIME: usize = 14;
+
+    // The word of the octets below its channel.
+    const BELOW: usize = 15;
 }
 
 // A word of those from place i on.
@@ -239,15 +244,64 @@ pub fn at_most(t: &[u64], count: usize) -> usize
     if n < held { n } else { held }
 }
 
-// The layout of the first `count` channels, as far as there are records.
-pub fn layout_in(t: &[u64], count: usize, root: Settings, dates: Dates) -> Layout
-    ensures { λ r. ⌜ r ≡ layoutOf 0 (take (min count channelLimit) (channelsIn root dates (now (t .entry)))) ⌝ }
+// What a record holds.
+pub fn held(t: &[u64], k: usize) -> Settings
+    ensures { λ r. ⌜ r ≡ getD (recordsIn (now (t .entry))) k zeroDated .settings ⌝ }
+{
+    let x = get(t, k);
+    x.settings
+}
+
+// The layout of the first `count` channels by what their records hold, as far as there are records.
+pub fn layout_in(t: &[u64], count: usize) -> Layout
+    ensures { λ r. ⌜ r ≡ layoutOf 0 (take (min count channelLimit) (heldIn (now (t .entry)))) ⌝ }
 {
     let n = at_most(t, count);
     let mut l = Layout::none();
     let mut i = 0usize;
     while i < n {
-        l = l.more(i, 0, settled(t, i, root, dates));
+        l = l.more(i, 0, held(t, i));
+        i += 1;
+    }
+    l
+}
+
+// Brings a record up to date, and answers what stands for its channel.
+fn renew(t: &mut [u64], k: usize, root: Settings, dates: Dates) -> Settings
+    ensures { λ r. ⌜ r ≡ settledAt root dates (getD (recordsIn (now (t .entry))) k zeroDated) ⌝ }
+    ensures { λ _. ⌜ Holding (now (t .entry)) (set (recordsIn (now (t .entry))) k (upToDate root dates (getD (recordsIn (now (t .entry))) k zeroDated))) (now (t .exit)) ⌝ }
+{
+    let x = get(t, k);
+    let c = dated::settle(root, dates, x);
+    if dates.cleared < x.at {
+        if x.at == dates.now {
+            return c;
+        }
+    }
+    put(t, k, dates.note(c));
+    c
+}
+
+// Keeps the octets below a channel with its record.
+fn keep_below(t: &mut [u64], k: usize, octets: u64)
+    requires { ⌜ k < recordsHeld (now t) ⌝ }
+    ensures { λ _. ⌜ now (t .exit) ≡ set (now (t .entry)) (k * recordWords + belowWord) octets ⌝ }
+{
+    t[k * Records::WORDS + Records::BELOW] = octets;
+}
+
+// Brings the records of the first `count` channels up to date, as far as there are records, with each the octets below its channel. Answers their
+// channels' layout.
+pub fn refresh(t: &mut [u64], count: usize, root: Settings, dates: Dates) -> Layout
+    ensures { λ r. ⌜ Refreshed (now (t .entry)) (min count channelLimit) root dates r (now (t .exit)) ⌝ }
+{
+    let n = at_most(t, count);
+    let mut l = Layout::none();
+    let mut i = 0usize;
+    while i < n {
+        let c = renew(t, i, root, dates);
+        keep_below(t, i, l.octets);
+        l = l.more(i, 0, c);
         i += 1;
     }
     l

@@ -1,0 +1,109 @@
+-- Records brought up to date one after the other.
+--     renew-answers, renew-keeps, renew-stores    one of them
+--     Refreshing             the first i of n are
+--     refreshing-start, refreshing-more, refreshing-all    none yet, one more, all
+-- Assumes nothing.
+use mathlib.Core.Path.{_≡_, refl, sym, ap, subst, _∙_}
+use mathlib.Core.Bool.{Bool, true, false}
+use mathlib.Core.Logic.{inl}
+use mathlib.Core.List.{List}
+use Prim.Native.Nat.{ℕ, zero, suc, _+_, _*_, _≤_, _<_, min}
+use native.Mathlib.Nat.{le-refl, not-suc-le-zero}
+use native.Mathlib.Numerals.{add-one}
+use native.Mathlib.Omega.{arith}
+use borrow.Author.Tests.{ltb-true, ltb-false}
+use lib.Dec.{ltb}
+use lib.ListN.{length, take, getD, set, length-set}
+use lib.Seq.{getD-set-same, getD-set-other, take-take}
+use Rattle.settings.specs.declared.Settings.{Settings}
+use Rattle.settings.specs.Settings.{channelLimit}
+use Rattle.dated.specs.declared.Dated.{Dated}
+use Rattle.dated.specs.declared.Dates.{Dates}
+use Rattle.dated.specs.Dated.{noted, zeroDated, settledAt, upToDate, refreshed}
+use Rattle.dated.proofs.Tables.{table-long}
+use Rattle.dated.proofs.Refreshed.{fresh-same, refreshed-past, refreshed-more, refreshed-there}
+use Rattle.layout.specs.declared.Layout.{Layout}
+use Rattle.layout.specs.Frame.{sequenceOctets, octetsBelow}
+use Rattle.layout.specs.Measure.{noLayout, More}
+use Rattle.layout.proofs.Laws.{Summing, summing-start, summed-below}
+use Rattle.records.specs.Records.{recordWords, belowWord, recordsHeld, recordsIn, channelsIn, belowIn, Holding, Refreshed}
+use Rattle.records.proofs.Laws.{records-long, below-aside, holding-same}
+use Rattle.records.proofs.Channels.{layout-more, laid-out}
+
+-- ---- one record
+
+module _ (u : List ℕ) (k : ℕ) (root : Settings) (d : Dates) {x : Dated} {c : Settings} (ex : x ≡ getD (recordsIn u) k zeroDated) (ec : c ≡ settledAt root d x) where
+  pub renew-answers : c ≡ settledAt root d (getD (recordsIn u) k zeroDated)
+  renew-answers = ec ∙ ap (settledAt root d) ex
+
+  pub renew-keeps : d .cleared < x .at → x .at ≡ d .now → Holding u (set (recordsIn u) k (upToDate root d (getD (recordsIn u) k zeroDated))) u
+  renew-keeps h e = holding-same u k _ (ap (upToDate root d) (sym ex) ∙ fresh-same root d x h e ∙ ex)
+
+  pub renew-stores : {y : Dated} {v : List ℕ} → y ≡ noted (d .now) c → Holding u (set (recordsIn u) k y) v → Holding u (set (recordsIn u) k (upToDate root d (getD (recordsIn u) k zeroDated))) v
+  renew-stores {v = v} ey h = subst (λ z. Holding u (set (recordsIn u) k z) v) (ey ∙ ap (noted (d .now)) renew-answers) h
+
+-- ---- one after the other
+
+-- The first i of n records of the words u are brought up to date, with the octets below them; l is the layout of their channels.
+pub record Refreshing (u : List ℕ) (n : ℕ) (root : Settings) (d : Dates) (i : ℕ) (l : Layout) (v : List ℕ) : Type 0 where
+  pub room : n ≤ length (recordsIn u)
+  pub sums : Summing 0 (channelsIn root d u) n i l
+  pub records : recordsIn v ≡ refreshed i root d (recordsIn u)
+  pub long : length v ≡ length u
+  pub below : (k : ℕ) → k < i → belowIn v k ≡ octetsBelow k (channelsIn root d u)
+
+pub refreshing-start : {u : List ℕ} {n : ℕ} {l : Layout} (root : Settings) (d : Dates) → n ≤ channelLimit → n ≤ length (recordsIn u) → l ≡ noLayout → Refreshing u n root d 0 l u
+unfolding refreshed
+refreshing-start {u = u} root d few room e =
+    record {
+      room = room;
+      sums = summing-start 0 (rw (table-long root d (recordsIn u)) room) few e;
+      records = refl;
+      long = refl;
+      below = λ k h. absurd (not-suc-le-zero h);
+    }
+
+module _ {u : List ℕ} {n : ℕ} {root : Settings} {d : Dates} {i : ℕ} {l : Layout} {v : List ℕ} (p : Refreshing u n root d i l v) where
+  -- The next record is as it was.
+  same-at : getD (recordsIn v) i zeroDated ≡ getD (recordsIn u) i zeroDated
+  same-at = ap (λ t. getD t i zeroDated) (p .records) ∙ refreshed-past root d i i (recordsIn u) zeroDated (le-refl i)
+
+  -- What is summed up so far is the octets below it.
+  octets-below : i < n → l .octets ≡ octetsBelow i (channelsIn root d u)
+  unfolding octetsBelow
+  octets-below h = summed-below (p .sums) ∙ ap sequenceOctets (take-take i n (channelsIn root d u) (omega (arith, h)))
+
+  module _ {c : Settings} {v' v″ : List ℕ} (h : i < n) (ec : c ≡ settledAt root d (getD (recordsIn v) i zeroDated))
+      (o : Holding v (set (recordsIn v) i (upToDate root d (getD (recordsIn v) i zeroDated))) v') (e : v″ ≡ set v' (i * recordWords + belowWord) (l .octets)) where
+    below-more : (k : ℕ) → k < i + 1 → (t : Bool) → ltb k i ≡ t → belowIn (set v' (i * recordWords + belowWord) (l .octets)) k ≡ octetsBelow k (channelsIn root d u)
+    below-more k l' true q =
+        let b = ltb-true k i q in
+        getD-set-other v' (i * recordWords + belowWord) (k * recordWords + belowWord) (l .octets) 0 (λ z. let y : ⊥ = omega arith in y)
+        ∙ o .others (k * recordWords + belowWord) (inl (omega arith)) ∙ p .below k b
+    below-more k l' false q =
+        let same : k ≡ i = omega (arith, ltb-false k i q) in
+        rw same (getD-set-same v' (i * recordWords + belowWord) (l .octets) 0 (omega (arith, o .long, p .long, p .room, records-long u)) ∙ octets-below h)
+
+    pub refreshing-more : (m : Layout) → More i 0 c l m → Refreshing u n root d (i + 1) m v″
+    refreshing-more m g =
+        record {
+          room = p .room;
+          sums = layout-more root d (recordsIn u) (p .room) (p .sums) m h (ec ∙ ap (settledAt root d) same-at) g;
+          records = ap recordsIn e ∙ below-aside v' i (l .octets) ∙ o .records
+              ∙ (λ j. set (p .records j) i (upToDate root d (same-at j)))
+              ∙ refreshed-more root d i (recordsIn u) zeroDated (omega (arith, h, p .room))
+              ∙ ap (λ (k : ℕ). refreshed k root d (recordsIn u)) (sym (add-one i));
+          long = ap length e ∙ length-set v' (i * recordWords + belowWord) (l .octets) ∙ o .long ∙ p .long;
+          below = λ k b. ap (λ (w : List ℕ). belowIn w k) e ∙ below-more k b (ltb k i) refl;
+        }
+
+  pub refreshing-all : (count : ℕ) → n ≡ min (min count channelLimit) (length (recordsIn u)) → n ≤ i → Refreshed u (min count channelLimit) root d l v
+  refreshing-all count e h =
+      let low : i ≤ n = omega (arith, p .sums .passed .low, p .sums .long) in
+      let same : i ≡ min (min count channelLimit) (length (recordsIn u)) = omega arith in
+      record {
+        layout = laid-out (p .sums) count e (table-long root d (recordsIn u)) h;
+        records = p .records ∙ ap (λ (k : ℕ). refreshed k root d (recordsIn u)) same ∙ refreshed-there root d (min count channelLimit) (recordsIn u);
+        long = p .long;
+        below = λ k a b. p .below k (omega (arith, records-long u));
+      }
