@@ -20,8 +20,9 @@ use Rattle.settings.specs.declared.Settings.{Settings}
 use Rattle.settings.specs.Settings.{channelLimit, defaultSettings, applied}
 use Rattle.dated.specs.declared.Dated.{Dated}
 use Rattle.dated.specs.declared.Dates.{Dates}
-use Rattle.dated.specs.Dated.{firstDates, noted, rootDefined, allCleared, settledIn}
+use Rattle.dated.specs.Dated.{firstDates, noted, rootDefined, allCleared, settledIn, held}
 use Rattle.dated.proofs.Tables.{Timely, timely-first, timely-longer, timely-set, timely-root, timely-cleared, table-begins}
+use Rattle.dated.proofs.Refreshed.{refreshed-long, held-refreshed, settled-refreshed, timely-refreshed}
 use Rattle.layout.specs.declared.Layout.{Layout}
 use Rattle.layout.specs.Frame.{Frame, sequenceOctets, allAgree}
 use Rattle.layout.specs.Measure.{layoutOf}
@@ -40,7 +41,7 @@ use Rattle.verdict.proofs.Keeps.{interpret-refuses, reached-verdict}
 use Rattle.verdict.proofs.Frames.{frame-carried, count-few, taken-root}
 use Rattle.verdict.proofs.Settled.{carried-count, carried-all, carried-one}
 use Rattle.walk.specs.declared.Step.{Step}
-use Rattle.walk.specs.Advance.{Stand, stand, firstStand, standsFor, channelsAt, Turn, on, stops, behind, framedTurn, oneNoted, effectTurn, nextTurn, turnOf, advanceOf}
+use Rattle.walk.specs.Advance.{Stand, stand, firstStand, standsFor, channelsAt, recordsAt, Turn, on, stops, behind, framedTurn, oneNoted, effectTurn, nextTurn, turnOf, advanceOf}
 use Rattle.walk.specs.Joined.{frameBy, joinedBy, joinedIn, joined}
 use Rattle.walk.proofs.Turns.{Later, turn-later, advance-on, advance-stops}
 
@@ -128,6 +129,9 @@ module _ {s : List ℕ} {met : List Frame} {x : Stand} (p : Reaches s met x) whe
       abbrev count : ℕ
       count = channelsOf (x .standing .counted)
 
+      abbrev most : ℕ
+      most = min count channelLimit
+
       abbrev laid : Layout
       laid = layoutOf 0 (take count (standsFor x))
 
@@ -145,15 +149,17 @@ module _ {s : List ℕ} {met : List Frame} {x : Stand} (p : Reaches s met x) whe
       framed-reaches (Framed.Taken n st) e =
           let g = frame-carried (p .long) (p .reached) (p .count) 0 laid refl i start len a refl e in
           let root = taken-root (p .long) (p .reached) (p .count) 0 laid refl i a refl e in
-          let same : standsFor x ≡ settledIn (st .root) (x .dates) (x .records) = ap (λ (r : Settings). settledIn r (x .dates) (x .records)) (sym root) in
-          let channels : take count (standsFor x) ≡ take (length (channelsAt x)) (settledIn (st .root) (x .dates) (x .records)) =
-          sym shown ∙ sym (take-again (min count channelLimit) (standsFor x)) ∙ ap (take (length (channelsAt x))) same in (
+          let same : standsFor x ≡ settledIn (st .root) (x .dates) (recordsAt x) =
+          sym (settled-refreshed (x .standing .root) (x .dates) (p .kept .sound) most (x .records)) ∙ ap (λ (r : Settings). settledIn r (x .dates) (recordsAt x)) (sym root) in
+          let hold : channelsAt x ≡ take most (held (recordsAt x)) = sym (held-refreshed (x .standing .root) (x .dates) most (x .records)) in
+          let channels : take count (standsFor x) ≡ take (length (channelsAt x)) (held (recordsAt x)) =
+          sym shown ∙ hold ∙ sym (take-again most (held (recordsAt x))) ∙ ap (λ (u : List Settings). take (length u) (held (recordsAt x))) (sym hold) in (
             forward .1,
             forward .2,
             record {
               long = p .long;
-              full = p .full;
-              kept = timely-longer (p .kept) (omega (arith, further));
+              full = refreshed-long (x .standing .root) (x .dates) most (x .records) ∙ p .full;
+              kept = timely-longer (timely-refreshed (x .standing .root) (x .dates) most (p .kept)) (omega (arith, further));
               items = more-items;
               count = rw length-append (omega (arith, p .count));
               reached = one-behind (p .reached) found

@@ -2,6 +2,7 @@
 --     advance-on, -stops    one item further; where the walk stops
 --     Turning, turning-..   an item met and what it asks for: what the walk does with it
 --     Measured, measured-..   the same of a waveform
+--     below-frame           the octets below the channels of a frame
 --     answered              the answer of an advance
 -- Assumes nothing.
 use mathlib.Core.Path.{_≡_, refl, sym, ap, subst, _∙_}
@@ -14,6 +15,7 @@ use denote.Enum.Declared.{tagOf}
 use borrow.Author.Tests.{leb-false}
 use lib.Dec.{eqb, ltb, leb}
 use lib.ListN.{length, take, getD, set, length-take}
+use lib.Seq.{take-take}
 use Rattle.octets.proofs.Pick.{pick-cases}
 use Rattle.heads.specs.declared.Refusal.{Refusal}
 use Rattle.items.specs.declared.Item.{Item}
@@ -27,10 +29,11 @@ use Rattle.settings.specs.declared.Change.{Change}
 use Rattle.settings.specs.Settings.{channelLimit, applied}
 use Rattle.dated.specs.declared.Dated.{Dated}
 use Rattle.dated.specs.declared.Dates.{Dates}
-use Rattle.dated.specs.Dated.{noted, zeroDated, rootDefined, allCleared, settledAt}
+use Rattle.dated.specs.Dated.{noted, zeroDated, rootDefined, allCleared, settledAt, settledIn, refreshed, held}
 use Rattle.dated.proofs.Tables.{table-long}
+use Rattle.dated.proofs.Refreshed.{held-refreshed}
 use Rattle.layout.specs.declared.Layout.{Layout}
-use Rattle.layout.specs.Frame.{sequenceOctets}
+use Rattle.layout.specs.Frame.{sequenceOctets, octetsBelow}
 use Rattle.layout.specs.Measure.{layoutOf}
 use Rattle.standing.specs.declared.Standing.{Standing}
 use Rattle.standing.specs.Standing.{octetsLimit, framesLimit}
@@ -41,12 +44,13 @@ use Rattle.framing.specs.declared.Framed.{Framed}
 use Rattle.framing.specs.Framing.{channelsOf, sequencesOf, pointerFits, framedAs}
 use Rattle.framing.specs.AnyNumbers.{framedBy}
 use Rattle.verdict.specs.Verdict.{placeAt}
-use Rattle.records.specs.Records.{recordsIn}
+use Rattle.records.specs.Records.{recordsIn, heldIn, belowIn, Refreshed}
+use Rattle.records.proofs.Laws.{records-long}
 use Rattle.walk.specs.declared.Waveform.{Waveform}
 use Rattle.walk.specs.declared.Step.{Step}
 use Rattle.walk.specs.declared.Head.{Head}
 use Rattle.walk.specs.declared.Moved.{Moved}
-use Rattle.walk.specs.Advance.{Stand, stand, standsFor, Stop, stop, Turn, on, stops, behind, channelsAt, waveformBy, framedTurn, goesOn, effectTurn, nextTurn, turnOf, afterTurn, advanceIn, advanceOf, standOf, movedTo, Advances}
+use Rattle.walk.specs.Advance.{Stand, stand, standsFor, Stop, stop, Turn, on, stops, behind, channelsAt, recordsAt, refreshedAt, waveformBy, framedTurn, goesOn, effectTurn, nextTurn, turnOf, afterTurn, advanceIn, advanceOf, standOf, movedTo, BelowKept, Advances}
 
 -- ---- one item further
 
@@ -214,25 +218,27 @@ framed-few frames st agree octets long =
     (λ _. pick-cases P (ltb long (sequencesOf (st .sequences) long octets * octets)) (λ _. tt)
     (λ _. leb-false framesLimit frames h))))))
 
--- The frame's channels are the first n records, and l is their layout.
-pub record Measured (s : List ℕ) (x : Stand) (i : Item) (d : Cursor) (start len n : ℕ) (l : Layout) (r : Framed) : Type 0 where
+-- The frame's channels are those of the first n records, l is their layout, and their records are brought up to date.
+pub record Measured (s : List ℕ) (x : Stand) (i : Item) (d : Cursor) (start len n : ℕ) (l : Layout) (records : List Dated) (r : Framed) : Type 0 where
   pub turn : Turning s x i d (Effect.Frame start len)
   pub counts : n ≡ min (min (channelsOf (x .standing .counted)) channelLimit) (length (x .records))
   pub laid : l ≡ layoutOf 0 (channelsAt x)
+  pub fresh : records ≡ recordsAt x
   pub gives : r ≡ framedBy (x .frames) (x .standing) (l .agree) (l .octets) len
 
-pub turning-measured : {s : List ℕ} {x : Stand} {i : Item} {d : Cursor} {e : Effect} {start len count n : ℕ} {l : Layout} {r : Framed} → Turning s x i d e → e ≡ Effect.Frame start len → count ≡ channelsOf (x .standing .counted)
-    → n ≡ min (min count channelLimit) (length (x .records)) → l ≡ layoutOf 0 (take (min count channelLimit) (standsFor x)) → r ≡ framedBy (x .frames) (x .standing) (l .agree) (l .octets) len
-    → Measured s x i d start len n l r
-turning-measured {x = x} t b ec en el er =
+pub turning-measured : {s : List ℕ} {x : Stand} {i : Item} {d : Cursor} {e : Effect} {start len count n : ℕ} {l : Layout} {u v : List ℕ} {r : Framed} → Turning s x i d e → e ≡ Effect.Frame start len → count ≡ channelsOf (x .standing .counted)
+    → n ≡ min (min count channelLimit) (length (x .records)) → recordsIn u ≡ x .records → Refreshed u (min count channelLimit) (x .standing .root) (x .dates) l v → r ≡ framedBy (x .frames) (x .standing) (l .agree) (l .octets) len
+    → Measured s x i d start len n l (recordsIn v) r
+turning-measured {x = x} {l = l} {v = v} t b ec en eu f er =
     record {
       turn = record { found = t .found; asks = sym b ∙ t .asks };
       counts = en ∙ ap (λ (k : ℕ). min (min k channelLimit) (length (x .records))) ec;
-      laid = el ∙ ap (λ (k : ℕ). layoutOf 0 (take (min k channelLimit) (standsFor x))) ec;
+      laid = f .layout ∙ (λ j. layoutOf 0 (take (min (ec j) channelLimit) (settledIn (x .standing .root) (x .dates) (eu j))));
+      fresh = f .records ∙ (λ j. refreshed (min (ec j) channelLimit) (x .standing .root) (x .dates) (eu j));
       gives = er;
     }
 
-module _ {s : List ℕ} {x : Stand} {i : Item} {d : Cursor} {start len n : ℕ} {l : Layout} {r : Framed} (f : Measured s x i d start len n l r) where
+module _ {s : List ℕ} {x : Stand} {i : Item} {d : Cursor} {start len n : ℕ} {l : Layout} {records : List Dated} {r : Framed} (f : Measured s x i d start len n l records r) where
   counts-shown : n ≡ min (min (channelsOf (x .standing .counted)) channelLimit) (length (standsFor x))
   counts-shown = f .counts ∙ ap (min (min (channelsOf (x .standing .counted)) channelLimit)) (sym (table-long (x .standing .root) (x .dates) (x .records)))
 
@@ -243,27 +249,48 @@ module _ {s : List ℕ} {x : Stand} {i : Item} {d : Cursor} {start len n : ℕ} 
   unfolding effectTurn layoutOf
   framed = ap (framedTurn x d (placeAt i) start len) (sym (f .gives ∙ (λ k. framedBy (x .frames) (x .standing) (f .laid k .agree) (f .laid k .octets) len)))
 
-  pub measured-refused : {number : ℕ} → r ≡ Framed.Refused number → stop (Step.Refused (refusal number (placeAt i))) x ≡ advanceOf s x
+  -- The stand with the records as they are now.
+  abbrev kept-here : Stand
+  kept-here = stand (x .cursor) (x .standing) (x .dates) records (x .items) (x .frames)
+
+  pub measured-refused : {number : ℕ} → r ≡ Framed.Refused number → stop (Step.Refused (refusal number (placeAt i))) kept-here ≡ advanceOf s x
   unfolding framedTurn
-  measured-refused {number = number} g = sym (advance-stops s x (stop (Step.Refused (refusal number (placeAt i))) x) (turns (f .turn) ∙ framed ∙ ap (framedTurn x d (placeAt i) start len) g))
+  measured-refused {number = number} g =
+      (λ k. stop (Step.Refused (refusal number (placeAt i))) (stand (x .cursor) (x .standing) (x .dates) (f .fresh k) (x .items) (x .frames)))
+      ∙ sym (advance-stops s x (stop (Step.Refused (refusal number (placeAt i))) (refreshedAt x)) (turns (f .turn) ∙ framed ∙ ap (framedTurn x d (placeAt i) start len) g))
 
   module _ {sequences : ℕ} {after : Standing} (g : r ≡ Framed.Taken sequences after) where
     pub measured-last : x .frames < framesLimit
     measured-last = subst (Few (x .frames)) (sym (f .gives) ∙ g) (framed-few (x .frames) (x .standing) (l .agree) (l .octets) len)
 
     pub measured-taken : {w : Waveform} {items : ℕ} → w ≡ waveformBy (x .standing) n sequences start len (l .octets) → items ≡ (x .items + 1) % 2 ^ 64
-        → stop (Step.Frame w) (stand d after (x .dates) (x .records) items (x .frames + 1)) ≡ advanceOf s x
+        → stop (Step.Frame w) (stand d after (x .dates) records items (x .frames + 1)) ≡ advanceOf s x
     unfolding framedTurn layoutOf
     measured-taken ew ei =
-        (λ k. stop (Step.Frame (ew k)) (stand d after (x .dates) (x .records) (ei k) (x .frames + 1)))
-        ∙ (λ k. stop (Step.Frame (waveformBy (x .standing) (counted k) sequences start len (f .laid k .octets))) (behind x d after (x .dates) (x .records) (x .frames + 1)))
+        (λ k. stop (Step.Frame (ew k)) (stand d after (x .dates) (f .fresh k) (ei k) (x .frames + 1)))
+        ∙ (λ k. stop (Step.Frame (waveformBy (x .standing) (counted k) sequences start len (f .laid k .octets))) (behind x d after (x .dates) (recordsAt x) (x .frames + 1)))
         ∙ sym
         (advance-stops s x
-        (stop (Step.Frame (waveformBy (x .standing) (length (channelsAt x)) sequences start len (sequenceOctets (channelsAt x)))) (behind x d after (x .dates) (x .records) (x .frames + 1)))
+        (stop (Step.Frame (waveformBy (x .standing) (length (channelsAt x)) sequences start len (sequenceOctets (channelsAt x)))) (behind x d after (x .dates) (recordsAt x) (x .frames + 1)))
         (turns (f .turn) ∙ framed ∙ ap (framedTurn x d (placeAt i) start len) g))
+
+-- The octets below the channels, where their records are brought up to date.
+below-kept : {u v : List ℕ} {n : ℕ} {root : Settings} {d : Dates} {l : Layout} → Refreshed u n root d l v → (k : ℕ) → k < min n (length (recordsIn u)) → belowIn v k ≡ octetsBelow k (heldIn v)
+unfolding octetsBelow
+below-kept {u = u} {v = v} {n = n} {root = root} {d = d} f k h =
+    let cs = settledIn root d (recordsIn u) in
+    let now = held (refreshed n root d (recordsIn u)) in
+    f .below k (omega arith) (omega (arith, records-long u))
+    ∙ ap sequenceOctets
+    (sym (take-take k n cs (omega arith)) ∙ ap (take k) (sym (held-refreshed root d n (recordsIn u))) ∙ take-take k n now (omega arith)
+    ∙ ap (λ (t : List Dated). take k (held t)) (sym (f .records)))
+
+pub below-frame : {u v : List ℕ} {most n channels : ℕ} {root : Settings} {d : Dates} {l : Layout} → Refreshed u most root d l v
+    → n ≡ min most (length (recordsIn u)) → channels ≡ n → (k : ℕ) → k < channels → belowIn v k ≡ octetsBelow k (heldIn v)
+below-frame f e ew k h = below-kept f k (omega (arith, e, ew, h))
 
 -- ---- the answer
 
 pub answered : {s u v : List ℕ} {h : Head} {r : Moved} {j k : Step} {c : Cursor} {st : Standing} {d : Dates} {items frames : ℕ} → r ≡ movedTo j c st d items frames → j ≡ k
-    → stop k (stand c st d (recordsIn v) items frames) ≡ advanceOf s (standOf h u) → length v ≡ length u → Advances s h u r v
-answered e f same long = rw (e, f) (record { same = same; long = long })
+    → stop k (stand c st d (recordsIn v) items frames) ≡ advanceOf s (standOf h u) → length v ≡ length u → BelowKept v k → Advances s h u r v
+answered e f same long below = rw (e, f) (record { same = same; long = long; below = below })

@@ -1,7 +1,7 @@
 -- One walk from frame to frame: where it stands, and where it goes from there. Total: any numbers at all stand for some place.
 use mathlib.Core.Path.{_≡_}
 use mathlib.Core.List.{List}
-use Prim.Native.Nat.{ℕ, zero, suc, _+_, _-_, _%_, _^_, min}
+use Prim.Native.Nat.{ℕ, zero, suc, _+_, _-_, _%_, _^_, _<_, min}
 use lib.ListN.{length, take, getD, set}
 use Rattle.items.specs.declared.Cursor.{Cursor}
 use Rattle.items.specs.declared.Within.the-variants.{Root}
@@ -11,8 +11,8 @@ use Rattle.settings.specs.declared.Settings.{Settings}
 use Rattle.settings.specs.Settings.{channelLimit, applied}
 use Rattle.dated.specs.declared.Dated.{Dated}
 use Rattle.dated.specs.declared.Dates.{Dates}
-use Rattle.dated.specs.Dated.{noted, datedTable, zeroDated, firstDates, rootDefined, allCleared, settledAt, settledIn}
-use Rattle.layout.specs.Frame.{sequenceOctets, allAgree}
+use Rattle.dated.specs.Dated.{noted, datedTable, zeroDated, firstDates, rootDefined, allCleared, settledAt, settledIn, refreshed}
+use Rattle.layout.specs.Frame.{sequenceOctets, octetsBelow, allAgree}
 use Rattle.standing.specs.declared.Standing.{Standing}
 use Rattle.standing.specs.Standing.{firstStanding}
 use Rattle.effects.specs.declared.Effect.{Effect}
@@ -21,7 +21,7 @@ use Rattle.framing.specs.declared.Framed.{Framed}
 use Rattle.framing.specs.Framing.{channelsOf}
 use Rattle.framing.specs.AnyNumbers.{framedBy}
 use Rattle.verdict.specs.Verdict.{placeAt}
-use Rattle.records.specs.Records.{recordsIn}
+use Rattle.records.specs.Records.{recordsIn, heldIn, belowIn}
 use Rattle.walk.specs.declared.Waveform.{Waveform}
 use Rattle.walk.specs.declared.Step.{Step}
 use Rattle.walk.specs.declared.Head.{Head}
@@ -52,6 +52,14 @@ standsFor x = settledIn (x .standing .root) (x .dates) (x .records)
 abbrev pub channelsAt : Stand → List Settings
 channelsAt x = take (min (channelsOf (x .standing .counted)) channelLimit) (standsFor x)
 
+-- The records, with those of its channels brought up to date.
+abbrev pub recordsAt : Stand → List Dated
+recordsAt x = refreshed (min (channelsOf (x .standing .counted)) channelLimit) (x .standing .root) (x .dates) (x .records)
+
+-- The same stand with these records.
+abbrev pub refreshedAt : Stand → Stand
+refreshedAt x = stand (x .cursor) (x .standing) (x .dates) (recordsAt x) (x .items) (x .frames)
+
 -- What a walk comes to, and where it then stands: behind a frame, or before what ends it.
 pub record Stop : Type 0 where
   pub step : Step
@@ -74,13 +82,13 @@ abbrev pub waveformBy : Standing → ℕ → ℕ → ℕ → ℕ → ℕ → Wav
 waveformBy st channels sequences start len octets =
     record { start = st .start; channels = channels; sequences = sequences; little = st .little; place = start; len = len; octets = octets }
 
--- A waveform gives a frame, or is refused.
+-- A waveform gives a frame, or is refused. Either way the records of its channels are brought up to date.
 unfoldable pub framedTurn : Stand → Cursor → ℕ → ℕ → ℕ → Framed → Turn
 framedTurn x c place start len (Framed.Taken sequences st) =
     stops
     (stop (Step.Frame (waveformBy (x .standing) (length (channelsAt x)) sequences start len (sequenceOctets (channelsAt x))))
-    (behind x c st (x .dates) (x .records) (x .frames + 1)))
-framedTurn x c place start len (Framed.Refused number) = stops (stop (Step.Refused (refusal number place)) x)
+    (behind x c st (x .dates) (recordsAt x) (x .frames + 1)))
+framedTurn x c place start len (Framed.Refused number) = stops (stop (Step.Refused (refusal number place)) (refreshedAt x))
 
 -- An item that gives no frame: what stands after it, the times, and the records.
 abbrev pub goesOn : Stand → Cursor → Effect → Dates → List Dated → Turn
@@ -138,7 +146,14 @@ movedTo k c st d items frames = record { step = k; head = record { cursor = c; s
 abbrev pub firstHead : Head
 firstHead = record { cursor = cursor 0 Root; standing = firstStanding; dates = firstDates; items = 0; frames = 0 }
 
+-- With the records of a frame's channels, words keep the octets of a sequence below each.
+abbrev pub BelowKept : List ℕ → Step → Type 0
+BelowKept u (Step.Frame v) = (k : ℕ) → k < v .channels → belowIn u k ≡ octetsBelow k (heldIn u)
+BelowKept u Step.Ended = Unit {0}
+BelowKept u (Step.Refused r) = Unit {0}
+
 -- What an advance answers, and how it leaves the words.
 pub record Advances (s : List ℕ) (h : Head) (u : List ℕ) (r : Moved) (v : List ℕ) : Type 0 where
   pub same : stop (r .step) (standOf (r .head) v) ≡ advanceOf s (standOf h u)
   pub long : length v ≡ length u
+  pub below : BelowKept v (r .step)

@@ -2,14 +2,15 @@
 use mathlib.Core.List.{List, [], _∷_, _++_}
 use Prim.Native.Nat.{ℕ, zero, suc, _-_}
 use lib.ListN.{length, take}
+use Rattle.dated.specs.Dated.{held}
 use Rattle.layout.specs.Frame.{Frame}
 use Rattle.effects.specs.Effects.{valueAt}
 use Rattle.verdict.specs.Verdict.{Verdict, accepted, refused}
 use Rattle.walk.specs.declared.Waveform.{Waveform}
 use Rattle.walk.specs.declared.Step.{Step}
-use Rattle.walk.specs.Advance.{Stand, standsFor, Stop, advanceOf}
+use Rattle.walk.specs.Advance.{Stand, Stop, advanceOf}
 
--- The frame that a walk has stopped behind.
+-- The frame that a walk has stopped behind: the records of its channels are up to date.
 abbrev pub frameBy : List ℕ → Waveform → Stand → Frame
 frameBy s v x =
     record {
@@ -17,7 +18,7 @@ frameBy s v x =
       place = v .place;
       little = v .little;
       sequences = v .sequences;
-      channels = take (v .channels) (standsFor x);
+      channels = take (v .channels) (held (x .records));
       waveform = valueAt s (v .place) (v .len);
     }
 

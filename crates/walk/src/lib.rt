@@ -1,7 +1,8 @@
 // One walk over a file, from frame to frame.
 //
 // Promises, for any octets, any head and any words: `advance` goes from where a walk stands to the next frame, the end or the refusal, and answers
-// where it stands then; the channels' records are in words that the caller lends. After the end or a refusal it answers the same again.
+// where it stands then; the channels' records are in words that the caller lends, and at a frame those of its channels are up to date, with the octets
+// of a sequence below each. After the end or a refusal it answers the same again.
 // `Head::first`, with records that are all of the time before the first item, stands before a file's first item; the frames that the walk stops at
 // from there on are the verdict's (proofs/Joins.antt).
 // Read first: specs/Advance.antt, then specs/Joined.antt.
@@ -165,7 +166,7 @@ pub fn advance(s: &[u8], h: Head, t: &mut [u64]) -> Moved
                     Effect::Frame { start, len } => {
                         let count = framing::channels_of(st.counted) as usize;
                         let n = records::at_most(t, count);
-                        let l = records::layout_in(t, count, st.root, dates);
+                        let l = records::refresh(t, count, st.root, dates);
                         match framing::frame_of(frames, st, l.agree, l.octets, len) {
                             Framed::Refused(number) => {
                                 return come_to(

@@ -1,5 +1,5 @@
 -- Each turn is a law of the walk: what is left from where it stands gives the answer.
-use mathlib.Core.Path.{_≡_, refl, sym, _∙_}
+use mathlib.Core.Path.{_≡_, refl, sym, ap, _∙_}
 use mathlib.Core.List.{List}
 use Prim.Native.Nat.{ℕ, _-_}
 use native.Mathlib.Omega.{arith}
@@ -9,8 +9,9 @@ use Rattle.items.specs.declared.Item.{Item}
 use Rattle.items.proofs.Walks.{found-as}
 use Rattle.records.specs.Records.{recordsIn}
 use Rattle.records.proofs.Channels.{channels-few}
+use Rattle.walk.specs.declared.Waveform.{Waveform}
 use Rattle.walk.specs.Advance.{Stand, stand, advanceOf}
-use Rattle.walk.proofs.Turns.{advance-end, advance-fault, Turning, turning-later, turning-stands, turning-count, turning-all, turning-one, turning-refused, Measured, turning-measured, measured-refused, measured-last, measured-taken, answered}
+use Rattle.walk.proofs.Turns.{advance-end, advance-fault, Turning, turning-later, turning-stands, turning-count, turning-all, turning-one, turning-refused, Measured, turning-measured, measured-refused, measured-last, measured-taken, below-frame, answered}
 use Rattle.walk.proofs.advance.Statement.{statement}
 use Rattle.walk.proofs.advance.Tie as tie
 
@@ -55,8 +56,18 @@ turn c =
 abbrev Given : Type 0
 Given = tie.After-frame-of Inv-loop μ-loop
 
+abbrev at-refresh : Given → tie.After-refresh Inv-loop μ-loop
+at-refresh c = c .before .before .before
+
+-- The words, with the records of the waveform's channels brought up to date.
+abbrev words-of : Given → List ℕ
+words-of c = at-refresh c .refresh .last .0
+
+abbrev at-count : Given → tie.After-at-most Inv-loop μ-loop
+at-count c = at-refresh c .before .before
+
 abbrev at-frame : Given → tie.After-effect3 Inv-loop μ-loop
-at-frame c = c .before .before .before .before .before .before .before
+at-frame c = at-count c .before .before .before .before
 
 abbrev known : Given → Known
 known c = at-frame c .before .before
@@ -64,10 +75,12 @@ known c = at-frame c .before .before
 framing : (c : Given)
     → let k = known c in
     let waveform = at-frame c .effect3 .given .0 in
-    Measured (file-of (at-loop k)) (here (at-loop k)) (item-of k) (k .before .before .renewed .result) (waveform .0) (waveform .1 .0) (c .before .before .before .at-most .result) (c .before .layout-in .result) (c .frame-of .result)
+    Measured (file-of (at-loop k)) (here (at-loop k)) (item-of k) (k .before .before .renewed .result) (waveform .0) (waveform .1 .0) (at-count c .at-most .result) (at-refresh c .refresh .result) (recordsIn (words-of c)) (c .frame-of .result)
 framing c =
-    let at-count = c .before .before .before in
-    turning-measured (turn (known c)) (at-frame c .effect3 .given .1) (at-count .before .before .channels-of .ensures) (at-count .at-most .ensures) (c .before .layout-in .ensures) (c .frame-of .ensures)
+    turning-measured (turn (known c)) (at-frame c .effect3 .given .1) (at-count c .before .before .channels-of .ensures) (at-count c .at-most .ensures) refl (at-refresh c .refresh .ensures) (c .frame-of .ensures)
+
+long-of : (c : Given) → length (words-of c) ≡ length (at-loop (known c) .before .before .before .before .before .before .args .t .now)
+long-of c = at-refresh c .refresh .ensures .long ∙ at-loop (known c) .loop .inv .1
 
 -- ---- the needs
 
@@ -93,7 +106,7 @@ returns c =
     let at-before = c .before .before in
     let at-next = c .before .before .before in
     let l = at-next .before in
-    answered (c .come-to .ensures) refl (advance-end (file-of l) (here l) (at-next .next-item .ensures) (c .before .enum-told .given .1) ∙ l .loop .inv .0) (l .loop .inv .1)
+    answered (c .come-to .ensures) refl (advance-end (file-of l) (here l) (at-next .next-item .ensures) (c .before .enum-told .given .1) ∙ l .loop .inv .0) (l .loop .inv .1) tt
 
 enum-known-x : tie.Need-enum-known-x Inv-loop μ-loop
 enum-known-x c = search needs
@@ -111,7 +124,7 @@ returns-2 c =
     let at-fault = c .before .before in
     let at-next = at-fault .before .before in
     let l = at-next .before in
-    answered (c .come-to2 .ensures) refl (advance-fault (file-of l) (here l) _ (at-next .next-item .ensures) (at-fault .x .given .1) ∙ l .loop .inv .0) (l .loop .inv .1)
+    answered (c .come-to2 .ensures) refl (advance-fault (file-of l) (here l) _ (at-next .next-item .ensures) (at-fault .x .given .1) ∙ l .loop .inv .0) (l .loop .inv .1) tt
 
 enum-known-item : tie.Need-enum-known-item Inv-loop μ-loop
 enum-known-item c = search needs
@@ -216,8 +229,8 @@ cast-count c = search needs
 at-most-requires : tie.Need-at-most-requires Inv-loop μ-loop
 at-most-requires c κs = search needs
 
-layout-in-requires : tie.Need-layout-in-requires Inv-loop μ-loop
-layout-in-requires c κs = search needs
+refresh-requires : tie.Need-refresh-requires Inv-loop μ-loop
+refresh-requires c κs = search needs
 
 frame-of-requires : tie.Need-frame-of-requires Inv-loop μ-loop
 frame-of-requires c κs = search needs
@@ -233,8 +246,7 @@ come-to-requires-3 c κs = search needs
 
 same-length-3 : tie.Need-same-length-3 Inv-loop μ-loop
 same-length-3 c =
-    let at-before = c .before .before .before .before in
-    at-loop (known (c .before .before .before .before .before)) .loop .inv .1
+    long-of (c .before .before .before .before .before)
 
 returns-3 : tie.Need-returns-3 Inv-loop μ-loop
 returns-3 c =
@@ -242,15 +254,14 @@ returns-3 c =
     let at-number = c .before .before .before in
     let given = at-number .before .before in
     let inv = at-loop (known given) .loop .inv in
-    answered (c .come-to3 .ensures) (c .before .refused-at .ensures) (measured-refused (framing given) (at-number .number .given .1) ∙ inv .0) (inv .1)
+    answered (c .come-to3 .ensures) (c .before .refused-at .ensures) (measured-refused (framing given) (at-number .number .given .1) ∙ inv .0) (long-of given) tt
 
 enum-known-sequences : tie.Need-enum-known-sequences Inv-loop μ-loop
 enum-known-sequences c = search needs
 
 taken-requires : tie.Need-taken-requires Inv-loop μ-loop
 taken-requires c κs =
-    let at-at-most = c .before .before .before .before .before .before in
-    channels-few _ _ (at-at-most .at-most .ensures) .0
+    channels-few _ _ (at-count (c .before .before .before) .at-most .ensures) .0
 
 add-come-to : tie.Need-add-come-to Inv-loop μ-loop
 add-come-to c =
@@ -262,8 +273,7 @@ come-to-requires-4 c κs = search needs
 
 same-length-4 : tie.Need-same-length-4 Inv-loop μ-loop
 same-length-4 c =
-    let at-before = c .before .before .before .before in
-    at-loop (known (c .before .before .before .before .before)) .loop .inv .1
+    long-of (c .before .before .before .before .before)
 
 returns-4 : tie.Need-returns-4 Inv-loop μ-loop
 returns-4 c =
@@ -271,7 +281,8 @@ returns-4 c =
     let at-taken = c .before .before .before in
     let given = at-taken .before .before in
     let inv = at-loop (known given) .loop .inv in
-    answered (c .come-to4 .ensures) refl (measured-taken (framing given) (at-taken .sequences .given .1) (c .before .taken .ensures) (known given .before .wrapping-add-u64 .ensures) ∙ inv .0) (inv .1)
+    answered (c .come-to4 .ensures) refl (measured-taken (framing given) (at-taken .sequences .given .1) (c .before .taken .ensures) (known given .before .wrapping-add-u64 .ensures) ∙ inv .0) (long-of given)
+    (below-frame (at-refresh given .refresh .ensures) (at-count given .at-most .ensures) (ap (λ (w : Waveform). w .channels) (c .before .taken .ensures)))
 
 enum-known-effect-4 : tie.Need-enum-known-effect-4 Inv-loop μ-loop
 enum-known-effect-4 c = search needs
@@ -293,7 +304,7 @@ returns-5 c =
     let at-refused = c .before .before .before in
     let k = at-refused .before .before in
     let inv = at-loop k .loop .inv in
-    answered (c .come-to5 .ensures) (c .before .refused-at2 .ensures) (turning-refused (turn k) (at-refused .effect4 .given .1) ∙ inv .0) (inv .1)
+    answered (c .come-to5 .ensures) (c .before .refused-at2 .ensures) (turning-refused (turn k) (at-refused .effect4 .given .1) ∙ inv .0) (inv .1) tt
 
 standing-after-requires-3 : tie.Need-standing-after-requires-3 Inv-loop μ-loop
 standing-after-requires-3 c κs = search needs
@@ -349,7 +360,7 @@ advance-spec =
     channels-of-requires
     cast-count
     at-most-requires
-    layout-in-requires
+    refresh-requires
     frame-of-requires
     enum-known-number
     refused-at-requires
