@@ -46,7 +46,8 @@ use Rattle.pass.specs.declared.Scan.{Scan}
 use Rattle.verdict.proofs.Keeps.{Keeps, frames-kept, reached-verdict}
 use Rattle.verdict.proofs.Steps.{meaning-steps, step-grown}
 use Rattle.framing.proofs.Framings.{pointer-small}
-use Rattle.dated.proofs.Tables.{table-long}
+use Rattle.dated.specs.Dated.{held}
+use Rattle.dated.proofs.Refreshed.{held-long}
 use Rattle.layout.proofs.Laws.{take-few}
 use Rattle.walk.specs.declared.Waveform.{Waveform}
 use Rattle.walk.specs.declared.Step.{Step}
@@ -254,12 +255,12 @@ module _ {s d : List ℕ} {x : Stand} {at : ℕ} {e : List ℕ} (p : Writing s d
 
     -- The frame written.
     pub writing-frame : {w : List ℕ} {at' : ℕ} {e' : List ℕ} → Octets s → w ≡ valueAt s (v .place) (v .len)
-        → Putting e at (frameGiven (narrowed (v .start)) (v .little) (v .sequences) (take (min (v .channels) channelLimit) (standsFor y)) w) at' e' → Writing s d y at' e'
+        → Putting e at (frameGiven (narrowed (v .start)) (v .little) (v .sequences) (take (min (v .channels) channelLimit) (held (y .records))) w) at' e' → Writing s d y at' e'
     writing-frame {w} {at'} {e'} o ew q =
-        let full = table-long (y .standing .root) (y .dates) (y .records) ∙ after .full in
-        let q' = subst (λ (cs : List Settings). Putting e at (frameGiven (narrowed (v .start)) (v .little) (v .sequences) cs w) at' e') (take-few (v .channels) (standsFor y) full) q in
+        let full = held-long (y .records) ∙ after .full in
+        let q' = subst (λ (cs : List Settings). Putting e at (frameGiven (narrowed (v .start)) (v .little) (v .sequences) cs w) at' e') (take-few (v .channels) (held (y .records)) full) q in
         let l : length w ≡ length (frame-there .waveform) = ap length ew in
-        let held : samplesOctets channels (v .sequences) ≤ length w = omega (arith, lies .fits) in
+        let inside : samplesOctets channels (v .sequences) ≤ length w = omega (arith, lies .fits) in
         let few : samplesOctets channels (v .sequences) ≤ octetsLimit = omega (arith, lies .fits, lies .inside, after .long) in
         let parts : frameParts (narrowed (v .start)) (v .sequences) channels (samplesTurned (v .little) channels (v .sequences) w) ≡ frameOctets (recordedFrame frame-there) =
         (λ i. frameParts (narrow-is (v .start) start-small i) (v .sequences) channels (samplesTurned (v .little) channels (v .sequences) (ew i)))
@@ -271,7 +272,7 @@ module _ {s d : List ℕ} {x : Stand} {at : ℕ} {e : List ℕ} (p : Writing s d
           room = p .room;
           met = p .met ++ (frame-there ∷ []);
           reaches = after;
-          put = put-as (so-far-more (p .met) frame-there) (put-then (p .put) (put-as parts (frame-put (narrowed (v .start)) (v .little) (v .sequences) channels w held few frame-room q')));
+          put = put-as (so-far-more (p .met) frame-there) (put-then (p .put) (put-as parts (frame-put (narrowed (v .start)) (v .little) (v .sequences) channels w inside few frame-room q')));
         }
 
 -- ---- what the writer answers

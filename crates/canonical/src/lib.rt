@@ -50,16 +50,12 @@ fn write_frames(s: &[u8], out: &mut [u8]) -> usize
         match step {
             Step::Frame(v) => {
                 let w = octets::part(s, v.place, v.len);
-                let root = h.standing.root;
-                let dates = h.dates;
                 at = frames::put_frame(
                     w,
                     v.start as i32,
                     v.little,
                     v.sequences,
                     &t,
-                    root,
-                    dates,
                     v.channels as usize,
                     out,
                     at,

@@ -23,10 +23,9 @@ use Rattle.runs.proofs.Turned.{run-turned, length-turned}
 use Rattle.values.specs.Sample.{widthOf}
 use Rattle.settings.specs.declared.Settings.{Settings}
 use Rattle.settings.specs.Settings.{zeroSettings}
-use Rattle.dated.specs.declared.Dates.{Dates}
-use Rattle.dated.specs.Dated.{zeroDated, settledAt}
-use Rattle.dated.proofs.Tables.{table-long, table-at}
-use Rattle.records.specs.Records.{recordsIn, channelsIn}
+use Rattle.dated.specs.Dated.{zeroDated}
+use Rattle.dated.proofs.Refreshed.{held-long, held-at}
+use Rattle.records.specs.Records.{recordsIn, heldIn}
 use Rattle.frames.specs.Parts.{Few}
 use Rattle.layout.specs.Frame.{widthIn, blockOctets, sequenceOctets, reported, samplesOctets}
 use Rattle.laid.specs.Turned.{turnedSequence, turnedAll}
@@ -76,15 +75,15 @@ pub record Nth (cs : List Settings) (i : ℕ) (c : Settings) : Type 0 where
   pub inside : i < length cs
   pub is : c ≡ getD cs i zeroSettings
 
-module _ (root : Settings) (d : Dates) (u : List ℕ) {count : ℕ} (f : Few count u) where
-  pub taken-long : length (take count (channelsIn root d u)) ≡ count
-  taken-long = length-take-le count (channelsIn root d u) (rw table-long (f .there))
+module _ (u : List ℕ) {count : ℕ} (f : Few count u) where
+  pub taken-long : length (take count (heldIn u)) ≡ count
+  taken-long = length-take-le count (heldIn u) (rw held-long (f .there))
 
-  pub nth : {i : ℕ} {c : Settings} → i < count → c ≡ settledAt root d (getD (recordsIn u) i zeroDated) → Nth (take count (channelsIn root d u)) i c
+  pub nth : {i : ℕ} {c : Settings} → i < count → c ≡ getD (recordsIn u) i zeroDated .settings → Nth (take count (heldIn u)) i c
   nth {i = i} h e =
       record {
         inside = omega (arith, taken-long);
-        is = e ∙ sym (table-at root d i (recordsIn u) zeroDated zeroSettings (omega (arith, f .there))) ∙ sym (getD-take count (channelsIn root d u) i zeroSettings h);
+        is = e ∙ sym (held-at i (recordsIn u) zeroDated zeroSettings (omega (arith, f .there))) ∙ sym (getD-take count (heldIn u) i zeroSettings h);
       }
 
 -- ---- groups

@@ -28,9 +28,8 @@ use Rattle.layout.specs.Size.{groupsSize, frameSize}
 use Rattle.layout.specs.declared.Layout.{Layout}
 use Rattle.layout.specs.Measure.{layoutOf}
 use Rattle.layout.proofs.Laws.{groups-few}
-use Rattle.dated.specs.declared.Dates.{Dates}
-use Rattle.dated.proofs.Tables.{table-long}
-use Rattle.records.specs.Records.{recordsIn, channelsIn}
+use Rattle.dated.proofs.Refreshed.{held-long}
+use Rattle.records.specs.Records.{recordsIn, heldIn}
 use Rattle.records.proofs.Channels.{channels-few, take-there}
 use Rattle.groups.proofs.Sizes.{head-long, groups-long}
 use Rattle.frames.specs.Parts.{Few, samplesTurned, frameParts, frameGiven}
@@ -84,9 +83,9 @@ held-by sequences octets most n = by (leb sequences (most / octets)) refl
 -- ---- the first channels
 
 -- The first k channels are those of `count` that have records, and l is their layout.
-pub record FirstRecords (root : Settings) (d : Dates) (u : List ℕ) (count k : ℕ) (l : Layout) : Type 0 where
+pub record FirstRecords (u : List ℕ) (count k : ℕ) (l : Layout) : Type 0 where
   pub few : k ≡ min (min count channelLimit) (length (recordsIn u))
-  pub layout : l ≡ layoutOf 0 (take (min count channelLimit) (channelsIn root d u))
+  pub layout : l ≡ layoutOf 0 (take (min count channelLimit) (heldIn u))
 
 -- The test of a waveform of some sequences.
 abbrev pub SequencesHeld : ℕ → Layout → List ℕ → Bool → Type 0
@@ -98,9 +97,9 @@ Asked table u k sequences octets x at long =
     (Few k u × (octets ≡ samplesOctets (take k table) sequences))
     × ((octets ≤ length x) × (octets ≤ octetsLimit) × (at + frameSize sequences (groupsSize 0 (take k table)) octets ≤ long))
 
-module _ {root : Settings} {d : Dates} {u : List ℕ} {count k : ℕ} {l : Layout} (t : FirstRecords root d u count k l) where
+module _ {u : List ℕ} {count k : ℕ} {l : Layout} (t : FirstRecords u count k l) where
   abbrev table : List Settings
-  table = channelsIn root d u
+  table = heldIn u
 
   abbrev shown : List Settings
   shown = take (min count channelLimit) table
@@ -110,7 +109,7 @@ module _ {root : Settings} {d : Dates} {u : List ℕ} {count k : ℕ} {l : Layou
 
   first-same : take k table ≡ shown
   first-same =
-      ap (λ (n : ℕ). take n table) (t .few ∙ ap (min (min count channelLimit)) (sym (table-long root d (recordsIn u))))
+      ap (λ (n : ℕ). take n table) (t .few ∙ ap (min (min count channelLimit)) (sym (held-long (recordsIn u))))
       ∙ take-there (min count channelLimit) table
 
   octets-are : l .octets ≡ sequenceOctets (take k table)
@@ -122,7 +121,7 @@ module _ {root : Settings} {d : Dates} {u : List ℕ} {count k : ℕ} {l : Layou
   groups-are = ap (λ (m : Layout). m .groups) (t .layout) ∙ ap (groupsSize 0) (sym first-same)
 
   pub told-groups : l .groups ≤ channelLimit * 64
-  told-groups = omega (arith, groups-are, groups-few 0 (take k table), taken-long root d u few-there, few-there .most)
+  told-groups = omega (arith, groups-are, groups-few 0 (take k table), taken-long u few-there, few-there .most)
 
   module _ (sequences : ℕ) (x : List ℕ) where
     held-first : {b : Bool} → SequencesHeld sequences l x b → leb (samplesOctets shown sequences) (min (length x) octetsLimit) ≡ b

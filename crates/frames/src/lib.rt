@@ -16,28 +16,19 @@ ghost use Rattle.laid.specs.Turned.{Even, turnedAll};
 ghost use Rattle.groups.specs.Group.{groupsOctets};
 ghost use Rattle.frames.specs.Parts.{Few, samplesTurned, frameParts, frameGiven};
 ghost use Rattle.settings.specs.Settings.{channelLimit};
-ghost use Rattle.records.specs.Records.{channelsIn};
+ghost use Rattle.records.specs.Records.{heldIn};
 ghost use Rattle.standing.specs.Standing.{octetsLimit};
-use dated::Dates;
-use settings::Settings;
 use standing::Standing;
 
 // The groups of the first `count` channels.
-fn put_groups(
-    out: &mut [u8],
-    at: usize,
-    t: &[u64],
-    root: Settings,
-    dates: Dates,
-    count: usize,
-) -> usize
-    requires { ⌜ Few count (now t) × (at + groupsSize 0 (take count (channelsIn root dates (now t))) ≤ length (now out)) ⌝ }
-    ensures { λ r. ⌜ Put (now (out .entry)) at (groupsOctets 0 (map reported (take count (channelsIn root dates (now (t .entry)))))) r (now (out .exit)) ⌝ }
+fn put_groups(out: &mut [u8], at: usize, t: &[u64], count: usize) -> usize
+    requires { ⌜ Few count (now t) × (at + groupsSize 0 (take count (heldIn (now t))) ≤ length (now out)) ⌝ }
+    ensures { λ r. ⌜ Put (now (out .entry)) at (groupsOctets 0 (map reported (take count (heldIn (now (t .entry)))))) r (now (out .exit)) ⌝ }
 {
     let mut i = 0usize;
     let mut next = at;
     while i < count {
-        let c = records::settled(t, i, root, dates);
+        let c = records::held(t, i);
         next = groups::put_group(out, next, i as u8, c);
         i += 1;
     }
@@ -45,15 +36,15 @@ fn put_groups(
 }
 
 // The width of all channels where it is one, else 0.
-fn even_width(t: &[u64], root: Settings, dates: Dates, count: usize) -> usize
+fn even_width(t: &[u64], count: usize) -> usize
     requires { ⌜ Few count (now t) ⌝ }
-    ensures { λ r. ⌜ (0 < r → Even r (take count (channelsIn root dates (now (t .entry))))) ⌝ }
+    ensures { λ r. ⌜ (0 < r → Even r (take count (heldIn (now (t .entry))))) ⌝ }
 {
-    let first = records::settled(t, 0, root, dates);
+    let first = records::held(t, 0);
     let v = values::width(first.datatype);
     let mut i = 0usize;
     while i < count {
-        let c = records::settled(t, i, root, dates);
+        let c = records::held(t, i);
         if values::width(c.datatype) != v {
             return 0;
         }
@@ -63,19 +54,10 @@ fn even_width(t: &[u64], root: Settings, dates: Dates, count: usize) -> usize
 }
 
 // The samples of all sequences of a waveform, each turned round, block by block.
-fn put_blocks(
-    w: &[u8],
-    sequences: u32,
-    t: &[u64],
-    root: Settings,
-    dates: Dates,
-    count: usize,
-    out: &mut [u8],
-    at: usize,
-) -> usize
-    requires { ⌜ Few count (now t) × (samplesOctets (take count (channelsIn root dates (now t))) sequences ≤ length (now w)) ⌝ }
-    requires { ⌜ at + samplesOctets (take count (channelsIn root dates (now t))) sequences ≤ length (now out) ⌝ }
-    ensures { λ r. ⌜ Put (now (out .entry)) at (turnedAll (take count (channelsIn root dates (now (t .entry)))) sequences (now (w .entry))) r (now (out .exit)) ⌝ }
+fn put_blocks(w: &[u8], sequences: u32, t: &[u64], count: usize, out: &mut [u8], at: usize) -> usize
+    requires { ⌜ Few count (now t) × (samplesOctets (take count (heldIn (now t))) sequences ≤ length (now w)) ⌝ }
+    requires { ⌜ at + samplesOctets (take count (heldIn (now t))) sequences ≤ length (now out) ⌝ }
+    ensures { λ r. ⌜ Put (now (out .entry)) at (turnedAll (take count (heldIn (now (t .entry)))) sequences (now (w .entry))) r (now (out .exit)) ⌝ }
 {
     let mut q = 0u32;
     let mut place = 0usize;
@@ -83,7 +65,7 @@ fn put_blocks(
     while q < sequences {
         let mut i = 0usize;
         while i < count {
-            let c = records::settled(t, i, root, dates);
+            let c = records::held(t, i);
             let v = values::width(c.datatype);
             next = runs::turn(w, place, c.block as usize, v, out, next);
             place = place + c.block as usize * v;
@@ -102,25 +84,23 @@ fn put_samples(
     sequences: u32,
     octets: usize,
     t: &[u64],
-    root: Settings,
-    dates: Dates,
     count: usize,
     out: &mut [u8],
     at: usize,
 ) -> usize
-    requires { ⌜ Few count (now t) × (octets ≡ samplesOctets (take count (channelsIn root dates (now t))) sequences) ⌝ }
+    requires { ⌜ Few count (now t) × (octets ≡ samplesOctets (take count (heldIn (now t))) sequences) ⌝ }
     requires { ⌜ (octets ≤ length (now w)) × (at + octets ≤ length (now out)) ⌝ }
-    ensures { λ r. ⌜ Put (now (out .entry)) at (samplesTurned «little» (take count (channelsIn root dates (now (t .entry)))) sequences (now (w .entry))) r (now (out .exit)) ⌝ }
+    ensures { λ r. ⌜ Put (now (out .entry)) at (samplesTurned «little» (take count (heldIn (now (t .entry)))) sequences (now (w .entry))) r (now (out .exit)) ⌝ }
 {
-    let v = even_width(t, root, dates, count);
     if !little {
         return runs::copy(w, 0, octets, out, at);
     }
+    let v = even_width(t, count);
     if v == 1 {
         return runs::copy(w, 0, octets, out, at);
     }
     if v == 0 {
-        return put_blocks(w, sequences, t, root, dates, count, out, at);
+        return put_blocks(w, sequences, t, count, out, at);
     }
     runs::turn(w, 0, octets / v, v, out, at)
 }
@@ -133,21 +113,19 @@ fn store_frame(
     sequences: u32,
     octets: usize,
     t: &[u64],
-    root: Settings,
-    dates: Dates,
     count: usize,
     out: &mut [u8],
     at: usize,
 ) -> usize
-    requires { ⌜ Few count (now t) × (octets ≡ samplesOctets (take count (channelsIn root dates (now t))) sequences) ⌝ }
-    requires { ⌜ (octets ≤ length (now w)) × (octets ≤ octetsLimit) × (at + frameSize sequences (groupsSize 0 (take count (channelsIn root dates (now t)))) octets ≤ length (now out)) ⌝ }
-    ensures { λ r. ⌜ Put (now (out .entry)) at (frameParts start sequences (take count (channelsIn root dates (now (t .entry)))) (samplesTurned «little» (take count (channelsIn root dates (now (t .entry)))) sequences (now (w .entry)))) r (now (out .exit)) ⌝ }
+    requires { ⌜ Few count (now t) × (octets ≡ samplesOctets (take count (heldIn (now t))) sequences) ⌝ }
+    requires { ⌜ (octets ≤ length (now w)) × (octets ≤ octetsLimit) × (at + frameSize sequences (groupsSize 0 (take count (heldIn (now t)))) octets ≤ length (now out)) ⌝ }
+    ensures { λ r. ⌜ Put (now (out .entry)) at (frameParts start sequences (take count (heldIn (now (t .entry)))) (samplesTurned «little» (take count (heldIn (now (t .entry)))) sequences (now (w .entry)))) r (now (out .exit)) ⌝ }
 {
     let a = groups::put_head(out, at, count as u32, sequences, start);
-    let b = put_groups(out, a, t, root, dates, count);
+    let b = put_groups(out, a, t, count);
     let c = stores::put_octet(out, b, 0x1E);
     let d = stores::put_length(out, c, octets as u32);
-    put_samples(w, little, sequences, octets, t, root, dates, count, out, d)
+    put_samples(w, little, sequences, octets, t, count, out, d)
 }
 
 // No more octets than a file may have.
@@ -171,23 +149,21 @@ fn holds(long: usize, sequences: u32, octets: u64) -> bool
     sequences as u64 <= most(long) / octets
 }
 
-// Stores the frame of a waveform, whose channels are the first `count` of those whose records words hold.
+// Stores the frame of a waveform, whose channels' settings are what the first `count` records that words hold say.
 pub fn put_frame(
     w: &[u8],
     start: i32,
     little: bool,
     sequences: u32,
     t: &[u64],
-    root: Settings,
-    dates: Dates,
     count: usize,
     out: &mut [u8],
     at: usize,
 ) -> usize
-    ensures { λ r. ⌜ Putting (now (out .entry)) at (frameGiven start «little» sequences (take (min count channelLimit) (channelsIn root dates (now (t .entry)))) (now (w .entry))) r (now (out .exit)) ⌝ }
+    ensures { λ r. ⌜ Putting (now (out .entry)) at (frameGiven start «little» sequences (take (min count channelLimit) (heldIn (now (t .entry)))) (now (w .entry))) r (now (out .exit)) ⌝ }
 {
     let k = records::at_most(t, count);
-    let l = records::layout_in(t, count, root, dates);
+    let l = records::layout_in(t, count);
     if !holds(w.len(), sequences, l.octets) {
         return at;
     }
@@ -196,17 +172,5 @@ pub fn put_frame(
     if stores::overruns(out.len(), at, size as usize) {
         return at;
     }
-    store_frame(
-        w,
-        start,
-        little,
-        sequences,
-        octets as usize,
-        t,
-        root,
-        dates,
-        k,
-        out,
-        at,
-    )
+    store_frame(w, start, little, sequences, octets as usize, t, k, out, at)
 }

@@ -65,7 +65,7 @@ part-requires c κs = search needs
 
 cast-put-frame : tie.Need-cast-put-frame Inv-loop μ-loop
 cast-put-frame c =
-    let at-step = c .before .before .before .before .before .before in
+    let at-step = c .before .before .before .before in
     let at-advance = at-step .before .before .before .before in
     let at-loop = at-advance .before .before in
     frame-start (at-loop .loop .inv .0) (at-step .step .given .1) (at-advance .advance .ensures .same)
@@ -81,7 +81,7 @@ put-frame-requires c κs = search needs
 
 loop-less : tie.Need-loop-less Inv-loop μ-loop
 loop-less c =
-    let at-step = c .before .before .before .before .before .before .before .before .before .before .before .before in
+    let at-step = c .before .before .before .before .before .before .before .before .before .before in
     let at-advance = at-step .before .before .before .before in
     let at-loop = at-advance .before .before in
     omega (arith, writing-later (at-loop .loop .inv .0) (at-step .step .given .1) (at-advance .advance .ensures .same))
@@ -89,7 +89,7 @@ loop-less c =
 loop-again : tie.Need-loop-again Inv-loop μ-loop
 loop-again c =
     let at-put-frame = c .before .before in
-    let at-part = at-put-frame .before .before .before .before .before .before .before .before in
+    let at-part = at-put-frame .before .before .before .before .before .before in
     let at-step = at-part .before .before in
     let at-advance = at-step .before .before .before .before in
     let at-loop = at-advance .before .before in

@@ -6,9 +6,8 @@ use Prim.Native.Nat.{ℕ, _-_, _≤_, _<_}
 use native.Mathlib.Omega.{arith}
 use lib.ListN.{take, getD}
 use Rattle.settings.specs.declared.Settings.{Settings}
-use Rattle.dated.specs.declared.Dates.{Dates}
-use Rattle.dated.specs.Dated.{zeroDated, settledAt}
-use Rattle.records.specs.Records.{recordsIn, channelsIn}
+use Rattle.dated.specs.Dated.{zeroDated}
+use Rattle.records.specs.Records.{recordsIn, heldIn}
 use Rattle.frames.specs.Parts.{Few}
 use Rattle.values.specs.Sample.{widthOf}
 use Rattle.laid.specs.Turned.{Even}
@@ -18,13 +17,13 @@ use Rattle.frames.proofs.even_width.Statement.{statement}
 use Rattle.frames.proofs.even_width.Tie as tie
 
 abbrev Inv-loop : tie.InvT-loop
-Inv-loop t root dates count v i₀ i = (i ≤ count) × Few count t × ((k : ℕ) → k < i → widthOf (settledAt root dates (getD (recordsIn t) k zeroDated) .datatype) ≡ v)
+Inv-loop t count v i₀ i = (i ≤ count) × Few count t × ((k : ℕ) → k < i → widthOf (getD (recordsIn t) k zeroDated .settings .datatype) ≡ v)
 
 abbrev μ-loop : tie.MeasureT-loop
-μ-loop t root dates count v i₀ i = count - i
+μ-loop t count v i₀ i = count - i
 
-settled-requires : tie.Need-settled-requires Inv-loop μ-loop
-settled-requires c κs = search needs
+held-requires : tie.Need-held-requires Inv-loop μ-loop
+held-requires c κs = search needs
 
 width-requires : tie.Need-width-requires Inv-loop μ-loop
 width-requires c κs = search needs
@@ -34,8 +33,8 @@ loop-holds c =
     let at-start = c .before .before .before in
     (omega arith, at-start .pre, below-none _)
 
-settled-requires-2 : tie.Need-settled-requires-2 Inv-loop μ-loop
-settled-requires-2 c κs = search needs
+held-requires-2 : tie.Need-held-requires-2 Inv-loop μ-loop
+held-requires-2 c κs = search needs
 
 width-requires-2 : tie.Need-width-requires-2 Inv-loop μ-loop
 width-requires-2 c κs = search needs
@@ -54,23 +53,23 @@ loop-less c = omega arith
 
 loop-again : tie.Need-loop-again Inv-loop μ-loop
 loop-again c =
-    let at-settled2 = c .before .before in
-    let at-loop-test = at-settled2 .before in
+    let at-held2 = c .before .before in
+    let at-loop-test = at-held2 .before in
     let at-loop = at-loop-test .before in
     let inv = at-loop .loop .inv in
-    (omega (arith, at-loop-test .loop-test .taken), inv .1, below-more _ _ (inv .2) (ap (λ (y : Settings). widthOf (y .datatype)) (sym (at-settled2 .settled2 .ensures)) ∙ sym (c .before .width2 .ensures) ∙ c .if1 .left))
+    (omega (arith, at-loop-test .loop-test .taken), inv .1, below-more _ _ (inv .2) (ap (λ (y : Settings). widthOf (y .datatype)) (sym (at-held2 .held2 .ensures)) ∙ sym (c .before .width2 .ensures) ∙ c .if1 .left))
 
-even-taken : (root : Settings) (d : Dates) (u : List ℕ) {n : ℕ} → Few n u → (i v : ℕ) → n ≤ i → ((k : ℕ) → k < i → widthOf (settledAt root d (getD (recordsIn u) k zeroDated) .datatype) ≡ v) → Even v (take n (channelsIn root d u))
-even-taken root d u f i v l g j m =
-    let k : j < _ = subst (λ (n : ℕ). j < n) (taken-long root d u f) m in
-    ap (λ (c : Settings). widthOf (c .datatype)) (sym (nth root d u f k refl .is)) ∙ g j (omega arith)
+even-taken : (u : List ℕ) {n : ℕ} → Few n u → (i v : ℕ) → n ≤ i → ((k : ℕ) → k < i → widthOf (getD (recordsIn u) k zeroDated .settings .datatype) ≡ v) → Even v (take n (heldIn u))
+even-taken u f i v l g j m =
+    let k : j < _ = subst (λ (n : ℕ). j < n) (taken-long u f) m in
+    ap (λ (c : Settings). widthOf (c .datatype)) (sym (nth u f k refl .is)) ∙ g j (omega arith)
 
 returns-2 : tie.Need-returns-2 Inv-loop μ-loop
 returns-2 c =
     let at-start = c .before .before .before .before .before in
     let a = at-start .args in
     let inv = c .before .loop .inv in
-    λ h. even-taken (a .root) (a .dates) (a .t .now) (inv .1) (c .before .loop .i) _ (c .loop-test .left) (inv .2)
+    λ h. even-taken (a .t .now) (inv .1) (c .before .loop .i) _ (c .loop-test .left) (inv .2)
 
 pub even-width-spec : {M : Type 1} → statement M
 even-width-spec =
@@ -78,10 +77,10 @@ even-width-spec =
     (tie.spec
     Inv-loop
     μ-loop
-    settled-requires
+    held-requires
     width-requires
     loop-holds
-    settled-requires-2
+    held-requires-2
     width-requires-2
     returns
     add-i

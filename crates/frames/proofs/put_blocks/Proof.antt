@@ -3,23 +3,23 @@ use borrow.Author.Needs.{needs}
 use Prim.Native.Nat.{_-_, _^_, _<_}
 use native.Mathlib.Omega.{arith}
 use lib.ListN.{length, take}
-use Rattle.records.specs.Records.{channelsIn}
+use Rattle.records.specs.Records.{heldIn}
 use Rattle.frames.specs.Parts.{Few}
 use Rattle.frames.proofs.Coming.{Nth, nth, taken-long, blocks-sum, Blocks, blocks-first, blocks-next, blocks-place, blocks-done, Sequences, sequences-first, sequences-fit, sequences-room, sequences-next, sequences-done}
 use Rattle.frames.proofs.put_blocks.Statement.{statement}
 use Rattle.frames.proofs.put_blocks.Tie as tie
 
 abbrev Inv-loop2 : tie.InvT-loop2
-Inv-loop2 w sequences t root dates count out₀ at q place₀ next₀ i₀ out place next i = Few count t × Blocks (take count (channelsIn root dates t)) w place₀ next₀ out₀ i place next out
+Inv-loop2 w sequences t count out₀ at q place₀ next₀ i₀ out place next i = Few count t × Blocks (take count (heldIn t)) w place₀ next₀ out₀ i place next out
 
 abbrev μ-loop2 : tie.MeasureT-loop2
-μ-loop2 w sequences t root dates count out₀ at q place₀ next₀ i₀ out place next i = count - i
+μ-loop2 w sequences t count out₀ at q place₀ next₀ i₀ out place next i = count - i
 
 abbrev Inv-loop : tie.InvT-loop
-Inv-loop w sequences t root dates count out₀ at q₀ place₀ next₀ out q place next = Few count t × Sequences (take count (channelsIn root dates t)) sequences w out₀ at q place next out
+Inv-loop w sequences t count out₀ at q₀ place₀ next₀ out q place next = Few count t × Sequences (take count (heldIn t)) sequences w out₀ at q place next out
 
 abbrev μ-loop : tie.MeasureT-loop
-μ-loop w sequences t root dates count out₀ at q₀ place₀ next₀ out q place next = sequences - q
+μ-loop w sequences t count out₀ at q₀ place₀ next₀ out q place next = sequences - q
 
 loop-holds : tie.Need-loop-holds Inv-loop2 μ-loop2 Inv-loop μ-loop
 loop-holds c =
@@ -32,8 +32,8 @@ loop2-holds c =
     let test = c .loop-test .taken in
     (inv .0, blocks-first _ _ _ _ _ (sequences-fit (inv .1) test) (sequences-room (inv .1) test))
 
-settled-requires : tie.Need-settled-requires Inv-loop2 μ-loop2 Inv-loop μ-loop
-settled-requires c κs = search needs
+held-requires : tie.Need-held-requires Inv-loop2 μ-loop2 Inv-loop μ-loop
+held-requires c κs = search needs
 
 width-requires : tie.Need-width-requires Inv-loop2 μ-loop2 Inv-loop μ-loop
 width-requires c κs = search needs
@@ -49,14 +49,14 @@ cast-place c = search needs
 
 -- The channel whose block comes next.
 channel :
-    (c : tie.After-settled Inv-loop2 μ-loop2 Inv-loop μ-loop) →
+    (c : tie.After-held Inv-loop2 μ-loop2 Inv-loop μ-loop) →
     let l = c .before .before .loop2 in
     let a = c .before .before .before .before .before .before .before .before .args in
-    Nth (take (a .count) (channelsIn (a .root) (a .dates) (a .t .now))) (l .i) (c .settled .result)
+    Nth (take (a .count) (heldIn (a .t .now))) (l .i) (c .held .result)
 channel c =
     let at-loop2 = c .before .before in
     let a = at-loop2 .before .before .before .before .before .before .args in
-    nth (a .root) (a .dates) (a .t .now) (at-loop2 .loop2 .inv .0) (c .before .loop2-test .taken) (c .settled .ensures)
+    nth (a .t .now) (at-loop2 .loop2 .inv .0) (c .before .loop2-test .taken) (c .held .ensures)
 
 -- No slice is longer than an address tells.
 short : (c : tie.After-shared-slice-known Inv-loop2 μ-loop2 Inv-loop μ-loop) → length (c .before .args .w .now) < 2 ^ 64
@@ -107,7 +107,7 @@ loop-again c =
     let a = at-start .args in
     let inv = at-loop .loop .inv in
     let blocks = c .before .loop2 .inv .1 in
-    let all = taken-long (a .root) (a .dates) (a .t .now) (inv .0) in
+    let all = taken-long (a .t .now) (inv .0) in
     let end = c .loop2-test .left in
     (inv .0, sequences-next (inv .1) _ (at-loop-test .loop-test .taken) (blocks-place blocks (omega (arith, all, end))) (blocks-done blocks (omega (arith, all, end))))
 
@@ -127,7 +127,7 @@ put-blocks-spec =
     μ-loop
     loop-holds
     loop2-holds
-    settled-requires
+    held-requires
     width-requires
     cast-turn
     turn-requires

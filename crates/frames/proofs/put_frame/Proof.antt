@@ -15,7 +15,7 @@ use Rattle.frames.proofs.put_frame.Tie as tie
 told :
     (c : tie.After-layout-in) →
     let a = c .before .before .before .before .before .args in
-    FirstRecords (a .root) (a .dates) (a .t .now) (a .count) (c .before .at-most .result) (c .layout-in .result)
+    FirstRecords (a .t .now) (a .count) (c .before .at-most .result) (c .layout-in .result)
 told c = record { few = c .before .at-most .ensures; layout = c .layout-in .ensures }
 
 -- The waveform holds the sequences.

@@ -4,7 +4,7 @@ use mathlib.Core.List.{List}
 use native.Mathlib.Omega.{arith}
 use borrow.Author.Tests.{not-true, not-false}
 use lib.ListN.{take}
-use Rattle.records.specs.Records.{channelsIn}
+use Rattle.records.specs.Records.{heldIn}
 use Prim.Native.Nat.{ℕ, _<_}
 use Rattle.settings.specs.declared.Settings.{Settings}
 use Rattle.laid.specs.Turned.{Even}
@@ -14,9 +14,6 @@ use Rattle.frames.proofs.Samples.{samples-big, samples-little, samples-
 use borrow.Author.Needs.{needs}
 use Rattle.frames.proofs.put_samples.Statement.{statement}
 use Rattle.frames.proofs.put_samples.Tie as tie
-
-even-width-requires : tie.Need-even-width-requires
-even-width-requires c κs = search needs
 
 copy-requires : tie.Need-copy-requires
 copy-requires c κs = search needs
@@ -31,11 +28,14 @@ returns : tie.Need-returns
 returns c =
     let at-copy = c .before .before in
     let at-if1 = at-copy .before .before in
-    let at-start = at-if1 .before .before .before .before .before in
+    let at-start = at-if1 .before .before .before .before in
     let a = at-start .args in
-    let cs = take (a .count) (channelsIn (a .root) (a .dates) (a .t .now)) in
+    let cs = take (a .count) (heldIn (a .t .now)) in
     put-as (samples-big {little = a .little} cs _ _ _ (not-true _ (at-if1 .if1 .taken)) (at-start .pre .0 .1))
     (put-fits (taken-room (a .octets) (a .at) (a .w .now) (a .out .now) (at-start .pre .1 .1)) (at-copy .copy .ensures))
+
+even-width-requires : tie.Need-even-width-requires
+even-width-requires c κs = search needs
 
 copy-requires-2 : tie.Need-copy-requires-2
 copy-requires-2 c κs = search needs
@@ -47,11 +47,11 @@ returns-2 : tie.Need-returns-2
 returns-2 c =
     let at-copy2 = c .before .before in
     let at-if2 = at-copy2 .before .before in
-    let at-if1 = at-if2 .before in
-    let at-even-width = at-if1 .before in
-    let at-start = at-even-width .before .before .before .before in
+    let at-even-width = at-if2 .before in
+    let at-if1 = at-even-width .before in
+    let at-start = at-if1 .before .before .before .before in
     let a = at-start .args in
-    let cs = take (a .count) (channelsIn (a .root) (a .dates) (a .t .now)) in
+    let cs = take (a .count) (heldIn (a .t .now)) in
     let one = one-wide cs _ (at-even-width .even-width .ensures) (at-if2 .if2 .taken) in
     let little = not-false _ (at-if1 .if1 .left) in
     put-as (samples-narrow cs _ _ _ (at-start .pre .0 .1) one ∙ samples-little {little = a .little} cs _ _ little)
@@ -66,10 +66,10 @@ same-length-3 c = search needs
 returns-3 : tie.Need-returns-3
 returns-3 c =
     let at-put-blocks = c .before .before in
-    let at-if1 = at-put-blocks .before .before .before .before in
-    let at-start = at-if1 .before .before .before .before .before in
+    let at-if1 = at-put-blocks .before .before .before .before .before in
+    let at-start = at-if1 .before .before .before .before in
     let a = at-start .args in
-    put-as (samples-little {little = a .little} (take (a .count) (channelsIn (a .root) (a .dates) (a .t .now))) _ _ (not-false _ (at-if1 .if1 .left))) (at-put-blocks .put-blocks .ensures)
+    put-as (samples-little {little = a .little} (take (a .count) (heldIn (a .t .now))) _ _ (not-false _ (at-if1 .if1 .left))) (at-put-blocks .put-blocks .ensures)
 
 div-turn : tie.Need-div-turn
 div-turn c = search needs
@@ -83,11 +83,11 @@ same-length-4 c = search needs
 returns-4 : tie.Need-returns-4
 returns-4 c =
     let at-turn = c .before .before in
-    let at-if1 = at-turn .before .before .before .before in
-    let at-even-width = at-if1 .before in
-    let at-start = at-even-width .before .before .before .before in
+    let at-even-width = at-turn .before .before .before .before in
+    let at-if1 = at-even-width .before in
+    let at-start = at-if1 .before .before .before .before in
     let a = at-start .args in
-    let cs = take (a .count) (channelsIn (a .root) (a .dates) (a .t .now)) in
+    let cs = take (a .count) (heldIn (a .t .now)) in
     let v = at-even-width .even-width in
     let p : 0 < v .result = omega arith in
     let pre = at-start .pre in
@@ -100,10 +100,10 @@ pub put-samples-spec : {M : Type 1} → statement M
 put-samples-spec =
     tie.close
     (tie.spec
-    even-width-requires
     copy-requires
     same-length
     returns
+    even-width-requires
     copy-requires-2
     same-length-2
     returns-2

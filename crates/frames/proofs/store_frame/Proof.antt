@@ -1,7 +1,7 @@
 -- Head, groups, tag, length and samples, one after the other.
 use mathlib.Core.Path.{_≡_}
 use lib.ListN.{length, take}
-use Rattle.records.specs.Records.{channelsIn}
+use Rattle.records.specs.Records.{heldIn}
 use mir.Facts.{toZ-ofZ}
 use Rattle.frames.proofs.Coming.{taken-long}
 use Rattle.frames.proofs.Stored.{groups-room, samples-room, frame-stored}
@@ -9,8 +9,8 @@ use borrow.Author.Needs.{needs}
 use Rattle.frames.proofs.store_frame.Statement.{statement}
 use Rattle.frames.proofs.store_frame.Tie as tie
 
-tabled : (c : tie.Start) → let a = c .args in length (take (a .count) (channelsIn (a .root) (a .dates) (a .t .now))) ≡ a .count
-tabled c = let a = c .args in taken-long (a .root) (a .dates) (a .t .now) (c .pre .0 .0)
+tabled : (c : tie.Start) → let a = c .args in length (take (a .count) (heldIn (a .t .now))) ≡ a .count
+tabled c = let a = c .args in taken-long (a .t .now) (c .pre .0 .0)
 
 cast-put-head : tie.Need-cast-put-head
 cast-put-head c = search needs
@@ -25,7 +25,7 @@ put-groups-requires c κs =
     let a = at-start .args in
     let pre = at-start .pre in
     let start = toZ-ofZ (at-start .fits .start) in
-    (pre .0 .0, groups-room (take (a .count) (channelsIn (a .root) (a .dates) (a .t .now))) (a .sequences) (tabled at-start) (pre .0 .1) start (pre .1 .2) (at-put-head .put-head .ensures))
+    (pre .0 .0, groups-room (take (a .count) (heldIn (a .t .now))) (a .sequences) (tabled at-start) (pre .0 .1) start (pre .1 .2) (at-put-head .put-head .ensures))
 
 put-octet-requires : tie.Need-put-octet-requires
 put-octet-requires c κs = search needs
@@ -47,7 +47,7 @@ put-samples-requires c κs =
     let pre = at-start .pre in
     let start = toZ-ofZ (at-start .fits .start) in
     let room =
-    samples-room (take (a .count) (channelsIn (a .root) (a .dates) (a .t .now))) (a .sequences) (tabled at-start) (pre .0 .1) start (pre .1 .2) (at-put-head .put-head .ensures)
+    samples-room (take (a .count) (heldIn (a .t .now))) (a .sequences) (tabled at-start) (pre .0 .1) start (pre .1 .2) (at-put-head .put-head .ensures)
     (at-put-groups .put-groups .ensures) (at-put-octet .put-octet .ensures) (at-put-length .put-length .ensures) in
     (pre .0, (pre .1 .0, room))
 
@@ -65,7 +65,7 @@ returns c =
     let a = at-start .args in
     let pre = at-start .pre in
     let start = toZ-ofZ (at-start .fits .start) in
-    frame-stored (take (a .count) (channelsIn (a .root) (a .dates) (a .t .now))) (a .sequences) (tabled at-start) (pre .0 .1) start (pre .1 .2) (at-put-head .put-head .ensures)
+    frame-stored (take (a .count) (heldIn (a .t .now))) (a .sequences) (tabled at-start) (pre .0 .1) start (pre .1 .2) (at-put-head .put-head .ensures)
     (at-put-groups .put-groups .ensures) (at-put-octet .put-octet .ensures) (at-put-length .put-length .ensures) (at-put-samples .put-samples .ensures)
 
 pub store-frame-spec : {M : Type 1} → statement M
