@@ -248,8 +248,8 @@ pub fn at_most(t: &[u64], count: usize) -> usize
 pub fn held(t: &[u64], k: usize) -> Settings
     ensures { λ r. ⌜ r ≡ getD (recordsIn (now (t .entry))) k zeroDated .settings ⌝ }
 {
-    let x = get(t, k);
-    x.settings
+    let record = get(t, k);
+    record.settings
 }
 
 // The layout of the first `count` channels by what their records hold, as far as there are records.
