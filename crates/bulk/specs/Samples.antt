@@ -1,10 +1,13 @@
 -- What reading many samples of a channel answers (document 01, "Frames and samples"): their bits, as the file has them.
 use mathlib.Core.List.{List, [], _∷_}
 use Prim.Native.Nat.{ℕ, zero, suc, _-_, min}
-use lib.ListN.{length}
+use lib.ListN.{length, take, drop}
 use Rattle.heads.specs.Answer.{Answer, answered, refusedBy, mapAnswer}
-use Rattle.layout.specs.Frame.{samplesOf}
+use Rattle.octets.specs.Number.{numberOf}
+use Rattle.layout.specs.Frame.{widthIn, samplesOf}
 use Rattle.laid.specs.Laid.{sampleBits}
+use Rattle.view.specs.declared.View.{View}
+use Rattle.view.specs.View.{countSeen, placeSeen, askedSeen}
 use Rattle.verdict.specs.Verdict.{verdict}
 use Rattle.reader.specs.Answer.{askedSample}
 use Rattle.bulk.specs.declared.Read.{Read}
@@ -25,6 +28,15 @@ readSays (Read.Refused r) = refusedBy r
 unfoldable pub readOf : List ℕ → ℕ → ℕ → ℕ → ℕ → Answer (List ℕ)
 readOf s frame channel first room =
     askedSample (λ f. bitsFrom (sampleBits f channel) first (min room (samplesOf channel f - first))) frame channel first (verdict s)
+
+-- The bits of a sample of a channel that is seen: the octets at its place, by the byte order that stands there.
+unfoldable pub bitsSeen : List ℕ → View → ℕ → ℕ
+bitsSeen s v n = numberOf (v .little) (take (widthIn (v .settings)) (drop (placeSeen v n) s))
+
+-- The same as `readOf` of a channel that is seen, whether or not the file has it: 22 where there is no sample `first`, then 20 where the channel's
+-- samples do not lie in the file.
+unfoldable pub readSeen : List ℕ → View → ℕ → ℕ → Answer (List ℕ)
+readSeen s v first room = askedSeen (length s) v first (bitsFrom (bitsSeen s v) first (min room (countSeen v - first)))
 
 -- The answer: how many samples were written.
 unfoldable pub countRead : List ℕ → ℕ → ℕ → ℕ → ℕ → Answer ℕ

@@ -1,18 +1,21 @@
-// Many samples of one channel: their bits, in one pass over the file.
+// Many samples of one channel: their bits.
 //
-// For programs that draw or convert a channel: `samples` writes the bits of consecutive samples into a buffer that the caller lends.
+// For programs that draw or convert a channel: `samples` writes the bits of consecutive samples into a buffer that the caller lends, after one pass
+// over the file; `seen` does so for a channel that was found before, with nothing else read.
 // Promises, for any octets at all: the whole answer is a definition of specs/, refusals too, and so is the buffer afterwards.
-// Read first: specs/Samples.antt, then `samples` and upwards. A change to a loop wants its speed measured again: each width has a loop
+// Read first: specs/Samples.antt, then `seen` and upwards. A change to a loop wants its speed measured again: each width has a loop
 // of its own, with straight-line reads, because the compiler makes one wide load of them only so.
 ghost use mathlib.Core.Path.{_≡_};
 ghost use Prim.Native.Nat.{_+_, _*_, _≤_, min};
 ghost use lib.ListN.{length};
 ghost use lib.Seq.{sets};
-ghost use Rattle.heads.specs.Answer.{leftBy};
-ghost use Rattle.bulk.specs.Samples.{bitsFrom, readSays, readOf, countRead};
+ghost use Rattle.heads.specs.Answer.{mapAnswer, leftBy};
+ghost use Rattle.bulk.specs.Samples.{bitsFrom, readSays, readOf, readSeen, countRead};
 ghost use Rattle.bulk.specs.Walked.{bitsHere, spaced, blocked, Wide, InFile, InBlocks};
 use heads::Refusal;
-use reader::Placed;
+use reader::LookedUp;
+use view::SamplePlace;
+use view::View;
 
 // The number of one octet.
 fn one_octet(a: u8) -> u64
@@ -256,19 +259,19 @@ pub enum Read {
     Refused(Refusal),
 }
 
-// The bits of a channel's samples from number `first` on, at the front of the buffer: as many as fit or there are.
-pub fn samples(s: &[u8], frame: u32, channel: u32, first: u64, out: &mut [u64]) -> Read
-    ensures { λ r. ⌜ readSays r ≡ countRead (now (s .entry)) frame channel first (length (now (out .entry))) ⌝ }
-    ensures { λ _. ⌜ now (out .exit) ≡ leftBy (readOf (now (s .entry)) frame channel first (length (now (out .entry)))) (now (out .entry)) ⌝ }
+// The bits of the samples of a channel that is seen, from number `first` on, at the front of the buffer: as many as fit or there are.
+pub fn seen(s: &[u8], v: View, first: u64, out: &mut [u64]) -> Read
+    ensures { λ r. ⌜ readSays r ≡ mapAnswer length (readSeen (now (s .entry)) v first (length (now (out .entry)))) ⌝ }
+    ensures { λ _. ⌜ now (out .exit) ≡ leftBy (readSeen (now (s .entry)) v first (length (now (out .entry)))) (now (out .entry)) ⌝ }
 {
-    match reader::place(s, frame, channel, first) {
-        Placed::Refused(x) => Read::Refused(x),
-        Placed::At(at, v) => {
+    match v.find(s.len(), first) {
+        SamplePlace::Refused(x) => Read::Refused(x),
+        SamplePlace::At(at) => {
             let c = v.settings;
             let b = c.block as u64;
             let w = values::width(c.datatype);
             let r = (first % b) as usize;
-            let n = fitting(out.len(), v.sequences as u64 * b - first);
+            let n = fitting(out.len(), v.count() - first);
             fill(
                 s,
                 at - r * w,
@@ -282,5 +285,16 @@ pub fn samples(s: &[u8], frame: u32, channel: u32, first: u64, out: &mut [u64]) 
             );
             Read::Samples(n)
         }
+    }
+}
+
+// The same by frame and channel: one pass over the file finds the channel.
+pub fn samples(s: &[u8], frame: u32, channel: u32, first: u64, out: &mut [u64]) -> Read
+    ensures { λ r. ⌜ readSays r ≡ countRead (now (s .entry)) frame channel first (length (now (out .entry))) ⌝ }
+    ensures { λ _. ⌜ now (out .exit) ≡ leftBy (readOf (now (s .entry)) frame channel first (length (now (out .entry)))) (now (out .entry)) ⌝ }
+{
+    match reader::look_up(s, frame, channel) {
+        LookedUp::Refused(x) => Read::Refused(x),
+        LookedUp::Channel(v) => seen(s, v, first, out),
     }
 }

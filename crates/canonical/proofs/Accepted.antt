@@ -16,6 +16,7 @@ use lib.Dec.{eqb}
 use lib.ListN.{length, getD, drop, length-map}
 use Rattle.octets.specs.Number.{Octets}
 use Rattle.octets.specs.Pick.{pick, either}
+use Rattle.octets.proofs.Pick.{both-split}
 use Rattle.octets.proofs.Laws.{drop-octets, range-pos}
 use Rattle.values.specs.declared.Bits.{Bits}
 use Rattle.settings.specs.declared.Settings.{Settings}
@@ -26,7 +27,6 @@ use Rattle.verdict.specs.Verdict.{accepted, verdict}
 use Rattle.verdict.proofs.Every.{Every}
 use Rattle.reader.proofs.Ordered.{Lies, every-lies}
 use Rattle.reader.proofs.Good.{GoodSettings, GoodFrame, number-first, agree-every, every-good}
-use Rattle.verdict.proofs.Bounds.{both-split}
 use Rattle.canonical.specs.Recording.{tabulate, recordedFrame, recording}
 use Rattle.canonical.proofs.Good.{GoodReported, AllReported, GoodRecorded, AllRecorded}
 

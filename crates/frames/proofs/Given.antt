@@ -3,17 +3,15 @@
 --     parts-long      the frame
 --     given-some, given-none    where the waveform holds the sequences, and where it does not
 --     frame-put       a frame that is given and fits is stored
---     held-none, held-by    the test of that, by how many sequences fit in
 --     FirstRecords, SequencesHeld      the first channels, whose layout is known, and the test by it
 --     told-groups, not-held, held-few, parts-given, given-long, frame-asked    the same of these
 -- Assumes nothing.
 use mathlib.Core.Path.{_≡_, refl, sym, ap, subst, _∙_}
 use mathlib.Core.List.{List, []}
 use mathlib.Core.Bool.{Bool, true, false}
-use Prim.Native.Nat.{ℕ, _+_, _*_, _/_, _≤_, _<_, min}
-use native.Mathlib.Nat.{mul-zero, le-div-iff-mul-le, div-lt-iff-lt-mul}
+use Prim.Native.Nat.{ℕ, _+_, _*_, _≤_, _<_, min}
 use native.Mathlib.Omega.{arith}
-use borrow.Author.Tests.{le-leb, lt-leb, leb-true, leb-false}
+use borrow.Author.Tests.{le-leb, leb-true}
 use lib.Dec.{leb}
 use lib.IntN.{ℤ}
 use lib.ListN.{length, take, length-append}
@@ -62,23 +60,6 @@ module _ (start : ℤ) (little : Bool) (sequences : ℕ) (cs : List Settings) (x
     frame-put {d} {e} {at} {r} few room p =
         let some = given-some (le-leb (samplesOctets cs sequences) (min (length x) octetsLimit) (omega arith)) in
         put-fits (rw parts-long room) (subst (λ (v : List ℕ). Putting d at v r e) some p)
-
--- ---- the test
-
--- Sequences of no octets are held.
-pub held-none : (sequences octets most : ℕ) → octets ≡ 0 → true ≡ leb (sequences * octets) most
-held-none sequences octets most e = sym (le-leb (sequences * octets) most (rw (e, mul-zero) (omega arith)))
-
--- Others are where that many fit in.
-pub held-by : (sequences octets most : ℕ) → (octets ≡ 0 → ⊥) → leb sequences (most / octets) ≡ leb (sequences * octets) most
-held-by sequences octets most n = by (leb sequences (most / octets)) refl
-  where
-    some : 0 < octets
-    some = omega arith
-
-    by : (t : Bool) → leb sequences (most / octets) ≡ t → t ≡ leb (sequences * octets) most
-    by true h = sym (le-leb (sequences * octets) most (le-div-iff-mul-le some .0 (leb-true sequences (most / octets) h)))
-    by false h = sym (lt-leb (sequences * octets) most (div-lt-iff-lt-mul some .0 (leb-false sequences (most / octets) h)))
 
 -- ---- the first channels
 

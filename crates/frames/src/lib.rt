@@ -143,10 +143,7 @@ fn most(long: usize) -> u64
 fn holds(long: usize, sequences: u32, octets: u64) -> bool
     ensures { λ r. ⌜ r ≡ leb (sequences * octets) (min long octetsLimit) ⌝ }
 {
-    if octets == 0 {
-        return true;
-    }
-    sequences as u64 <= most(long) / octets
+    layout::holds(most(long), sequences, octets)
 }
 
 // Stores the frame of a waveform, whose channels' settings are what the first `count` records that words hold say.

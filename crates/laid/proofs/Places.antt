@@ -3,7 +3,7 @@
 --     below-apart, below-fits    a channel's block ends before a higher channel's begins, and in the sequence
 --     offset-is                  the offset of sample r of a channel's block in sequence q
 --     row-below, rest-below      a named sample's sequence, and its number in the block
---     offset-inside              a named sample ends by the end of the sequences
+--     offset-by, offset-inside   a sample of a channel, and a named sample, ends by the end of the sequences
 --     offset-apart               two named samples share no octet
 --     offset-covers              every octet of the sequences is a named sample's
 -- Assumes nothing.
@@ -16,7 +16,7 @@ use native.Mathlib.Omega.{arith}
 use lib.ListN.{length}
 use lib.Seq.{take-length}
 use Rattle.settings.specs.declared.Settings.{Settings}
-use Rattle.layout.specs.Frame.{widthIn, blockOctets, sequenceOctets, octetsBelow, channelIn, offsetOf, samplesOctets}
+use Rattle.layout.specs.Frame.{widthIn, blockOctets, sequenceOctets, octetsBelow, channelIn, offsetBy, offsetOf, samplesOctets}
 use Rattle.laid.specs.Laid.{Named, Covered}
 
 -- ---- rows of equal cells
@@ -88,13 +88,18 @@ offset-within : (cs : List Settings) (c n i : ℕ) → offsetOf cs c n + i ≡ n
 unfolding offsetOf
 offset-within cs c n i = omega arith
 
-pub offset-inside : {cs : List Settings} {S c n : ℕ} → Named cs S c n → offsetOf cs c n + widthIn (channelIn c cs) ≤ samplesOctets cs S
+-- A sample ends by the end of its sequences, where its channel's block ends by the end of a sequence.
+pub offset-by : (s : Settings) (G below S n : ℕ) → below + blockOctets s ≤ G → n < S * s .block → offsetBy s G below n + widthIn s ≤ S * G
 unfolding blockOctets
-offset-inside {cs} {S} {c} {n} h =
-    let s = channelIn c cs in
-    let inBlock = row-fits (widthIn s) (n % s .block) (s .block) (rest-below cs S c n h) in
-    let inAll = row-fits (sequenceOctets cs) (n / s .block) S (row-below cs S c n h) in
-    omega (arith, offset-within cs c n (widthIn s), below-fits cs c (h .channel))
+offset-by s G below S n h k =
+    let some = factor-pos S (s .block) n k in
+    let inBlock = row-fits (widthIn s) (n % s .block) (s .block) (mod-lt n some) in
+    let inAll = row-fits G (n / s .block) S (div-lt-iff-lt-mul some .1 k) in
+    omega arith
+
+pub offset-inside : {cs : List Settings} {S c n : ℕ} → Named cs S c n → offsetOf cs c n + widthIn (channelIn c cs) ≤ samplesOctets cs S
+unfolding offsetOf
+offset-inside {cs} {S} {c} {n} h = offset-by (channelIn c cs) (sequenceOctets cs) (octetsBelow c cs) S n (below-fits cs c (h .channel)) (h .number)
 
 -- ---- two samples
 

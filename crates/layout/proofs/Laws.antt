@@ -8,17 +8,18 @@
 --     take-few       no more records are taken than there are
 --     null-le, channel-few, groups-few    a null, a channel number and groups take few octets
 --     sequences-item-few, head-few, frame-few    and so do 06, a frame's head, and a frame
+--     held-none, held-by    whether sequences fit in so many octets, by how many do
 -- Assumes nothing.
 use mathlib.Core.Path.{_≡_, refl, sym, ap, _∙_}
 use mathlib.Core.List.{List, [], _∷_}
 use mathlib.Core.Bool.{Bool, true, false}
-use Prim.Native.Nat.{ℕ, zero, suc, _+_, _-_, _*_, _^_, _≤_, _<_, _%_, min}
-use native.Mathlib.Nat.{add-assoc, zero-add, add-zero, mod-eq-of-lt}
+use Prim.Native.Nat.{ℕ, zero, suc, _+_, _-_, _*_, _/_, _^_, _≤_, _<_, _%_, min}
+use native.Mathlib.Nat.{add-assoc, zero-add, add-zero, mul-zero, mod-eq-of-lt, le-div-iff-mul-le, div-lt-iff-lt-mul}
 use native.Mathlib.Numerals.{add-one}
 use native.Mathlib.Omega.{arith}
 use native.Mathlib.Decide.{decLt}
-use borrow.Author.Tests.{ltb-true, ltb-false}
-use lib.Dec.{ltb, eqb}
+use borrow.Author.Tests.{ltb-true, ltb-false, le-leb, lt-leb, leb-true, leb-false}
+use lib.Dec.{ltb, leb, eqb}
 use lib.ListN.{length, getD, take, drop, drop-of-length-le}
 use lib.Seq.{drop-cons, take-nil, take-all, getD-take, length-take-le}
 use Rattle.octets.specs.Pick.{pick, both}
@@ -201,3 +202,20 @@ head-few sequences = omega (arith, sequences-item-few sequences)
 pub frame-few : (sequences groups waveform : ℕ) → groups ≤ channelLimit * 64 → waveform < 2 ^ 31 → frameSize sequences groups waveform < 2 ^ 32
 unfolding frameSize
 frame-few sequences groups waveform h l = omega (arith, head-few sequences, length-shortest waveform)
+
+-- ---- sequences in so many octets
+
+-- Sequences of no octets are held.
+pub held-none : (sequences octets most : ℕ) → octets ≡ 0 → true ≡ leb (sequences * octets) most
+held-none sequences octets most e = sym (le-leb (sequences * octets) most (rw (e, mul-zero) (omega arith)))
+
+-- Others are where that many fit in.
+pub held-by : (sequences octets most : ℕ) → (octets ≡ 0 → ⊥) → leb sequences (most / octets) ≡ leb (sequences * octets) most
+held-by sequences octets most n = by (leb sequences (most / octets)) refl
+  where
+    some : 0 < octets
+    some = omega arith
+
+    by : (t : Bool) → leb sequences (most / octets) ≡ t → t ≡ leb (sequences * octets) most
+    by true h = sym (le-leb (sequences * octets) most (le-div-iff-mul-le some .0 (leb-true sequences (most / octets) h)))
+    by false h = sym (lt-leb (sequences * octets) most (div-lt-iff-lt-mul some .0 (leb-false sequences (most / octets) h)))

@@ -3,11 +3,11 @@
 // Promises: `Layout::more`, called for one channel after the other, sums up whether offsets and nulls have their sample widths, the octets of
 // a sequence, those below a channel, and the octets that the channels' groups take in the canonical file.
 // `frame_size` answers how many octets a frame takes there, `head_size` and `group_size` its head and a group, `content_size` and `null_size` a
-// group's items and a null's value; `offset_bits` a channel's offset, one that is not defined too, and `reported` its attributes with that offset.
+// group's items and a null's value; `holds` whether so many octets hold so many sequences; `offset_bits` a channel's offset, one that is not defined too, and `reported` its attributes with that offset.
 // Read first: specs/Frame.antt (frames and the place of a sample), specs/Size.antt.
 ghost use mathlib.Core.Path.{_≡_};
-ghost use Prim.Native.Nat.{_+_, _%_, _^_, _<_};
-ghost use lib.Dec.{ltb};
+ghost use Prim.Native.Nat.{_+_, _*_, _%_, _^_, _<_};
+ghost use lib.Dec.{ltb, leb};
 ghost use Rattle.octets.specs.Pick.{pick, both};
 ghost use Rattle.layout.specs.Frame.{offsetBits, widthAgrees, widthIn, blockOctets, reported, channelAgrees};
 ghost use Rattle.layout.specs.Size.{channelSize, nullSize, contentSize, groupSize, sequencesSize, headSize, frameSize};
@@ -150,6 +150,16 @@ pub fn head_size(sequences: u32) -> usize
     ensures { λ r. ⌜ r ≡ headSize sequences ⌝ }
 {
     12 + sequences_size(sequences)
+}
+
+// Whether `long` octets hold so many sequences of so many octets.
+pub fn holds(long: u64, sequences: u32, octets: u64) -> bool
+    ensures { λ r. ⌜ r ≡ leb (sequences * octets) long ⌝ }
+{
+    if octets == 0 {
+        return true;
+    }
+    sequences as u64 <= long / octets
 }
 
 // The octets of a frame, whose channels' groups and whose samples take so many.

@@ -48,7 +48,8 @@ use Rattle.pass.specs.Passing.{Scanning, noneMet, metScan, viewMet, metW
 use Rattle.verdict.proofs.Keeps.{interpret-refuses, reached-verdict}
 use Rattle.verdict.proofs.Frames.{frame-carried, count-few, counts-there}
 use Rattle.verdict.proofs.Bounds.{Bounded, reached-bounded}
-use Rattle.pass.specs.Scan.{zeroFrame, viewOf, foundIn, sizeOf, sizes, refusedScan, scannedIn, scanOf}
+use Rattle.view.specs.View.{viewOf}
+use Rattle.pass.specs.Scan.{zeroFrame, foundIn, sizeOf, sizes, refusedScan, scannedIn, scanOf}
 
 -- ---- the pass
 

@@ -19,7 +19,7 @@ use Rattle.standing.specs.Standing.{octetsLimit, framesLimit}
 use Rattle.framing.specs.Framing.{channelsOf}
 use Rattle.stretch.specs.Stretch.{steppedOver}
 use Rattle.pass.specs.declared.Asked.{Asked}
-use Rattle.pass.specs.declared.View.{View}
+use Rattle.view.specs.declared.View.{View}
 use Rattle.pass.specs.declared.Found.{Found}
 use Rattle.verdict.specs.declared.Checked.{Checked}
 use Rattle.pass.specs.declared.Scan.{Scan}

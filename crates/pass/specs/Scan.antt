@@ -8,35 +8,19 @@ use lib.IntN.{pos}
 use lib.ListN.{length, getD}
 use Rattle.octets.specs.Pick.{pick}
 use Rattle.heads.specs.declared.Refusal.{Refusal}
-use Rattle.settings.specs.Settings.{defaultSettings}
-use Rattle.layout.specs.Frame.{Frame, sequenceOctets, octetsBelow, channelIn, octetsSampled}
+use Rattle.layout.specs.Frame.{Frame, octetsSampled}
 use Rattle.layout.specs.Size.{frameSize, groupsSize}
 use Rattle.pass.specs.declared.Asked.{Asked}
-use Rattle.pass.specs.declared.View.{View}
 use Rattle.pass.specs.declared.Found.{Found}
 use Rattle.pass.specs.declared.Found.the-variants.{Nothing}
 use Rattle.verdict.specs.declared.Checked.{Checked}
 use Rattle.pass.specs.declared.Scan.{Scan}
 use Rattle.verdict.specs.Verdict.{Verdict, accepted, refused, verdict}
+use Rattle.view.specs.View.{viewOf}
 
 -- What is read past the last frame; no answer depends on it.
 abbrev pub zeroFrame : Frame
 zeroFrame = record { start = pos 0; place = 0; little = false; sequences = 0; channels = []; waveform = [] }
-
--- What the pass keeps of the frame that is asked for.
-unfoldable pub viewOf : ℕ → Frame → View
-viewOf channel f =
-    let c = pick (ltb channel (length (f .channels))) (channelIn channel (f .channels)) defaultSettings in
-    record {
-      start = f .start;
-      channels = length (f .channels);
-      sequences = f .sequences;
-      little = f .little;
-      place = f .place;
-      octets = sequenceOctets (f .channels);
-      below = octetsBelow channel (f .channels);
-      settings = c;
-    }
 
 -- The frame that is asked for, where there is one.
 unfoldable pub foundIn : Asked → List Frame → Found

@@ -33,24 +33,12 @@ use settings::Settings;
 use standing::Standing;
 use stretch::Stretch;
 use verdict::Checked;
+use view::View;
 
 // The frame and the channel that a question names.
 pub struct Asked {
     pub frame: u32,
     pub channel: u32,
-}
-
-// What a pass keeps of the frame that is asked for: `octets` are those of a sequence, `below` those below the channel that is asked
-// for, and `settings` that channel's, the defaults where the frame lacks it.
-pub struct View {
-    pub start: i64,
-    pub channels: u32,
-    pub sequences: u32,
-    pub little: bool,
-    pub place: usize,
-    pub octets: u64,
-    pub below: u64,
-    pub settings: Settings,
 }
 
 // The frame that is asked for, if the file has it.

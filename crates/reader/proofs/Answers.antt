@@ -2,44 +2,50 @@
 --     checked-is        the check is the pass's count or refusal
 --     look-refused, look-no-frame, look-no-channel, look-found    the ways of a look-up
 --     described-is    the attributes, over a look-up
---     place-refused, place-none, place-found, place-small, block-some    the place of a sample, over a look-up
+--     unseen    where no channel is seen no question for a sample is answered
 --     frameIn, settings-seen, count-seen, place-is, little-seen    what a channel that was found says of its frame
+--     located-in, located-lies    its samples lie in the file
+--     asked-seen, placed-seen    a question for a sample, and the place of one, over what is seen
 --     bits-seen    the octets at a sample's place are the sample's
 --     PlacedAt, placed-at, sample-at, sample-none    a sample, over its place
 -- Assumes nothing.
 use mathlib.Core.Path.{_≡_, refl, sym, ap, _∙_}
 use mathlib.Core.List.{List}
-use Prim.Native.Nat.{ℕ, zero, suc, _+_, _*_, _/_, _%_, _^_, _≤_, _<_}
-use native.Mathlib.Nat.{mul-zero}
+use mathlib.Core.Bool.{true}
+use Prim.Native.Nat.{ℕ, _*_, _≤_, _<_}
 use native.Mathlib.Omega.{arith}
 use borrow.Author.Tests.{lt-ltb, le-ltb}
 use lib.Dec.{ltb}
 use lib.ListN.{length, getD, take, drop}
-use Rattle.octets.specs.Pick.{pick}
 use Rattle.heads.specs.declared.Refusal.{Refusal}
-use Rattle.heads.specs.Refusals.{noFrame, noChannel, noSample}
+use Rattle.heads.specs.Refusals.{noFrame, noChannel}
 use Rattle.heads.specs.Answer.{Answer, answered, refusedAs, refusedBy, mapAnswer}
-use Rattle.octets.specs.Number.{numberOf, NumberRead}
+use Rattle.octets.specs.Number.{Octets, numberOf, NumberRead}
 use Rattle.octets.proofs.Laws.{part-read, part-fits}
 use Rattle.values.specs.Sample.{Said, widthOf, valueOf, lowBits}
-use Rattle.values.proofs.Laws.{width-le, low-bits}
-use Rattle.layout.specs.Frame.{Frame, reported, channelIn, samplesOf, offsetOf, placeOf}
+use Rattle.values.proofs.Laws.{width-some, width-le, low-bits}
+use Rattle.settings.specs.Settings.{zeroSettings}
+use Rattle.layout.specs.Frame.{Frame, reported, sequenceOctets, octetsBelow, channelIn, samplesOf, offsetOf, placeOf}
 use Rattle.reader.specs.declared.Attributes.{Attributes}
 use Rattle.reader.specs.declared.LookedUp.{LookedUp}
 use Rattle.reader.specs.declared.Placed.{Placed}
 use Rattle.reader.specs.declared.Placed.the-variants.{At}
 use Rattle.laid.specs.Laid.{sampleBits}
-use Rattle.laid.proofs.Places.{offset-inside}
+use Rattle.laid.proofs.Places.{below-fits}
 use Rattle.pass.specs.declared.Asked.{Asked}
-use Rattle.pass.specs.declared.View.{View}
+use Rattle.view.specs.declared.View.{View}
+use Rattle.view.specs.View.{viewOf, countSeen, placeSeen, liesIn, askedSeen, placeIn}
+use Rattle.view.proofs.Lying.{LiesIn, in-lies, map-seen}
 use Rattle.pass.specs.declared.Found.{Found}
 use Rattle.pass.specs.declared.Found.the-variants.{Nothing}
 use Rattle.verdict.specs.declared.Checked.{Checked}
 use Rattle.pass.specs.declared.Scan.{Scan}
 use Rattle.verdict.specs.Verdict.{Verdict, accepted, refused, verdict, checkedSays, checkedAs, checkOf}
-use Rattle.pass.specs.Scan.{zeroFrame, viewOf, foundIn, scannedIn, scanOf}
-use Rattle.reader.specs.Answer.{foundSample, lookedUpSays, FoundPlace, foundPlace, placedSays, asked, seenOf, attributesWith, attributesIn, attributesOf, placedOf, sampleIn, sampleOf, placeSeen}
+use Rattle.pass.specs.Scan.{zeroFrame, foundIn, scannedIn, scanOf}
+use Rattle.reader.specs.Answer.{foundSample, lookedUpSays, FoundPlace, foundPlace, placedSays, asked, askedSample, seenOf, attributesWith, attributesIn, attributesOf, placedOf, sampleIn, sampleOf}
 use Rattle.reader.proofs.Order.{asked-both, sample-both, asked-found, sample-found, sample-refused}
+use Rattle.verdict.proofs.Every.{every-at}
+use Rattle.reader.proofs.Good.{GoodSettings, accepted-good}
 use Rattle.reader.proofs.Ordered.{accepted-lies, accepted-small}
 use Rattle.reader.proofs.There.{bits-there}
 
@@ -196,10 +202,6 @@ described-is s frame channel =
 
 -- ---- the place of a sample
 
--- How many samples the channel has: sequences times its block length.
-abbrev pub countSeen : View → ℕ
-countSeen v = v .sequences * v .settings .block
-
 module _ {s : List ℕ} {frame channel : ℕ} {w : View} (p : Located s frame channel w) where
   -- The frame that was found.
   abbrev pub frameIn : Frame
@@ -221,29 +223,53 @@ module _ {s : List ℕ} {frame channel : ℕ} {w : View} (p : Located s frame ch
   unfolding viewOf
   little-seen = ap (λ (v : View). v .little) (p .view)
 
-  placed-by : (n : ℕ) → placedOf s frame channel n ≡ pick (ltb n (samplesOf channel frameIn)) (answered (foundPlace (placeOf channel n frameIn) (viewOf channel frameIn))) (refusedAs noSample 0)
-  unfolding placedOf
-  placed-by n = asked-found frame channel (p .verdictIs) (p .frameIn) (p .channelIs) _
+  octets-seen : w .octets ≡ sequenceOctets (frameIn .channels)
+  unfolding viewOf
+  octets-seen = ap (λ (v : View). v .octets) (p .view)
 
-  -- No such sample.
-  pub place-none : {n : ℕ} → countSeen w ≤ n → refusedAs noSample 0 ≡ placedOf s frame channel n
-  place-none {n} h =
-      let k : samplesOf channel frameIn ≤ n = omega (arith, count-seen) in
-      sym (placed-by n ∙ simp (le-ltb n (samplesOf channel frameIn) k))
+  sequences-seen : w .sequences ≡ frameIn .sequences
+  unfolding viewOf
+  sequences-seen = ap (λ (v : View). v .sequences) (p .view)
+
+  place-seen : w .place ≡ frameIn .place
+  unfolding viewOf
+  place-seen = ap (λ (v : View). v .place) (p .view)
+
+  below-seen : w .below ≡ octetsBelow channel (frameIn .channels)
+  unfolding viewOf
+  below-seen = ap (λ (v : View). v .below) (p .view)
+
+  -- The channel's samples lie in the file.
+  pub located-in : Octets s → LiesIn (length s) w
+  located-in o =
+      let a = accepted-lies s (p .frames) (p .verdictIs) frame (p .frameIn) in
+      let g = accepted-good s o (p .frames) (p .verdictIs) frame (p .frameIn) in
+      let t = every-at GoodSettings (frameIn .channels) (g .channels) zeroSettings channel (p .channelIs) .datatype in
+      record {
+        small = accepted-small s (p .frames) (p .verdictIs);
+        wide = rw settings-seen (width-some (channelIn channel (frameIn .channels) .datatype) t);
+        block = rw (settings-seen, below-seen, octets-seen) (below-fits (frameIn .channels) channel (p .channelIs));
+        inside = rw (place-seen, sequences-seen, octets-seen) (omega (arith, a .fits, a .inside));
+      }
+
+  pub located-lies : Octets s → liesIn (length s) w ≡ true
+  located-lies o = in-lies (located-in o)
+
+  -- A question for a sample of the channel, over what is seen of it.
+  pub asked-seen : Octets s → {A : Type 0} (g : Frame → A) (n : ℕ) → askedSample g frame channel n (verdict s) ≡ askedSeen (length s) w n (g frameIn)
+  asked-seen o g n =
+      asked-found frame channel (p .verdictIs) (p .frameIn) (p .channelIs) _
+      ∙ simp (located-lies o, count-seen)
+
+  -- The place of a sample is the one that is found of what is seen.
+  pub placed-seen : Octets s → (n : ℕ) → mapAnswer (λ at. foundPlace at w) (placeIn (length s) w n) ≡ placedOf s frame channel n
+  unfolding placedOf
+  placed-seen o n =
+      map-seen (λ at. foundPlace at w) (length s) w n (placeSeen w n)
+      ∙ (λ i. askedSeen (length s) w n (foundPlace (place-is n i) (p .view i)))
+      ∙ sym (asked-seen o (λ f. foundPlace (placeOf channel n f) (viewOf channel f)) n)
 
   module _ {n : ℕ} (h : n < countSeen w) where
-    number-in : n < samplesOf channel frameIn
-    number-in = omega (arith, count-seen)
-
-    -- A sample lies in its frame's waveform, so that no sum on the way to its place overflows.
-    pub place-small : placeSeen w n < 2 ^ 63
-    unfolding placeOf samplesOf
-    place-small =
-        let a = accepted-lies s (p .frames) (p .verdictIs) frame (p .frameIn) in
-        let b = accepted-small s (p .frames) (p .verdictIs) in
-        let c = offset-inside {cs = frameIn .channels} {S = frameIn .sequences} {c = channel} {n = n} (record { channel = p .channelIs; number = number-in }) in
-        rw (place-is n) (omega (arith, a .fits, a .inside, b, c))
-
     -- The octets there are the sample's.
     pub bits-seen : numberOf (w .little) (take (widthOf (w .settings .datatype)) (drop (placeSeen w n) s)) ≡ sampleBits frameIn channel n
     unfolding samplesOf
@@ -252,29 +278,14 @@ module _ {s : List ℕ} {frame channel : ℕ} {w : View} (p : Located s frame ch
         let c = settings-seen in
         let q = place-is n in
         (λ j. numberOf (o j) (take (widthOf (c j .datatype)) (drop (q j) s)))
-        ∙ bits-there s frameIn (accepted-lies s (p .frames) (p .verdictIs) frame (p .frameIn)) (record { channel = p .channelIs; number = number-in })
+        ∙ bits-there s frameIn (accepted-lies s (p .frames) (p .verdictIs) frame (p .frameIn)) (record { channel = p .channelIs; number = omega (arith, count-seen) })
 
-    pub block-some : 0 < w .settings .block
-    block-some = positive (w .sequences) (w .settings .block) h
-      where
-        positive : (a b : ℕ) → n < a * b → 0 < b
-        positive a zero l = let z : ⊥ = omega (arith, rw mul-zero at l) in absurd z
-        positive a (suc b) l = omega arith
-
-    pub place-found : {at : ℕ} → at ≡ placeSeen w n → answered (foundPlace at w) ≡ placedOf s frame channel n
-    place-found e = (λ i. answered (foundPlace ((e ∙ place-is n) i) (p .view i))) ∙ sym (placed-by n ∙ simp (lt-ltb n (samplesOf channel frameIn) number-in))
-
--- Where no channel is seen there is no place.
-pub place-refused : (s : List ℕ) (frame channel n : ℕ) (x : Refusal) {r : LookedUp} → lookedUpSays r ≡ seenOf s frame channel → r ≡ LookedUp.Refused x → refusedBy x ≡ placedOf s frame channel n
-unfolding placedOf seenOf
-place-refused s frame channel n x e f =
-    asked-both (λ (a : Answer View) (b : Answer FoundPlace). refusedBy x ≡ a → refusedBy x ≡ b) (λ m p q. cc) frame channel _ _ (verdict s)
+-- Where no channel is seen no question for a sample is answered.
+pub unseen : {A : Type 0} (g : Frame → A) (s : List ℕ) (frame channel n : ℕ) (x : Refusal) {r : LookedUp} → lookedUpSays r ≡ seenOf s frame channel → r ≡ LookedUp.Refused x → refusedBy x ≡ askedSample g frame channel n (verdict s)
+unfolding seenOf
+unseen {A} g s frame channel n x e f =
+    asked-both (λ (a : Answer View) (b : Answer A). refusedBy x ≡ a → refusedBy x ≡ b) (λ m p q. cc) frame channel _ _ (verdict s)
     (λ fs v i c q. let z : _≡_ {A = ℕ} 0 1 = cc in let a : ⊥ = omega arith in absurd a) (ap lookedUpSays (sym f) ∙ e)
-
--- The place as it is computed, with the width as it was read.
-pub place-sum : (v : View) (n width : ℕ) → width ≡ widthOf (v .settings .datatype) → v .place + (n / v .settings .block * v .octets + v .below + n % v .settings .block * width) ≡ placeSeen v n
-unfolding placeSeen
-place-sum v n width e = rw e
 
 -- ---- a sample, over its place
 

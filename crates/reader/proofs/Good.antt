@@ -18,6 +18,7 @@ use lib.ListN.{length, getD, take, drop}
 use lib.Seq.{take-all}
 use Rattle.octets.specs.Pick.{pick, either}
 use Rattle.octets.specs.Number.{Octets, range, numberOf, twos, signedOf}
+use Rattle.octets.proofs.Pick.{both-split}
 use Rattle.octets.proofs.Laws.{take-octets, drop-octets, take-length-le, cap, number-below}
 use Rattle.values.specs.declared.Bits.{Bits}
 use Rattle.items.specs.declared.Item.{Item}
@@ -38,7 +39,7 @@ use Rattle.verdict.proofs.Keeps.{Keeps, accepted-by, accepted-kept}
 use Rattle.verdict.proofs.Steps.{Waveform, waveform-short, TakenBy, ItemStep, passes, stands, resets, changes, sets, frames, meaning-steps}
 use Rattle.verdict.proofs.Every.{Every, every-at, every-snoc, every-take, every-imp}
 use Rattle.verdict.proofs.Tables.{EachAttribute, Table, table-step, table-first}
-use Rattle.verdict.proofs.Bounds.{both-split, Bounded, bounded-first, bounded-step, octets-some}
+use Rattle.verdict.proofs.Bounds.{Bounded, bounded-first, bounded-step, octets-some}
 
 -- A unit up to the last one, an exponent of one octet, and a mantissa from 1 on that fits four.
 pub record GoodScale (last : ℕ) (x : Scale) : Type 0 where

@@ -1,7 +1,7 @@
 -- The questions (document 01, "Frames and samples" and "What comes back when it is no"): the attributes of a channel in a frame, and the
 -- place, bits and value of a sample.
 use mathlib.Core.List.{List}
-use Prim.Native.Nat.{ℕ, _+_}
+use Prim.Native.Nat.{ℕ}
 use lib.Dec.{ltb}
 use lib.IntN.{ℤ}
 use lib.ListN.{length, getD}
@@ -10,9 +10,10 @@ use Rattle.values.specs.Sample.{Said, valueSays, valueOf}
 use Rattle.heads.specs.Refusals.{noFrame, noChannel, noSample}
 use Rattle.heads.specs.Answer.{Answer, answered, refusedAs, refusedBy}
 use Rattle.settings.specs.declared.Settings.{Settings}
-use Rattle.layout.specs.Frame.{Frame, reported, channelIn, samplesOf, offsetBy, placeOf}
+use Rattle.layout.specs.Frame.{Frame, reported, channelIn, samplesOf, placeOf}
 use Rattle.laid.specs.Laid.{sampleBits}
-use Rattle.pass.specs.declared.View.{View}
+use Rattle.view.specs.declared.View.{View}
+use Rattle.view.specs.View.{viewOf}
 use Rattle.reader.specs.declared.Attributes.{Attributes}
 use Rattle.reader.specs.declared.Described.{Described}
 use Rattle.reader.specs.declared.LookedUp.{LookedUp}
@@ -21,7 +22,7 @@ use Rattle.reader.specs.declared.Placed.the-variants.{At}
 use Rattle.reader.specs.declared.Sampled.{Sampled}
 use Rattle.reader.specs.declared.Sampled.the-variants.{Sample}
 use Rattle.verdict.specs.Verdict.{Verdict, accepted, refused, verdict}
-use Rattle.pass.specs.Scan.{zeroFrame, viewOf}
+use Rattle.pass.specs.Scan.{zeroFrame}
 
 -- ---- what the answers say
 
@@ -112,7 +113,3 @@ seenOf s frame channel = asked (λ f. answered (viewOf channel f)) frame channel
 -- The place of the sample that a question names, with its channel as the pass keeps it.
 unfoldable pub placedOf : List ℕ → ℕ → ℕ → ℕ → Answer FoundPlace
 placedOf s frame channel n = askedSample (λ f. foundPlace (placeOf channel n f) (viewOf channel f)) frame channel n (verdict s)
-
--- The place of a sample of a channel that is seen.
-unfoldable pub placeSeen : View → ℕ → ℕ
-placeSeen v n = v .place + offsetBy (v .settings) (v .octets) (v .below) n

@@ -5,17 +5,17 @@
 // a refusal. All are thin over `pass::scan_file`, which walks the file once.
 // Read first: in crate pass specs/Verdict.antt (the file), then specs/Answer.antt (the questions).
 ghost use mathlib.Core.Path.{_≡_};
-ghost use Prim.Native.Nat.{_^_, _<_};
 ghost use Rattle.layout.specs.Frame.{reported};
 ghost use Rattle.verdict.specs.Verdict.{checkedSays, checkOf};
-ghost use Rattle.reader.specs.Answer.{describedSays, sampledSays, lookedUpSays, placedSays, attributesWith, attributesOf, placeSeen, placedOf, sampleOf, seenOf};
+ghost use Rattle.reader.specs.Answer.{describedSays, sampledSays, lookedUpSays, placedSays, attributesWith, attributesOf, placedOf, sampleOf, seenOf};
 use heads::Refusal;
 use pass::Asked;
 use pass::Found;
-use pass::View;
 use settings::Settings;
 use values::Value;
 use verdict::Checked;
+use view::SamplePlace;
+use view::View;
 
 // The attributes of a channel in a frame. The offset of its settings has the sample's width; a null of width 0 is none.
 pub struct Attributes {
@@ -128,35 +128,16 @@ pub enum Placed {
     Refused(Refusal),
 }
 
-// The place of a sample of the channel that is seen.
-fn place_seen(v: View, number: u64) -> usize
-    requires { ⌜ (0 < v .settings .block) × (placeSeen v number < 2 ^ 63) ⌝ }
-    ensures { λ r. ⌜ r ≡ placeSeen v number ⌝ }
-{
-    let c = v.settings;
-    let w = values::width(c.datatype) as u64;
-    let b = c.block as u64;
-    let offset = number / b * v.octets + v.below + number % b * w;
-    (v.place as u64 + offset) as usize
-}
-
 // The place of a sample and its channel: the file's refusal, then 20, 21, 22.
 pub fn place(s: &[u8], frame: u32, channel: u32, number: u64) -> Placed
     ensures { λ r. ⌜ placedSays r ≡ placedOf (now (s .entry)) frame channel number ⌝ }
 {
     match look_up(s, frame, channel) {
         LookedUp::Refused(x) => Placed::Refused(x),
-        LookedUp::Channel(v) => {
-            let c = v.settings;
-            let count = v.sequences as u64 * c.block as u64;
-            if count <= number {
-                return Placed::Refused(Refusal {
-                    number: Refusal::NO_SAMPLE,
-                    place: 0,
-                });
-            }
-            Placed::At(place_seen(v, number), v)
-        }
+        LookedUp::Channel(v) => match v.find(s.len(), number) {
+            SamplePlace::At(at) => Placed::At(at, v),
+            SamplePlace::Refused(x) => Placed::Refused(x),
+        },
     }
 }
 

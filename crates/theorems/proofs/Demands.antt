@@ -16,7 +16,7 @@ use Rattle.layout.specs.Frame.{Frame, placeOf}
 use Rattle.standing.specs.Standing.{octetsLimit}
 use Rattle.verdict.specs.Verdict.{accepted, refused, verdict, checkOf}
 use Rattle.reader.specs.Answer.{attributesIn, attributesOf, sampleIn, sampleOf, seenOf, foundPlace, placedOf}
-use Rattle.pass.specs.Scan.{viewOf}
+use Rattle.view.specs.View.{viewOf}
 use Rattle.bulk.specs.Samples.{readOf}
 use Rattle.canonical.specs.Canonical.{canonical}
 use Rattle.canonical.specs.Write.{recordingOf, Wrote}

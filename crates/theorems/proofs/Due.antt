@@ -13,11 +13,11 @@ use native.Mathlib.Omega.{arith}
 use borrow.Author.Tests.{leb-true}
 use lib.Dec.{leb}
 use Rattle.octets.specs.Pick.{pick, both}
+use Rattle.octets.proofs.Pick.{both-split}
 use Rattle.heads.specs.declared.Refusal.{Refusal}
 use Rattle.heads.specs.Refusals.{longFile}
 use Rattle.items.specs.declared.Within.{Within}
 use Rattle.verdict.specs.Verdict.{State}
-use Rattle.verdict.proofs.Bounds.{both-split}
 use Rattle.theorems.specs.Attributes.{between}
 use Rattle.theorems.specs.Rows.{Row, Due, here, later, itemRows, rowsAt}
 

@@ -16,7 +16,7 @@ use lib.Dec.{ltb, eqb}
 use lib.ListN.{length, drop, take-append-drop, length-drop}
 use lib.Seq.{drop-drop, drop-append-le, take-append-le}
 use Rattle.octets.specs.Pick.{pick}
-use Rattle.octets.proofs.Pick.{pick-cases}
+use Rattle.octets.proofs.Pick.{pick-cases, both-split}
 use Rattle.heads.specs.declared.Head.{Head}
 use Rattle.heads.specs.declared.Refusal.{Refusal}
 use Rattle.heads.specs.Refusals.{longFile}
@@ -32,7 +32,6 @@ use Rattle.standing.specs.Standing.{octetsLimit}
 use Rattle.effects.specs.Effects.{valueAt, effectOf}
 use Rattle.verdict.specs.Verdict.{State, Outcome, goes, refuses, firstState, carried, placeAt, refused, interpret, verdict}
 use Rattle.verdict.proofs.Keeps.{reached-same, meaning, firstCursor, items-first, interpret-refuses, interpret-fault, verdict-law}
-use Rattle.verdict.proofs.Bounds.{both-split}
 use Rattle.theorems.specs.Rows.{lengthField, lengthIn, valueIn, itemRows, endRows, rowsAt}
 use Rattle.theorems.specs.Refusing.{around, ahead, DueAt, Refusing, overLimit, stops}
 use Rattle.verdict.specs.Reached.{Reached, begin, behind}

@@ -26,7 +26,8 @@ use Rattle.standing.specs.Standing.{octetsLimit}
 use Rattle.verdict.specs.Verdict.{Verdict, accepted, refused, verdict, checkedAs, checkOf}
 use Rattle.reader.proofs.Never.{only-limit}
 use Rattle.reader.proofs.Order.{sample-both}
-use Rattle.pass.specs.Scan.{zeroFrame, viewOf}
+use Rattle.pass.specs.Scan.{zeroFrame}
+use Rattle.view.specs.View.{viewOf}
 use Rattle.reader.specs.Answer.{FoundSample, FoundPlace, foundPlace, asked, askedSample, attributesIn, attributesOf, sampleIn, sampleOf, seenOf, placedOf}
 use Rattle.bulk.specs.Samples.{bitsFrom, readOf}
 use Rattle.laid.specs.Laid.{sampleBits}

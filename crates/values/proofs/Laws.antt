@@ -1,7 +1,7 @@
 -- Laws of a sample's value.
 --     nan-yes, nan-no    the test that tells a float that is no number, for any format
 --     type-cases, width-cases    what holds of each data type, and of the widths that they have
---     three, width-le, plain-signed, plain-unsigned    the tables by data type
+--     three, width-some, width-le, plain-signed, plain-unsigned    the tables by data type
 --     width-other, plain-other, past    and at a number that is no type
 --     low-bits, low-below    the bits of the sample's width
 --     null-yes, null-no    null comes first
@@ -15,7 +15,7 @@ use native.Mathlib.Decide.{decLt}
 use native.Mathlib.Nat.{mod-lt, mod-eq-of-lt}
 use native.Mathlib.Omega.{arith}
 use borrow.Author.Tests.{lt-ltb, le-ltb, eq-eqb, ne-eqb}
-use lib.Dec.{T, lit≤}
+use lib.Dec.{T, lit≤, lit<}
 use lib.Ieee.{Format, ofBits, toBits, nanBits, ones, hid, top}
 use lib.Ieee.Bits.{nanBits-is, nanBits-above, toBits-ofBits}
 use lib.IntN.{pos}
@@ -71,6 +71,10 @@ width-cases P one two four eight =
     type-cases (λ (k : ℕ). k ≤ 8 → P (widthOf k))
     (λ _. two) (λ _. two) (λ _. four) (λ _. one) (λ _. two) (λ _. one) (λ _. four) (λ _. four) (λ _. eight)
     (λ k h l. let z : ⊥ = omega arith in absurd z)
+
+-- A sample of a data type has octets.
+pub width-some : (k : ℕ) → k ≤ 8 → 0 < widthOf k
+width-some = width-cases (λ (w : ℕ). 0 < w) (lit< tt) (lit< tt) (lit< tt) (lit< tt)
 
 -- No sample is wider than eight octets.
 pub width-le : (k : ℕ) → widthOf k ≤ 8

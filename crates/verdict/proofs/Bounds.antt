@@ -9,12 +9,10 @@ use Prim.Native.Nat.{ℕ, _≤_, _<_}
 use native.Mathlib.Nat.{mul-pos}
 use native.Mathlib.Omega.{arith}
 use borrow.Author.Tests.{leb-true, eqb-false}
-use lib.Dec.{leb, eqb, lit<}
+use lib.Dec.{leb, eqb}
 use lib.ListN.{length, length-take, length-append, length-replicate, length-set, length-map}
-use Rattle.octets.specs.Pick.{both}
-use Rattle.octets.proofs.Pick.{pick-cases}
-use Rattle.values.specs.Sample.{widthOf}
-use Rattle.values.proofs.Laws.{width-cases}
+use Rattle.octets.proofs.Pick.{pick-cases, both-split}
+use Rattle.values.proofs.Laws.{width-some}
 use Rattle.items.specs.declared.Item.{Item}
 use Rattle.items.specs.declared.Cursor.{Cursor}
 use Rattle.settings.specs.declared.Settings.{Settings}
@@ -32,14 +30,6 @@ use Rattle.verdict.proofs.Every.{Every, every-take}
 use Rattle.verdict.proofs.Tables.{EachAttribute, Table, table-step, table-first}
 
 -- ---- a record in its ranges
-
-pub both-split : (a b : Bool) → both a b ≡ true → (a ≡ true) × (b ≡ true)
-both-split true b e = (refl, e)
-both-split false b e = let z : _≡_ {A = ℕ} 0 1 = cc in let w : ⊥ = omega arith in absurd w
-
--- A sample of a data type has octets.
-width-some : (k : ℕ) → k ≤ lastDataType → 0 < widthOf k
-width-some = width-cases (λ (w : ℕ). 0 < w) (lit< tt) (lit< tt) (lit< tt) (lit< tt)
 
 -- Each value is in its range; this needs nothing of the octets.
 abbrev InRange : Change → Type 0

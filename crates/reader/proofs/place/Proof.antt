@@ -1,8 +1,9 @@
--- By the answer of the look-up; a sample that is there lies in its frame's waveform, so that its place is small.
-use Prim.Native.Nat.{_≤_}
-use native.Mathlib.Nat.{mul-le-mul}
-use native.Mathlib.Omega.{arith}
-use Rattle.reader.proofs.Answers.{located, place-refused, place-none, place-small, block-some, place-found}
+-- By the answer of the look-up: the place is the one that is found of what is seen, and the samples that are seen lie in the file.
+use mathlib.Core.Path.{sym, ap, _∙_}
+use Rattle.heads.specs.Answer.{mapAnswer}
+use Rattle.view.specs.View.{samplePlaceSays}
+use Rattle.reader.specs.Answer.{foundPlace, placedOf}
+use Rattle.reader.proofs.Answers.{located, unseen, placed-seen}
 use borrow.Author.Needs.{needs}
 use Rattle.reader.proofs.place.Statement.{statement}
 use Rattle.reader.proofs.place.Tie as tie
@@ -16,35 +17,36 @@ enum-known-x c = search needs
 enum-known-v : tie.Need-enum-known-v
 enum-known-v c = search needs
 
-cast-count : tie.Need-cast-count
-cast-count c = search needs
+find-requires : tie.Need-find-requires
+find-requires c κs = search needs
 
-cast-count-2 : tie.Need-cast-count-2
-cast-count-2 c = search needs
+enum-known-at : tie.Need-enum-known-at
+enum-known-at c = search needs
 
-mul-count : tie.Need-mul-count
-mul-count c =
-    let p : c .before .before .before .before .v .given .0 .0 .sequences ≤ 4294967295 = omega arith in
-    let q : c .before .before .before .before .v .given .0 .0 .settings .block ≤ 4294967295 = omega arith in
-    omega (arith, mul-le-mul p q)
+enum-known-x-2 : tie.Need-enum-known-x-2
+enum-known-x-2 c = search needs
 
 returns : tie.Need-returns
-returns c =
-    let l = located _ _ _ _ (c .before .before .before .before .before .before .before .look-up .ensures) (c .before .before .before .before .before .v .given .1) in
-    place-none l (c .if1 .taken)
-
-place-seen-requires : tie.Need-place-seen-requires
-place-seen-requires c κs =
-    let l = located _ _ _ _ (c .before .before .before .before .before .before .before .look-up .ensures) (c .before .before .before .before .before .v .given .1) in
-    (block-some l (c .if1 .left), place-small l (c .if1 .left))
+unfolding placedOf
+returns c = unseen _ _ _ _ _ _ (c .before .before .before .look-up .ensures) (c .before .x .given .1)
 
 returns-2 : tie.Need-returns-2
-returns-2 c = place-refused _ _ _ _ _ (c .before .before .before .look-up .ensures) (c .before .x .given .1)
+returns-2 c =
+    let at-find = c .before .before .before in
+    let at-v = at-find .before .before in
+    let at-look-up = at-v .before .before in
+    let l = located _ _ _ _ (at-look-up .look-up .ensures) (at-v .v .given .1) in
+    let found = ap samplePlaceSays (sym (c .before .at .given .1)) ∙ at-find .find .ensures in
+    ap (mapAnswer (λ at. foundPlace at (at-v .v .given .0 .0))) found ∙ placed-seen l (λ i. at-look-up .before .shared-slice-known .given i .fits) _
 
 returns-3 : tie.Need-returns-3
 returns-3 c =
-    let l = located _ _ _ _ (c .before .before .before .before .before .before .before .before .look-up .ensures) (c .before .before .before .before .before .before .v .given .1) in
-    place-found l (c .before .if1 .left) (c .place-seen .ensures)
+    let at-find = c .before .before .before in
+    let at-v = at-find .before .before in
+    let at-look-up = at-v .before .before in
+    let l = located _ _ _ _ (at-look-up .look-up .ensures) (at-v .v .given .1) in
+    let found = ap samplePlaceSays (sym (c .before .x2 .given .1)) ∙ at-find .find .ensures in
+    ap (mapAnswer (λ at. foundPlace at (at-v .v .given .0 .0))) found ∙ placed-seen l (λ i. at-look-up .before .shared-slice-known .given i .fits) _
 
 pub place-spec : {M : Type 1} → statement M
 place-spec =
@@ -53,10 +55,9 @@ place-spec =
     look-up-requires
     enum-known-x
     enum-known-v
-    cast-count
-    cast-count-2
-    mul-count
+    find-requires
+    enum-known-at
+    enum-known-x-2
     returns
-    place-seen-requires
     returns-2
     returns-3)

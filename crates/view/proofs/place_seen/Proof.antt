@@ -1,9 +1,9 @@
 -- Every sum on the way is at most the place, which is small.
 use native.Mathlib.Omega.{arith}
-use Rattle.reader.proofs.Answers.{place-sum}
+use Rattle.view.proofs.Lying.{place-sum}
 use borrow.Author.Needs.{needs}
-use Rattle.reader.proofs.place_seen.Statement.{statement}
-use Rattle.reader.proofs.place_seen.Tie as tie
+use Rattle.view.proofs.place_seen.Statement.{statement}
+use Rattle.view.proofs.place_seen.Tie as tie
 
 width-requires : tie.Need-width-requires
 width-requires c κs = search needs
