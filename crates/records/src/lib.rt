@@ -4,7 +4,8 @@
 // the lowest octets of its word, so that any words at all are records.
 // Promises, for any words and any number of a record: `get` answers a record, `put` stores one, and `clear` sends all channels back to the root
 // settings. Where there is no such record `get` answers zeros and `put` stores nothing. Words of no record's numbers stay as they are. `settled` answers
-// what stands for a record's channel, `at_most` how many of so many channels have records, and `layout_in` their layout.
+// what stands for a record's channel, `at_most` how many of so many channels have records, and `layout_in` their layout. `words_of` answers the words
+// of a record's numbers and `signed_word` that of a signed number, for others that keep numbers so.
 // Read first: specs/Records.antt.
 ghost use mathlib.Core.Path.{_≡_};
 ghost use mathlib.Core.List.{map};
@@ -33,7 +34,7 @@ impl Records {
     pub const TABLE: usize = Settings::CHANNELS * Records::WORDS;
 
     // Numbers of a record.
-    const NUMBERS: usize = 15;
+    pub const NUMBERS: usize = 15;
 
     // The word of a record's time.
     const TIME: usize = 14;
@@ -152,7 +153,7 @@ pub fn get(t: &[u64], k: usize) -> Dated
 }
 
 // The word of a signed number: its two's complement.
-fn signed_word(z: i64) -> u64
+pub fn signed_word(z: i64) -> u64
     ensures { λ r. ⌜ twos 8 r ≡ z ⌝ }
 {
     if z < 0 {
@@ -162,7 +163,7 @@ fn signed_word(z: i64) -> u64
 }
 
 // The words of a record's numbers.
-fn words_of(x: Dated) -> [u64; Records::NUMBERS]
+pub fn words_of(x: Dated) -> [u64; Records::NUMBERS]
     ensures { λ r. ⌜ recordBy (λ a. getD r a 0) ≡ x ⌝ }
 {
     let s = x.settings;
