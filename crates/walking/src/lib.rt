@@ -1,14 +1,18 @@
 // A walk that a caller holds as plain words.
 //
-// Promises, for any words and any octets: `head_at` and `waveform_at` answer what words hold, and `keep` stores it. A number is that of the lowest octets of its
-// word, so that any words at all are a walk; words too few for a head stay as they are.
-// Read first: crate walk, then specs/Words.antt.
+// The first words hold the head and what the last step told of a frame, the rest the channels' records. A number is that of the lowest octets of its
+// word, so that any words at all are some walk.
+// Promises, for any words and any octets: `head_at` and `waveform_at` answer what words hold, and `keep` stores it. `open` checks a file, and the words begin
+// a walk over one that is accepted; `next` goes from where they stand to the next frame, the end or the refusal. Words too few for a head stay as they
+// are, and are at the end. That the frames of an opened file are the verdict's is proved in proofs/Walks.antt.
+// Read first: crate walk, then specs/Words.antt and specs/Steps.antt.
 ghost use mathlib.Core.Path.{_≡_};
 ghost use Prim.Native.Nat.{_+_, _≤_};
 ghost use lib.ListN.{length, getD};
 ghost use Rattle.octets.specs.Number.{lowOf, twos};
 ghost use Rattle.records.specs.Records.{wordsAt, Overlaid};
-ghost use Rattle.walking.specs.Words.{headPlace, flagOf, withinBy, cursorBy, standingBy, timesBy, headBy, rootOf, toldBy, headIn, waveformIn, Keeping};
+ghost use Rattle.walking.specs.Words.{headWords, headPlace, flagOf, withinBy, cursorBy, standingBy, timesBy, headBy, rootOf, toldBy, headIn, waveformIn, Keeping};
+ghost use Rattle.walking.specs.Steps.{noWaveform, frameTold, Begins, Opens, Goes};
 use dated::Dates;
 use dated::Times;
 use items::Cursor;
@@ -16,7 +20,9 @@ use items::Within;
 use records::Records;
 use settings::Settings;
 use standing::Standing;
+use verdict::Checked;
 use walk::Head;
+use walk::Step;
 use walk::Waveform;
 
 // The sizes of a walk kept in words.
@@ -29,8 +35,12 @@ impl Walking {
     // Words of a walk that has a record for each channel that a frame may have.
     pub const WORDS: usize = Walking::HEAD + Records::TABLE;
 
-    // Numbers of the head besides its record, and of a frame.
+    // The numbers of the head stand behind its record, in words 16 to 35, and those of a frame behind them, in words 36 to 42.
+    const HEAD_PLACE: usize = Records::WORDS;
+
     const HEAD_NUMBERS: usize = 20;
+
+    const WAVEFORM_PLACE: usize = Walking::HEAD_PLACE + Walking::HEAD_NUMBERS;
 
     const WAVEFORM_NUMBERS: usize = 7;
 }
@@ -248,7 +258,74 @@ pub fn keep(w: &mut [u64], h: Head, v: Waveform)
     let dates = h.dates;
     let st = h.standing;
     let root = records::words_of(dates.note(st.root));
-    store(w, 16, &numbers);
-    store(w, 36, &frame);
+    store(w, Walking::HEAD_PLACE, &numbers);
+    store(w, Walking::WAVEFORM_PLACE, &frame);
     store(w, 0, &root);
+}
+
+// No frame.
+fn no_waveform() -> Waveform
+    ensures { λ r. ⌜ r ≡ noWaveform ⌝ }
+{
+    Waveform {
+        start: 0,
+        channels: 0,
+        sequences: 0,
+        little: false,
+        place: 0,
+        len: 0,
+        octets: 0,
+    }
+}
+
+// What a step tells of a frame.
+fn frame_told(step: Step) -> Waveform
+    ensures { λ r. ⌜ r ≡ frameTold step ⌝ }
+{
+    match step {
+        Step::Frame(v) => v,
+        Step::Ended => no_waveform(),
+        Step::Refused(_) => no_waveform(),
+    }
+}
+
+// Words that can hold a head begin a walk.
+fn begin(w: &mut [u64])
+    requires { ⌜ headWords ≤ length (now w) ⌝ }
+    ensures { λ _. ⌜ Begins (now (w .entry)) (now (w .exit)) ⌝ }
+{
+    let rest = Walking::HEAD;
+    records::clear(&mut w[rest..]);
+    keep(w, Head::first(), no_waveform());
+}
+
+// Checks a file; the words begin a walk over one that is accepted.
+pub fn open(s: &[u8], w: &mut [u64]) -> Checked
+    ensures { λ r. ⌜ Opens (now (s .entry)) (now (w .entry)) r (now (w .exit)) ⌝ }
+{
+    match reader::check(s) {
+        Checked::Refused(x) => Checked::Refused(x),
+        Checked::Frames(n) => {
+            if w.len() < Walking::HEAD {
+                return Checked::Frames(n);
+            }
+            begin(w);
+            Checked::Frames(n)
+        }
+    }
+}
+
+// From where words stand to the next frame, the end or the refusal.
+pub fn next(s: &[u8], w: &mut [u64]) -> Step
+    ensures { λ r. ⌜ Goes (now (s .entry)) (now (w .entry)) r (now (w .exit)) ⌝ }
+{
+    if w.len() < Walking::HEAD {
+        return Step::Ended;
+    }
+    let rest = Walking::HEAD;
+    let h = head_at(w);
+    let m = walk::advance(s, h, &mut w[rest..]);
+    let step = m.step;
+    keep(w, m.head, frame_told(step));
+    step
 }
