@@ -6,6 +6,7 @@
 // the root settings. Where there is no such record `get` answers zeros and `put` stores nothing. Words of no record's numbers stay as they are. `settled`
 // answers what stands for a record's channel, `at_most` how many of so many channels have records, and `layout_in` the layout that their records give.
 // `refresh` brings the records of so many channels up to date, keeps the octets below each, and answers the layout.
+// `words_of` answers the words of a record's numbers and `signed_word` that of a signed number, for others that keep numbers so.
 // Read first: specs/Records.antt.
 ghost use mathlib.Core.Path.{_≡_};
 ghost use mathlib.Core.List.{map};
@@ -35,7 +36,7 @@ impl Records {
     pub const TABLE: usize = Settings::CHANNELS * Records::WORDS;
 
     // Numbers of a record.
-    const NUMBERS: usize = 15;
+    pub const NUMBERS: usize = 15;
 
     // The word of a record's time.
     const TIME: usize = 14;
@@ -157,7 +158,7 @@ pub fn get(t: &[u64], k: usize) -> Dated
 }
 
 // The word of a signed number: its two's complement.
-fn signed_word(z: i64) -> u64
+pub fn signed_word(z: i64) -> u64
     ensures { λ r. ⌜ twos 8 r ≡ z ⌝ }
 {
     if z < 0 {
@@ -167,7 +168,7 @@ fn signed_word(z: i64) -> u64
 }
 
 // The words of a record's numbers.
-fn words_of(x: Dated) -> [u64; Records::NUMBERS]
+pub fn words_of(x: Dated) -> [u64; Records::NUMBERS]
     ensures { λ r. ⌜ recordBy (λ a. getD r a 0) ≡ x ⌝ }
 {
     let s = x.settings;

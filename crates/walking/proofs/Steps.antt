@@ -1,0 +1,142 @@
+-- Laws of a walk begun and gone on with, in words.
+--     begun                 a walk begun
+--     opens-refused, opens-few, opens-begun    the words of a refused file, too few words, and words that begin a walk
+--     goes-few, goes-on     too few words, and words that go on
+-- Assumes nothing.
+use mathlib.Core.Path.{_≡_, refl, sym, ap, _∙_}
+use mathlib.Core.Bool.{Bool, true, false}
+use mathlib.Core.List.{List, [], _++_, append-nil, map}
+use Prim.Native.Nat.{ℕ, _+_, _-_, _≤_, _<_}
+use native.Mathlib.Omega.{arith}
+use borrow.Author.Tests.{le-leb, lt-leb}
+use lib.ListN.{length, take, drop, length-drop, length-append, drop-of-length-le}
+use lib.Seq.{take-all, drop-at, length-take-le}
+use Rattle.octets.specs.Pick.{pick}
+use Rattle.heads.specs.declared.Refusal.{Refusal}
+use Rattle.heads.specs.Answer.{Answer}
+use Rattle.records.specs.Records.{recordsIn, outdated, Holding}
+use Rattle.verdict.specs.declared.Checked.{Checked}
+use Rattle.verdict.specs.Verdict.{checkedSays, checkOf}
+use Rattle.walk.specs.declared.Waveform.{Waveform}
+use Rattle.walk.specs.declared.Step.{Step}
+use Rattle.walk.specs.declared.Head.{Head}
+use Rattle.walk.specs.declared.Moved.{Moved}
+use Rattle.dated.specs.Dated.{firstDates}
+use Rattle.standing.specs.Standing.{firstStanding}
+use Rattle.walk.specs.Advance.{stand, stop, advanceOf, standOf, firstHead, Advances}
+use Rattle.walking.specs.Words.{headWords, headIn, waveformIn, standIn, Keeping}
+use Rattle.walking.specs.Steps.{noWaveform, frameTold, holdsHead, walkBegins, begunIn, Begins, Opens, stepIn, Goes}
+
+-- ---- whether words can hold a head
+
+module _ (u : List ℕ) {A : Type 0} (a b : A) where
+  can-hold : headWords ≤ length u → pick (holdsHead u) a b ≡ a
+  can-hold h = ap (λ (t : Bool). pick t a b) (le-leb headWords (length u) h)
+
+  cannot-hold : length u < headWords → pick (holdsHead u) a b ≡ b
+  cannot-hold h = ap (λ (t : Bool). pick t a b) (lt-leb headWords (length u) h)
+
+-- ---- the words from a place on, lent and given back
+
+-- They are lent to their end.
+abbrev lent : ℕ → List ℕ → List ℕ
+lent n u = take (length u - n) (drop n u)
+
+-- The words once x are given back.
+abbrev given-back : ℕ → List ℕ → List ℕ → List ℕ
+given-back n u x = take n u ++ (x ++ drop (length u - n) (drop n u))
+
+lent-all : (n : ℕ) (u : List ℕ) → lent n u ≡ drop n u
+lent-all n u = take-all (length u - n) (drop n u) (omega (arith, length-drop n u))
+
+module _ (n : ℕ) (u x : List ℕ) (room : n ≤ length u) where
+  nothing-behind : drop (length u - n) (drop n u) ≡ []
+  nothing-behind = let h : length (drop n u) ≤ length u - n = omega (arith, length-drop n u) in drop-of-length-le (drop n u) h
+
+  back-behind : drop n (given-back n u x) ≡ x
+  back-behind = drop-at (take n u) (x ++ drop (length u - n) (drop n u)) n (length-take-le n u room) ∙ ap (λ (l : List ℕ). x ++ l) nothing-behind ∙ append-nil x
+
+  back-long : length x ≡ length (lent n u) → length (given-back n u x) ≡ length u
+  back-long l =
+      let m : length x ≡ length (drop n u) = l ∙ ap length (lent-all n u) in
+      simp (length-append, length-take-le n u room, nothing-behind) (omega (arith, length-drop n u))
+
+-- A head stored then, in words that can hold one.
+module _ (u x : List ℕ) (room : headWords ≤ length u) where
+  module _ {h : Head} {f : Waveform} {v : List ℕ} (l : length x ≡ length (lent headWords u)) (p : Keeping (given-back headWords u x) h f v) where
+    behind-kept : drop headWords v ≡ x
+    behind-kept = p .rest ∙ back-behind headWords u x room
+
+    long-kept : length v ≡ length u
+    long-kept = p .long ∙ back-long headWords u x room l
+
+    head-kept : headIn v ≡ h
+    head-kept = p .head (omega (arith, back-long headWords u x room l))
+
+    frame-kept : waveformIn v ≡ f
+    frame-kept = p .waveform (omega (arith, back-long headWords u x room l))
+
+    stand-kept : standIn v ≡ standOf h x
+    stand-kept = λ i. standOf (head-kept i) (behind-kept i)
+
+    -- ---- a walk begun
+
+    pub begun : Holding (lent headWords u) (map outdated (recordsIn (lent headWords u))) x → h ≡ firstHead → f ≡ noWaveform → Begins u v
+    begun c e d =
+        record {
+          stands = stand-kept ∙ (λ i. stand (e i .cursor) (e i .standing) (e i .dates) (c .records i) (e i .items) (e i .frames)) ∙ ap (λ (w : List ℕ). stand (firstHead .cursor) firstStanding firstDates (map outdated (recordsIn w)) 0 0) (lent-all headWords u);
+          tells = frame-kept ∙ d;
+          long = long-kept;
+        }
+
+    -- ---- a walk gone on with
+
+    pub goes-on : {s : List ℕ} {g : Head} {k : Step} → Advances s g (lent headWords u) (record { step = k; head = h }) x → g ≡ headIn u → f ≡ frameTold k → Goes s u k v
+    goes-on {s} {g} {k} a e d =
+        record {
+          same = ap (stop k) stand-kept ∙ a .same ∙ (λ i. advanceOf s (standOf (e i) (lent-all headWords u i))) ∙ sym (can-hold u (advanceOf s (standIn u)) (stop Step.Ended (standIn u)) room);
+          tells = frame-kept ∙ d ∙ sym (can-hold u (frameTold k) (waveformIn u) room);
+          long = long-kept;
+          stays = λ t. let q : true ≡ false = sym (le-leb headWords (length u) room) ∙ t in let y : _≡_ {A = ℕ} 0 1 = cc in let z : ⊥ = omega arith in absurd z;
+        }
+
+-- Too few words stay as they are, and are at the end.
+pub goes-few : (s u : List ℕ) → length u < headWords → Goes s u Step.Ended u
+goes-few s u h =
+    record {
+      same = sym (cannot-hold u (advanceOf s (standIn u)) (stop Step.Ended (standIn u)) h);
+      tells = sym (cannot-hold u (frameTold Step.Ended) (waveformIn u) h);
+      long = refl;
+      stays = λ t. refl;
+    }
+
+-- ---- a file opened
+
+module _ (s u : List ℕ) where
+  -- No word is changed.
+  opens-not : {r : Checked} → checkedSays r ≡ checkOf s → walkBegins (checkOf s) u ≡ false → Opens s u r u
+  opens-not e t =
+      record {
+        answers = e;
+        stands = sym (ap (λ (b : Bool). pick b (begunIn u) (standIn u)) t);
+        tells = sym (ap (λ (b : Bool). pick b noWaveform (waveformIn u)) t);
+        long = refl;
+        stays = λ q. refl;
+      }
+
+  pub opens-refused : {x : Refusal} → checkedSays (Checked.Refused x) ≡ checkOf s → Opens s u (Checked.Refused x) u
+  opens-refused e = opens-not e (ap (λ (a : Answer ℕ). walkBegins a u) (sym e))
+
+  pub opens-few : {n : ℕ} → length u < headWords → checkedSays (Checked.Frames n) ≡ checkOf s → Opens s u (Checked.Frames n) u
+  opens-few h e = opens-not e (ap (λ (a : Answer ℕ). walkBegins a u) (sym e) ∙ lt-leb headWords (length u) h)
+
+  pub opens-begun : {n : ℕ} {v : List ℕ} → headWords ≤ length u → checkedSays (Checked.Frames n) ≡ checkOf s → Begins u v → Opens s u (Checked.Frames n) v
+  opens-begun h e b =
+      let t : walkBegins (checkOf s) u ≡ true = ap (λ (a : Answer ℕ). walkBegins a u) (sym e) ∙ le-leb headWords (length u) h in
+      record {
+        answers = e;
+        stands = b .stands ∙ sym (ap (λ (b : Bool). pick b (begunIn u) (standIn u)) t);
+        tells = b .tells ∙ sym (ap (λ (b : Bool). pick b noWaveform (waveformIn u)) t);
+        long = b .long;
+        stays = λ f. let y : _≡_ {A = ℕ} 0 1 = cc in let z : ⊥ = omega arith in absurd z;
+      }
