@@ -1,6 +1,7 @@
 -- Where a walk of a file stands, and that the frames it stops at are the verdict's.
 --     Reaches            the file's items lead to where the walk stands, with these frames met
 --     reaches-first, reaches-cleared    before the first item
+--     Counts             what a waveform says of its frame
 --     advance-reaches    an advance leads on: behind one frame more, or to the verdict
 --     joined-verdict     the frames that successive advances stop at, joined
 -- Assumes nothing.
@@ -40,6 +41,7 @@ use Rattle.verdict.specs.Reached.{Reached, begin, behind as one-behind}
 use Rattle.verdict.proofs.Keeps.{interpret-refuses, reached-verdict}
 use Rattle.verdict.proofs.Frames.{frame-carried, count-few, taken-root}
 use Rattle.verdict.proofs.Settled.{carried-count, carried-all, carried-one}
+use Rattle.walk.specs.declared.Waveform.{Waveform}
 use Rattle.walk.specs.declared.Step.{Step}
 use Rattle.walk.specs.Advance.{Stand, stand, firstStand, standsFor, channelsAt, recordsAt, Turn, on, stops, behind, framedTurn, oneNoted, effectTurn, nextTurn, turnOf, advanceOf}
 use Rattle.walk.specs.Joined.{frameBy, joinedBy, joinedIn, joined}
@@ -77,9 +79,14 @@ reaches-cleared s xs h e =
       reached = subst (λ (u : List Settings). Reached s (state firstStanding u []) (cursor 0 Root)) (sym (table-outdated defaultSettings firstDates xs ∙ ap (λ (n : ℕ). replicate n defaultSettings) e)) begin;
     }
 
+-- A waveform says how many channels its frame has, and the octets of a sequence.
+pub record Counts (v : Waveform) (f : Frame) : Type 0 where
+  pub channels : v .channels ≡ length (f .channels)
+  pub octets : v .octets ≡ sequenceOctets (f .channels)
+
 -- What an advance from a place comes to: behind one frame more, or the verdict.
 abbrev pub StepReaches : List ℕ → List Frame → ℕ → Step → Stand → Type 0
-StepReaches s met at (Step.Frame v) y = (at < y .cursor .at) × (y .cursor .at ≤ length s) × Reaches s (met ++ (frameBy s v y ∷ [])) y
+StepReaches s met at (Step.Frame v) y = (at < y .cursor .at) × (y .cursor .at ≤ length s) × Reaches s (met ++ (frameBy s v y ∷ [])) y × Counts v (frameBy s v y)
 StepReaches s met at Step.Ended y = accepted met ≡ verdict s
 StepReaches s met at (Step.Refused r) y = refused r ≡ verdict s
 
@@ -152,8 +159,9 @@ module _ {s : List ℕ} {met : List Frame} {x : Stand} (p : Reaches s met x) whe
           let same : standsFor x ≡ settledIn (st .root) (x .dates) (recordsAt x) =
           sym (settled-refreshed (x .standing .root) (x .dates) (p .kept .sound) most (x .records)) ∙ ap (λ (r : Settings). settledIn r (x .dates) (recordsAt x)) (sym root) in
           let hold : channelsAt x ≡ take most (held (recordsAt x)) = sym (held-refreshed (x .standing .root) (x .dates) most (x .records)) in
-          let channels : take count (standsFor x) ≡ take (length (channelsAt x)) (held (recordsAt x)) =
-          sym shown ∙ hold ∙ sym (take-again most (held (recordsAt x))) ∙ ap (λ (u : List Settings). take (length u) (held (recordsAt x))) (sym hold) in (
+          let there : channelsAt x ≡ take (length (channelsAt x)) (held (recordsAt x)) =
+          hold ∙ sym (take-again most (held (recordsAt x))) ∙ ap (λ (u : List Settings). take (length u) (held (recordsAt x))) (sym hold) in
+          let channels : take count (standsFor x) ≡ take (length (channelsAt x)) (held (recordsAt x)) = sym shown ∙ there in (
             forward .1,
             forward .2,
             record {
@@ -176,6 +184,7 @@ module _ {s : List ℕ} {met : List Frame} {x : Stand} (p : Reaches s met x) whe
                     waveform = take len (drop start s);
                   } ∷ [])))));
             },
+            record { channels = ap length there; octets = ap sequenceOctets there },
           )
       framed-reaches (Framed.Refused n) e = refuses-here n (frame-carried (p .long) (p .reached) (p .count) 0 laid refl i start len a refl e)
 
@@ -211,7 +220,7 @@ module _ {s : List ℕ} {met : List Frame} {x : Stand} (p : Reaches s met x) whe
 -- ---- an advance
 
 further-back : (s : List ℕ) (met : List Frame) {a b : ℕ} → a ≤ b → (k : Step) (y : Stand) → StepReaches s met b k y → StepReaches s met a k y
-further-back s met h (Step.Frame v) y r = (omega (arith, r .0), r .1, r .2)
+further-back s met h (Step.Frame v) y r = (omega (arith, r .0), r .1, r .2, r .3)
 further-back s met h Step.Ended y r = r
 further-back s met h (Step.Refused q) y r = r
 
