@@ -1,5 +1,7 @@
 -- Laws of a walk begun and gone on with, in words.
+--     can-hold              words that can hold a head
 --     begun                 a walk begun
+--     begins-when           words that begin a walk
 --     opens-refused, opens-few, opens-begun    the words of a refused file, too few words, and words that begin a walk
 --     goes-few, goes-on     too few words, and words that go on
 -- Assumes nothing.
@@ -30,7 +32,7 @@ use Rattle.walking.specs.Steps.{noWaveform, frameTold, holdsHead, walkBe
 -- ---- whether words can hold a head
 
 module _ (u : List ℕ) {A : Type 0} (a b : A) where
-  can-hold : headWords ≤ length u → pick (holdsHead u) a b ≡ a
+  pub can-hold : headWords ≤ length u → pick (holdsHead u) a b ≡ a
   can-hold h = ap (λ (t : Bool). pick t a b) (le-leb headWords (length u) h)
 
   cannot-hold : length u < headWords → pick (holdsHead u) a b ≡ b
@@ -130,13 +132,20 @@ module _ (s u : List ℕ) where
   pub opens-few : {n : ℕ} → length u < headWords → checkedSays (Checked.Frames n) ≡ checkOf s → Opens s u (Checked.Frames n) u
   opens-few h e = opens-not e (ap (λ (a : Answer ℕ). walkBegins a u) (sym e) ∙ lt-leb headWords (length u) h)
 
+  -- Words that can hold a head begin a walk over an accepted file.
+  begin-so : {n : ℕ} → headWords ≤ length u → checkedSays (Checked.Frames n) ≡ checkOf s → walkBegins (checkOf s) u ≡ true
+  begin-so h e = ap (λ (a : Answer ℕ). walkBegins a u) (sym e) ∙ le-leb headWords (length u) h
+
+  pub begins-when : {n : ℕ} → headWords ≤ length u → checkedSays (Checked.Frames n) ≡ checkOf s → {A : Type 0} (a b : A) → pick (walkBegins (checkOf s) u) a b ≡ a
+  begins-when h e a b = ap (λ (t : Bool). pick t a b) (begin-so h e)
+
   pub opens-begun : {n : ℕ} {v : List ℕ} → headWords ≤ length u → checkedSays (Checked.Frames n) ≡ checkOf s → Begins u v → Opens s u (Checked.Frames n) v
   opens-begun h e b =
-      let t : walkBegins (checkOf s) u ≡ true = ap (λ (a : Answer ℕ). walkBegins a u) (sym e) ∙ le-leb headWords (length u) h in
+      let t = begin-so h e in
       record {
         answers = e;
-        stands = b .stands ∙ sym (ap (λ (b : Bool). pick b (begunIn u) (standIn u)) t);
-        tells = b .tells ∙ sym (ap (λ (b : Bool). pick b noWaveform (waveformIn u)) t);
+        stands = b .stands ∙ sym (begins-when h e (begunIn u) (standIn u));
+        tells = b .tells ∙ sym (begins-when h e noWaveform (waveformIn u));
         long = b .long;
         stays = λ f. let y : _≡_ {A = ℕ} 0 1 = cc in let z : ⊥ = omega arith in absurd z;
       }

@@ -4,7 +4,7 @@
 // word, so that any words at all are some walk.
 // Promises, for any words and any octets: `head_at` and `waveform_at` answer what words hold, and `keep` stores it. `open` checks a file, and the words begin
 // a walk over one that is accepted; `next` goes from where they stand to the next frame, the end or the refusal. Words too few for a head stay as they
-// are, and are at the end. That the frames of an opened file are the verdict's is proved in proofs/Walks.antt.
+// are, and are at the end. That the frames of an opened file are the verdict's is proved in proofs/Walked.antt.
 // Read first: crate walk, then specs/Words.antt and specs/Steps.antt.
 ghost use mathlib.Core.Path.{_≡_};
 ghost use Prim.Native.Nat.{_+_, _≤_};
