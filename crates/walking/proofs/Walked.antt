@@ -18,7 +18,7 @@ use Rattle.verdict.specs.declared.Checked.{Checked}
 use Rattle.verdict.specs.Verdict.{accepted, refused, verdict}
 use Rattle.walk.specs.declared.Waveform.{Waveform}
 use Rattle.walk.specs.declared.Step.{Step}
-use Rattle.walk.specs.Advance.{Stand, Stop, stop, advanceOf}
+use Rattle.walk.specs.Advance.{Stop, stop, advanceOf}
 use Rattle.walk.specs.Joined.{frameBy}
 use Rattle.walk.proofs.Joins.{Reaches, StepReaches, reaches-cleared, advance-reaches}
 use Rattle.reader.proofs.Ordered.{accepted-small}
