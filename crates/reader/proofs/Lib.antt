@@ -4,3 +4,4 @@ pub mod Never
 pub mod There
 pub mod Order
 pub mod Answers
+pub mod Checks

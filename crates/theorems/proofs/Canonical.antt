@@ -26,13 +26,13 @@ use Rattle.layout.specs.Frame.{Frame}
 use Rattle.standing.specs.Standing.{octetsLimit}
 use Rattle.verdict.specs.Verdict.{Verdict, accepted, refused, verdict, checkOf}
 use Rattle.reader.proofs.Ordered.{accepted-few}
+use Rattle.reader.proofs.Checks.{check-accepted}
 use Rattle.canonical.specs.Recording.{Recorded, recordedFrame, recording}
 use Rattle.canonical.specs.Canonical.{canonical}
 use Rattle.canonical.specs.Write.{framesIn, recordingOf, fits, outputIn, writtenOf, leftOf, Wrote}
 use Rattle.canonical.proofs.ReadBack.{Reads, read-back}
 use Rattle.canonical.proofs.Accepted.{accepted-recorded}
 use Rattle.mfer.specs.Answers.{Outputs, outputs, handedOut, countOut, CanonicalOut}
-use Rattle.theorems.proofs.Questions.{check-accepted}
 use Rattle.theorems.proofs.EntryPoints.{refused-answers}
 use Rattle.theorems.proofs.Exactly.{refused-numbered}
 

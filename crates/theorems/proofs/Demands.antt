@@ -22,7 +22,8 @@ use Rattle.canonical.specs.Canonical.{canonical}
 use Rattle.canonical.specs.Write.{recordingOf, Wrote}
 use Rattle.mfer.specs.Answers.{outputs, CanonicalOut}
 use Rattle.reader.proofs.Ordered.{endOf}
-use Rattle.theorems.proofs.Questions.{frameNumber, ByChannel, BySample, check-accepted, check-refused, accepted-or-refused, limit-exactly, limit-place, attributes-answered, channel-answered, sample-answered, place-answered, bitsRead, samples-answered, same-place}
+use Rattle.reader.proofs.Checks.{check-accepted, check-refused}
+use Rattle.theorems.proofs.Questions.{frameNumber, ByChannel, BySample, accepted-or-refused, limit-exactly, limit-place, attributes-answered, channel-answered, sample-answered, place-answered, bitsRead, samples-answered, same-place}
 use Rattle.theorems.proofs.Places.{Name, Exists, NamedSample, Belongs, InWaveform, Owned, sample-exists, sample-inside, samples-apart, octet-owned}
 use Rattle.theorems.proofs.Waveforms.{PartOfFile, waveform-part, waveforms-apart}
 use Rattle.theorems.proofs.EntryPoints.{AnsweredBy, HandedOut, BuffersKept, refused-answers, handed-out, buffers-kept}

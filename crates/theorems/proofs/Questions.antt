@@ -1,6 +1,6 @@
 -- What the check and the questions answer, and exactly when.
 --     tested             three tests met in order: the first that fails decides
---     check-accepted, check-refused, accepted-or-refused    the check's answer is the verdict's
+--     accepted-or-refused    every file is one or the other
 --     limit-exactly, limit-place    15 comes first
 --     ByChannel, by-channel    on an accepted file a question that names a channel answers 20, 21, or what is asked for
 --     BySample, by-sample      one that names a sample answers 20, 21, 22, or what is asked for
@@ -23,8 +23,9 @@ use Rattle.heads.specs.Answer.{Answer, answered, refusedAs, mapAnswer}
 use Rattle.items.specs.Walk.{refusal}
 use Rattle.layout.specs.Frame.{Frame, samplesOf, placeOf}
 use Rattle.standing.specs.Standing.{octetsLimit}
-use Rattle.verdict.specs.Verdict.{Verdict, accepted, refused, verdict, checkedAs, checkOf}
+use Rattle.verdict.specs.Verdict.{Verdict, accepted, refused, verdict, checkOf}
 use Rattle.reader.proofs.Never.{only-limit}
+use Rattle.reader.proofs.Checks.{check-refused}
 use Rattle.reader.proofs.Order.{sample-both}
 use Rattle.pass.specs.Scan.{zeroFrame}
 use Rattle.view.specs.View.{viewOf}
@@ -95,28 +96,6 @@ module _ {A : Type 0} (number : A → ℕ) (x p q r : A) (numbered : Numbered nu
       }
 
 -- ---- the check
-
-check-by : (v : Verdict) (n : ℕ) → checkedAs v ≡ answered n → (fs : List Frame) × (v ≡ accepted fs) × (length fs ≡ n)
-unfolding checkedAs
-check-by (accepted fs) n e = (fs, refl, cc)
-check-by (refused r) n e = let z : _≡_ {A = ℕ} 0 1 = cc in let w : ⊥ = omega arith in absurd w
-
--- The check counts the frames of an accepted file, and of no other.
-pub check-accepted : (s : List ℕ) (n : ℕ) → (checkOf s ≡ answered n) ↔ ((fs : List Frame) × (verdict s ≡ accepted fs) × (length fs ≡ n))
-unfolding checkOf checkedAs
-check-accepted s n = (check-by (verdict s) n, λ h. ap checkedAs (h .1) ∙ ap answered (h .2))
-
-refused-by : (v : Verdict) (number place : ℕ) → checkedAs v ≡ refusedAs number place → v ≡ refused (refusal number place)
-unfolding checkedAs
-refused-by (accepted fs) number place e = let z : _≡_ {A = ℕ} 0 1 = cc in let w : ⊥ = omega arith in absurd w
-refused-by (refused q) number place e =
-    let n : q .number ≡ number = cc in
-    let p : q .place ≡ place = cc in
-    λ i. refused (refusal (n i) (p i))
-
-pub check-refused : (s : List ℕ) (number place : ℕ) → (checkOf s ≡ refusedAs number place) ↔ (verdict s ≡ refused (refusal number place))
-unfolding checkOf checkedAs
-check-refused s number place = (refused-by (verdict s) number place, ap checkedAs)
 
 pub accepted-or-refused : (s : List ℕ) → ((fs : List Frame) × (verdict s ≡ accepted fs)) ⊎ ((r : Refusal) × (verdict s ≡ refused r))
 accepted-or-refused s = by (verdict s) refl

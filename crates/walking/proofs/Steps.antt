@@ -1,5 +1,7 @@
 -- Laws of a walk begun and gone on with, in words.
+--     can-hold              words that can hold a head
 --     begun                 a walk begun
+--     begins-when           words that begin a walk
 --     opens-refused, opens-few, opens-begun    the words of a refused file, too few words, and words that begin a walk
 --     goes-few, goes-on     too few words, and words that go on
 -- Assumes nothing.
@@ -20,17 +22,19 @@ use Rattle.verdict.specs.Verdict.{checkedSays, checkOf}
 use Rattle.walk.specs.declared.Waveform.{Waveform}
 use Rattle.walk.specs.declared.Step.{Step}
 use Rattle.walk.specs.declared.Head.{Head}
-use Rattle.walk.specs.declared.Moved.{Moved}
 use Rattle.dated.specs.Dated.{firstDates}
 use Rattle.standing.specs.Standing.{firstStanding}
-use Rattle.walk.specs.Advance.{stand, stop, advanceOf, standOf, firstHead, Advances}
+use Rattle.items.specs.declared.Within.the-variants.{Root}
+use Rattle.items.specs.Walk.{cursor}
+use Rattle.dated.specs.declared.Dated.{Dated}
+use Rattle.walk.specs.Advance.{Stand, stand, stop, advanceOf, standOf, firstHead, Advances}
 use Rattle.walking.specs.Words.{headWords, headIn, waveformIn, standIn, Keeping}
-use Rattle.walking.specs.Steps.{noWaveform, frameTold, holdsHead, walkBegins, begunIn, Begins, Opens, stepIn, Goes}
+use Rattle.walking.specs.Steps.{noWaveform, frameTold, holdsHead, walkBegins, begunIn, Begins, Opens, Goes}
 
 -- ---- whether words can hold a head
 
 module _ (u : List ℕ) {A : Type 0} (a b : A) where
-  can-hold : headWords ≤ length u → pick (holdsHead u) a b ≡ a
+  pub can-hold : headWords ≤ length u → pick (holdsHead u) a b ≡ a
   can-hold h = ap (λ (t : Bool). pick t a b) (le-leb headWords (length u) h)
 
   cannot-hold : length u < headWords → pick (holdsHead u) a b ≡ b
@@ -61,44 +65,41 @@ module _ (n : ℕ) (u x : List ℕ) (room : n ≤ length u) where
       let m : length x ≡ length (drop n u) = l ∙ ap length (lent-all n u) in
       simp (length-append, length-take-le n u room, nothing-behind) (omega (arith, length-drop n u))
 
--- A head stored then, in words that can hold one.
-module _ (u x : List ℕ) (room : headWords ≤ length u) where
-  module _ {h : Head} {f : Waveform} {v : List ℕ} (l : length x ≡ length (lent headWords u)) (p : Keeping (given-back headWords u x) h f v) where
-    behind-kept : drop headWords v ≡ x
-    behind-kept = p .rest ∙ back-behind headWords u x room
+-- ---- a head stored then, in words that can hold one
 
-    long-kept : length v ≡ length u
-    long-kept = p .long ∙ back-long headWords u x room l
+module _ (u x : List ℕ) (room : headWords ≤ length u) {h : Head} {f : Waveform} {v : List ℕ} (l : length x ≡ length (lent headWords u)) (p : Keeping (given-back headWords u x) h f v) where
+  still-room : headWords ≤ length (given-back headWords u x)
+  still-room = omega (arith, back-long headWords u x room l)
 
-    head-kept : headIn v ≡ h
-    head-kept = p .head (omega (arith, back-long headWords u x room l))
+  long-kept : length v ≡ length u
+  long-kept = p .long ∙ back-long headWords u x room l
 
-    frame-kept : waveformIn v ≡ f
-    frame-kept = p .waveform (omega (arith, back-long headWords u x room l))
+  frame-kept : waveformIn v ≡ f
+  frame-kept = p .waveform still-room
 
-    stand-kept : standIn v ≡ standOf h x
-    stand-kept = λ i. standOf (head-kept i) (behind-kept i)
+  stand-kept : standIn v ≡ standOf h x
+  stand-kept = λ i. standOf (p .head still-room i) ((p .rest ∙ back-behind headWords u x room) i)
 
-    -- ---- a walk begun
+  -- The first head, over records that are all sent back.
+  pub begun : Holding (lent headWords u) (map outdated (recordsIn (lent headWords u))) x → h ≡ firstHead → f ≡ noWaveform → Begins u v
+  begun c e d =
+      let begins : List Dated → Stand = λ xs. stand (cursor 0 Root) firstStanding firstDates xs 0 0 in
+      record {
+        stands = stand-kept ∙ ap (λ (g : Head). standOf g x) e ∙ ap begins (c .records) ∙ ap (λ (w : List ℕ). begins (map outdated (recordsIn w))) (lent-all headWords u);
+        tells = frame-kept ∙ d;
+        long = long-kept;
+      }
 
-    pub begun : Holding (lent headWords u) (map outdated (recordsIn (lent headWords u))) x → h ≡ firstHead → f ≡ noWaveform → Begins u v
-    begun c e d =
-        record {
-          stands = stand-kept ∙ (λ i. stand (e i .cursor) (e i .standing) (e i .dates) (c .records i) (e i .items) (e i .frames)) ∙ ap (λ (w : List ℕ). stand (firstHead .cursor) firstStanding firstDates (map outdated (recordsIn w)) 0 0) (lent-all headWords u);
-          tells = frame-kept ∙ d;
-          long = long-kept;
-        }
-
-    -- ---- a walk gone on with
-
-    pub goes-on : {s : List ℕ} {g : Head} {k : Step} → Advances s g (lent headWords u) (record { step = k; head = h }) x → g ≡ headIn u → f ≡ frameTold k → Goes s u k v
-    goes-on {s} {g} {k} a e d =
-        record {
-          same = ap (stop k) stand-kept ∙ a .same ∙ (λ i. advanceOf s (standOf (e i) (lent-all headWords u i))) ∙ sym (can-hold u (advanceOf s (standIn u)) (stop Step.Ended (standIn u)) room);
-          tells = frame-kept ∙ d ∙ sym (can-hold u (frameTold k) (waveformIn u) room);
-          long = long-kept;
-          stays = λ t. let q : true ≡ false = sym (le-leb headWords (length u) room) ∙ t in let y : _≡_ {A = ℕ} 0 1 = cc in let z : ⊥ = omega arith in absurd z;
-        }
+  -- The head that an advance has come to.
+  pub goes-on : {s : List ℕ} {g : Head} {k : Step} → Advances s g (lent headWords u) (record { step = k; head = h }) x → g ≡ headIn u → f ≡ frameTold k → Goes s u k v
+  goes-on {s} {g} {k} a e d =
+      let from : advanceOf s (standOf g (lent headWords u)) ≡ advanceOf s (standIn u) = λ i. advanceOf s (standOf (e i) (lent-all headWords u i)) in
+      record {
+        same = ap (stop k) stand-kept ∙ a .same ∙ from ∙ sym (can-hold u (advanceOf s (standIn u)) (stop Step.Ended (standIn u)) room);
+        tells = frame-kept ∙ d ∙ sym (can-hold u (frameTold k) (waveformIn u) room);
+        long = long-kept;
+        stays = λ t. let b = le-leb headWords (length u) room in let y : _≡_ {A = ℕ} 0 1 = cc in let z : ⊥ = omega arith in absurd z;
+      }
 
 -- Too few words stay as they are, and are at the end.
 pub goes-few : (s u : List ℕ) → length u < headWords → Goes s u Step.Ended u
@@ -130,13 +131,20 @@ module _ (s u : List ℕ) where
   pub opens-few : {n : ℕ} → length u < headWords → checkedSays (Checked.Frames n) ≡ checkOf s → Opens s u (Checked.Frames n) u
   opens-few h e = opens-not e (ap (λ (a : Answer ℕ). walkBegins a u) (sym e) ∙ lt-leb headWords (length u) h)
 
+  -- Words that can hold a head begin a walk over an accepted file.
+  begin-so : {n : ℕ} → headWords ≤ length u → checkedSays (Checked.Frames n) ≡ checkOf s → walkBegins (checkOf s) u ≡ true
+  begin-so h e = ap (λ (a : Answer ℕ). walkBegins a u) (sym e) ∙ le-leb headWords (length u) h
+
+  pub begins-when : {n : ℕ} → headWords ≤ length u → checkedSays (Checked.Frames n) ≡ checkOf s → {A : Type 0} (a b : A) → pick (walkBegins (checkOf s) u) a b ≡ a
+  begins-when h e a b = ap (λ (t : Bool). pick t a b) (begin-so h e)
+
   pub opens-begun : {n : ℕ} {v : List ℕ} → headWords ≤ length u → checkedSays (Checked.Frames n) ≡ checkOf s → Begins u v → Opens s u (Checked.Frames n) v
   opens-begun h e b =
-      let t : walkBegins (checkOf s) u ≡ true = ap (λ (a : Answer ℕ). walkBegins a u) (sym e) ∙ le-leb headWords (length u) h in
+      let t = begin-so h e in
       record {
         answers = e;
-        stands = b .stands ∙ sym (ap (λ (b : Bool). pick b (begunIn u) (standIn u)) t);
-        tells = b .tells ∙ sym (ap (λ (b : Bool). pick b noWaveform (waveformIn u)) t);
+        stands = b .stands ∙ sym (begins-when h e (begunIn u) (standIn u));
+        tells = b .tells ∙ sym (begins-when h e noWaveform (waveformIn u));
         long = b .long;
         stays = λ f. let y : _≡_ {A = ℕ} 0 1 = cc in let z : ⊥ = omega arith in absurd z;
       }

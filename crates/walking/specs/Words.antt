@@ -14,7 +14,6 @@ use Rattle.items.specs.declared.Cursor.{Cursor}
 use Rattle.items.specs.Walk.{cursor}
 use Rattle.settings.specs.declared.Settings.{Settings}
 use Rattle.dated.specs.declared.Times.{Times}
-use Rattle.dated.specs.declared.Dates.{Dates}
 use Rattle.dated.specs.declared.Dated.{Dated}
 use Rattle.dated.specs.Dated.{noted, zeroDated}
 use Rattle.standing.specs.declared.Standing.{Standing}
@@ -23,31 +22,31 @@ use Rattle.walk.specs.declared.Waveform.{Waveform}
 use Rattle.walk.specs.declared.Head.{Head}
 use Rattle.walk.specs.Advance.{Stand, standOf}
 
--- The words of the head and of a frame, before those of the records.
+-- How many words the head and a frame have, before those of the records.
 abbrev pub headWords : ℕ
 headWords = 64
 
--- All words of a walk that has a record for each channel that a frame may have.
+-- How many words a walk has, with a record for each channel that a frame may have.
 abbrev pub walkWords : ℕ
 walkWords = headWords + tableWords
 
--- The numbers of the head stand behind the root settings, which are kept as a record is.
+-- The root settings stand first, kept as a record is, with the time now as its time. The place of the head's other numbers is behind them.
 abbrev pub headPlace : ℕ
 headPlace = recordWords
 
--- So many are they.
+-- How many other numbers a head has.
 abbrev pub headNumbers : ℕ
 headNumbers = 20
 
--- Behind them stand the numbers of a frame.
+-- The place of a frame's numbers is behind the head's.
 abbrev pub waveformPlace : ℕ
 waveformPlace = headPlace + headNumbers
 
--- So many are they.
+-- How many numbers a frame has.
 abbrev pub waveformNumbers : ℕ
 waveformNumbers = 7
 
--- A word other than 0 says yes.
+-- A word other than 0 is true.
 abbrev pub flagOf : ℕ → Bool
 flagOf n = ltb 0 n
 

@@ -4,7 +4,7 @@
 // word, so that any words at all are some walk.
 // Promises, for any words and any octets: `head_at` and `waveform_at` answer what words hold, and `keep` stores it. `open` checks a file, and the words begin
 // a walk over one that is accepted; `next` goes from where they stand to the next frame, the end or the refusal. Words too few for a head stay as they
-// are, and are at the end. That the frames of an opened file are the verdict's is proved in proofs/Walks.antt.
+// are, and are at the end. That the frames of an opened file are the verdict's is proved in proofs/Walked.antt.
 // Read first: crate walk, then specs/Words.antt and specs/Steps.antt.
 ghost use mathlib.Core.Path.{_≡_};
 ghost use Prim.Native.Nat.{_+_, _≤_};
@@ -59,7 +59,7 @@ fn four_at(w: &[u64], n: usize) -> u32
     (word(w, n) % octets::FOUR_OCTETS) as u32
 }
 
-// Whether a word says yes.
+// Whether a word is true.
 fn flag_at(w: &[u64], n: usize) -> bool
     ensures { λ r. ⌜ r ≡ flagOf (getD (now (w .entry)) n 0) ⌝ }
 {
@@ -101,7 +101,7 @@ fn cursor_at(w: &[u64]) -> Cursor
     }
 }
 
-// What stands that words hold, with these root settings.
+// What stands outside the channels' records, of these root settings and of words.
 fn standing_at(w: &[u64], root: Settings) -> Standing
     ensures { λ r. ⌜ r ≡ standingBy root (wordsAt (now (w .entry)) headPlace) ⌝ }
 {
@@ -167,7 +167,7 @@ pub fn waveform_at(w: &[u64]) -> Waveform
     }
 }
 
-// The word that says yes or no.
+// The word of true or false.
 fn flag_word(b: bool) -> u64
     ensures { λ r. ⌜ flagOf r ≡ b ⌝ }
 {

@@ -39,7 +39,8 @@ returns c =
     let at-head = at-frame .before in
     let at-clear = at-head .before .before .before .before in
     let u = at-clear .before .before .before .args .w .now in
-    begun u (at-clear .clear .last .0) (omega arith) (at-clear .clear .ensures .long) (at-keep .keep .ensures) (at-clear .clear .ensures) (at-head .first .ensures) (at-frame .no-waveform .ensures)
+    let cleared = at-clear .clear .ensures in
+    begun u (at-clear .clear .last .0) (omega arith) (cleared .long) (at-keep .keep .ensures) cleared (at-head .first .ensures) (at-frame .no-waveform .ensures)
 
 pub begin-spec : {M : Type 1} → statement M
 begin-spec =

@@ -65,7 +65,10 @@ returns-2 c =
     let at-note = at-words-of .before in
     let at-frame = at-note .before .before .before in
     let at-head = at-frame .before in
-    keeping-stored (omega arith) (rw (head-long at-head) at (at-first .store .ensures)) (rw (frame-long at-frame) at (at-second .store2 .ensures)) (rw (record-long at-words-of) at (at-third .store3 .ensures))
+    let first = rw (head-long at-head) at (at-first .store .ensures) in
+    let second = rw (frame-long at-frame) at (at-second .store2 .ensures) in
+    let third = rw (record-long at-words-of) at (at-third .store3 .ensures) in
+    keeping-stored (omega arith) first second third
     (at-head .head-words .ensures) (at-frame .waveform-words .ensures) (at-words-of .words-of .ensures ∙ at-note .note .ensures)
 
 pub keep-spec : {M : Type 1} → statement M

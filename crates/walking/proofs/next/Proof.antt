@@ -44,7 +44,9 @@ returns-2 c =
     let at-advance = at-frame .before .before .before .before in
     let at-head = at-advance .before .before in
     let a = at-head .before .before .before .before .before .args in
-    goes-on (a .w .now) (at-advance .advance .last .1 .1 .0) (omega arith) (at-advance .advance .ensures .long) (at-keep .keep .ensures) (at-advance .advance .ensures) (at-head .head-at .ensures) (at-frame .frame-told .ensures)
+    let x = at-advance .advance .last .1 .1 .0 in
+    let went = at-advance .advance .ensures in
+    goes-on (a .w .now) x (omega arith) (went .long) (at-keep .keep .ensures) went (at-head .head-at .ensures) (at-frame .frame-told .ensures)
 
 pub next-spec : {M : Type 1} → statement M
 next-spec =
