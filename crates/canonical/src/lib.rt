@@ -119,13 +119,13 @@ pub fn write_canonical(s: &[u8], out: &mut [u8]) -> Written
     ensures { λ r. ⌜ Wrote (now (s .entry)) (now (out .entry)) (writtenSays r) (now (out .exit)) ⌝ }
 {
     let answer = canonical_length(s);
-    let Written::Octets(n) = answer else {
+    let Written::Octets(octets) = answer else {
         return answer;
     };
-    if n == 0 {
+    if octets == 0 {
         return answer;
     }
-    if out.len() < n {
+    if out.len() < octets {
         return no_room();
     }
     Written::Octets(write_frames(s, out))
