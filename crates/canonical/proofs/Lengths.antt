@@ -1,5 +1,5 @@
 -- The canonical file's length, and what the writer answers by it.
---     length-refused, -none, -long, -whole    the length, by what the pass over the file says
+--     sized-refused, -none, -long, -whole     the length, by what the pass over the file says
 --     Measured, measured            where a length is answered it is the canonical file's
 --     output-refused, -less, -enough          what is written with more or less room than that
 --     ByLength, by-length           so the writer answers by the length
@@ -43,9 +43,9 @@ module _ (s : List ℕ) (q : Asked) (r : Scan) (e : r ≡ scanOf q s) where
   checked-as v k = ap (λ (y : Scan). y .checked) (e ∙ ap (scannedIn q) k)
 
   -- The file's own refusal.
-  pub length-refused : (x : Refusal) → r .checked ≡ Checked.Refused x → refusedBy x ≡ canonicalLengthOf s
+  pub sized-refused : (x : Refusal) → r .checked ≡ Checked.Refused x → refusedBy x ≡ canonicalLengthOf s
   unfolding canonicalLengthOf outputIn scannedIn
-  length-refused x h = by (verdict s) refl
+  sized-refused x h = by (verdict s) refl
     where
       by : (v : Verdict) → verdict s ≡ v → refusedBy x ≡ outputLength octetsLimit s
       by (accepted fs) k =
@@ -76,9 +76,9 @@ module _ (s : List ℕ) (q : Asked) (r : Scan) (e : r ≡ scanOf q s) where
             absurd o
 
     -- No frames: the empty file.
-    pub length-none : n ≡ 0 → answered 0 ≡ canonicalLengthOf s
+    pub sized-none : n ≡ 0 → answered 0 ≡ canonicalLengthOf s
     unfolding canonicalLengthOf
-    length-none z =
+    sized-none z =
         let c = canonical-none (framesIn (verdict s)) (sym (taken-is .1) ∙ z) in
         sym (writes s octetsLimit (framesIn (verdict s)) (taken-is .0) .octets 0 .1 (ap length c, omega arith, omega arith))
 
@@ -87,18 +87,18 @@ module _ (s : List ℕ) (q : Asked) (r : Scan) (e : r ≡ scanOf q s) where
       long-is = canonical-long (framesIn (verdict s)) (λ z. some (taken-is .1 ∙ z)) ∙ omega (arith, taken-is .2)
 
       -- It is longer than a file may be.
-      pub length-long : octetsLimit < r .size + 3 → refusedAs noRoom 0 ≡ canonicalLengthOf s
+      pub sized-long : octetsLimit < r .size + 3 → refusedAs noRoom 0 ≡ canonicalLengthOf s
       unfolding canonicalLengthOf
-      length-long l = sym (writes s octetsLimit (framesIn (verdict s)) (taken-is .0) .short .1 (inr (omega (arith, long-is))))
+      sized-long l = sym (writes s octetsLimit (framesIn (verdict s)) (taken-is .0) .short .1 (inr (omega (arith, long-is))))
 
       -- It is not.
-      pub length-whole : r .size + 3 ≤ octetsLimit → answered (r .size + 3) ≡ canonicalLengthOf s
+      pub sized-whole : r .size + 3 ≤ octetsLimit → answered (r .size + 3) ≡ canonicalLengthOf s
       unfolding canonicalLengthOf
-      length-whole l = sym (writes s octetsLimit (framesIn (verdict s)) (taken-is .0) .octets (r .size + 3) .1 (long-is, l, l))
+      sized-whole l = sym (writes s octetsLimit (framesIn (verdict s)) (taken-is .0) .octets (r .size + 3) .1 (long-is, l, l))
 
 -- ---- what is written, by the length
 
--- An accepted file whose canonical file has n octets, as many as a file may have.
+-- An accepted file whose canonical file has n octets, no more than a file may have.
 record Measured (s : List ℕ) (n : ℕ) : Type 0 where
   is : verdict s ≡ accepted (framesIn (verdict s))
   long : length (canonicalOf s) ≡ n

@@ -2,7 +2,7 @@
 use borrow.Author.Needs.{needs}
 use mathlib.Core.Path.{_∙_}
 use native.Mathlib.Omega.{arith}
-use Rattle.canonical.proofs.Lengths.{length-refused, length-none, length-long, length-whole}
+use Rattle.canonical.proofs.Lengths.{sized-refused, sized-none, sized-long, sized-whole}
 use Rattle.canonical.proofs.canonical_length.Statement.{statement}
 use Rattle.canonical.proofs.canonical_length.Tie as tie
 
@@ -27,12 +27,12 @@ returns c = search needs
 returns-2 : tie.Need-returns-2
 returns-2 c =
     let at-match = c .before .before .before .before in
-    length-refused _ _ _ (at-match .before .before .scan-file .ensures) _ (at-match .checked2 .given .1 ∙ c .before .checked3 .given .1)
+    sized-refused _ _ _ (at-match .before .before .scan-file .ensures) _ (at-match .checked2 .given .1 ∙ c .before .checked3 .given .1)
 
 returns-3 : tie.Need-returns-3
 returns-3 c =
     let at-match = c .before .before in
-    length-none _ _ _ (at-match .before .before .scan-file .ensures) _ (at-match .checked .given .1) (c .if1 .taken)
+    sized-none _ _ _ (at-match .before .before .scan-file .ensures) _ (at-match .checked .given .1) (c .if1 .taken)
 
 sub-if2 : tie.Need-sub-if2
 sub-if2 c = search needs
@@ -46,7 +46,7 @@ returns-4 c =
     let at-some = at-long .before in
     let at-match = at-some .before .before in
     c .no-room .ensures
-    ∙ length-long _ _ _ (at-match .before .before .scan-file .ensures) _ (at-match .checked .given .1) (at-some .if1 .left) (omega (arith, at-long .if2 .taken))
+    ∙ sized-long _ _ _ (at-match .before .before .scan-file .ensures) _ (at-match .checked .given .1) (at-some .if1 .left) (omega (arith, at-long .if2 .taken))
 
 add-t9 : tie.Need-add-t9
 add-t9 c = search needs
@@ -55,7 +55,7 @@ returns-5 : tie.Need-returns-5
 returns-5 c =
     let at-some = c .before in
     let at-match = at-some .before .before in
-    length-whole _ _ _ (at-match .before .before .scan-file .ensures) _ (at-match .checked .given .1) (at-some .if1 .left) (omega (arith, c .if2 .left))
+    sized-whole _ _ _ (at-match .before .before .scan-file .ensures) _ (at-match .checked .given .1) (at-some .if1 .left) (omega (arith, c .if2 .left))
 
 pub canonical-length-spec : {M : Type 1} → statement M
 canonical-length-spec =
