@@ -266,15 +266,26 @@ uint32_t mfer_samples(const uint8_t *file, size_t file_len, uint32_t frame, uint
                       uint64_t *place);
 
 /*
+ * The length of the canonical file, which mfer_canonical writes: the octets that its buffer has to
+ * have. With as many or more it writes the file, with fewer it answers MFER_NO_ROOM.
+ *
+ * *length  the canonical file's length, at most MFER_MAX_OCTETS; 0 for a file without frames
+ *
+ * Refusals: 1 to 15, and MFER_NO_ROOM where the canonical file is longer than a file may be.
+ */
+uint32_t mfer_canonical_length(const uint8_t *file, size_t file_len, uint64_t *length,
+                               uint64_t *place);
+
+/*
  * Writes the canonical file, which has the same recording in one fixed form: big-endian, every
  * setting in its channel's group, every length in its shortest form. It stands at the start of the
  * buffer of `out_len` octets at `out`; what is past it keeps what it held.
  *
  * *written  the canonical file's length; 0 for a file without frames
  *
- * Refusals: 1 to 15, and MFER_NO_ROOM, which does not say how long the canonical file is: a longer
- * buffer may do, and one of MFER_MAX_OCTETS octets does wherever any does. A canonical frame has at
- * most 24 octets, 57 more for each channel, and its samples; the file has 3 octets more.
+ * Refusals: 1 to 15, and MFER_NO_ROOM where the buffer is too short: mfer_canonical_length says how
+ * long it has to be, or that none will do. A canonical frame has at most 24 octets, 57 more for each
+ * channel, and its samples; the file has 3 octets more.
  */
 uint32_t mfer_canonical(const uint8_t *file, size_t file_len, uint8_t *out, size_t out_len,
                         uint64_t *written, uint64_t *place);

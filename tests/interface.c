@@ -94,6 +94,15 @@ static void expect_refusal(const uint8_t *file, size_t file_len, uint32_t frame,
     EXPECT(place_out == place && count == 0);
 }
 
+static void expect_canonical_length(const uint8_t *file, size_t file_len, uint32_t number,
+                                    uint64_t length, uint64_t place)
+{
+    uint64_t length_out = UNSET, place_out = UNSET;
+    EXPECT(mfer_canonical_length(file, file_len, &length_out, &place_out) == number);
+    EXPECT(length_out == length);
+    EXPECT(place_out == place);
+}
+
 static void expect_canonical_refusal(const uint8_t *file, size_t file_len, size_t room,
                                      uint32_t refusal, uint64_t place)
 {
@@ -140,6 +149,7 @@ static void empty_and_null(void)
     expect_check(NULL, 0, MFER_OK, 0, 0);
     expect_check(P2, 0, MFER_OK, 0, 0);
     expect_refusal(NULL, 0, 0, 0, 0, MFER_NO_FRAME, 0);
+    expect_canonical_length(NULL, 0, MFER_OK, 0, 0);
     EXPECT(mfer_canonical(NULL, 0, NULL, 0, &written, &place) == MFER_OK);
     EXPECT(written == 0 && place == 0);
     written = place = UNSET;
@@ -177,6 +187,7 @@ static void check_refusals(void)
         expect_refusal(file, files[i].length, 0, 0, 0, files[i].number, files[i].place);
         expect_refusal(file, files[i].length, UINT32_MAX, UINT32_MAX, UINT64_MAX, files[i].number,
                        files[i].place);
+        expect_canonical_length(file, files[i].length, files[i].number, 0, files[i].place);
         expect_canonical_refusal(file, files[i].length, 200, files[i].number, files[i].place);
         expect_canonical_refusal(file, files[i].length, 0, files[i].number, files[i].place);
     }
@@ -205,7 +216,22 @@ static void too_long_a_file(void)
         return;
     expect_check(file, length, MFER_LONG_FILE, 0, 0);
     expect_refusal(file, length, 0, 0, 0, MFER_LONG_FILE, 0);
+    expect_canonical_length(file, length, MFER_LONG_FILE, 0, 0);
     expect_canonical_refusal(file, length, 200, MFER_LONG_FILE, 0);
+    free(file);
+}
+
+/* One frame of a file that is as long as may be: its canonical file would be longer. */
+static void too_long_a_canonical_file(void)
+{
+    static const uint8_t head[] = {0x1E, 0x84, 0x7F, 0xFF, 0xFF, 0xF9};
+    uint8_t *file = (uint8_t *)calloc(MFER_MAX_OCTETS, 1);
+    EXPECT(file != NULL);
+    if (file == NULL)
+        return;
+    memcpy(file, head, sizeof head);
+    expect_check(file, MFER_MAX_OCTETS, MFER_OK, 1, 0);
+    expect_canonical_length(file, MFER_MAX_OCTETS, MFER_NO_ROOM, 0, 0);
     free(file);
 }
 
@@ -270,6 +296,21 @@ static void samples_in_bulk(void)
     count = UNSET;
     EXPECT(mfer_samples(P2, sizeof P2, 0, 1, 0, NULL, 0, &count, &place) == MFER_OK);
     EXPECT(count == 0 && place == 0);
+}
+
+/* The length is what the writer answers, and the least room in which it does. */
+static void canonical_length(void)
+{
+    uint8_t out[256];
+    uint64_t length = UNSET, written = UNSET, place = UNSET;
+    expect_canonical_length(P2, sizeof P2, MFER_OK, sizeof P2_CANONICAL, 0);
+    expect_canonical_length(P2_CANONICAL, sizeof P2_CANONICAL, MFER_OK, sizeof P2_CANONICAL, 0);
+    expect_canonical_length(P6, sizeof P6, MFER_CHANNEL_NUMBER, 0, 3);
+    EXPECT(mfer_canonical_length(FLOATS, sizeof FLOATS, &length, &place) == MFER_OK);
+    EXPECT(length <= sizeof out);
+    EXPECT(mfer_canonical(FLOATS, sizeof FLOATS, out, (size_t)length, &written, &place) == MFER_OK);
+    EXPECT(written == length);
+    expect_canonical_refusal(FLOATS, sizeof FLOATS, (size_t)length - 1, MFER_NO_ROOM, 0);
 }
 
 static void canonical(void)
@@ -345,7 +386,7 @@ static void run(const char *name, void (*test)(void))
         failed++;
 }
 
-/* With an argument: without the test that needs much memory. */
+/* With an argument: without the tests that need much memory. */
 int main(int argc, char **argv)
 {
     (void)argv;
@@ -353,12 +394,15 @@ int main(int argc, char **argv)
     run("empty_and_null", empty_and_null);
     run("check_refusals", check_refusals);
     run("too_many_frames", too_many_frames);
-    if (argc == 1)
+    if (argc == 1) {
         run("too_long_a_file", too_long_a_file);
+        run("too_long_a_canonical_file", too_long_a_canonical_file);
+    }
     run("huge_indexes", huge_indexes);
     run("attributes", attributes);
     run("one_sample", one_sample);
     run("samples_in_bulk", samples_in_bulk);
+    run("canonical_length", canonical_length);
     run("canonical", canonical);
     run("words_of_refusals", words_of_refusals);
     run("names_of_kinds", names_of_kinds);

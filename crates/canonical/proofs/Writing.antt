@@ -14,7 +14,6 @@ use native.Mathlib.Nat.{zero-add, add-assoc}
 use native.Mathlib.Omega.{arith}
 use types.Run.{OneOf, miss}
 use denote.Enum.Declared.{tagOf}
-use borrow.Author.Tests.{le-leb, lt-leb}
 use lib.ListN.{length, getD, take, drop, length-append, length-map}
 use lib.Seq.{getD-append-seam}
 use lib.IntN.{ℤ}
@@ -23,26 +22,21 @@ use mir.Syntax.{w32, w64}
 use mir.Val.{SFits, toZ, ofZ}
 use mir.Facts.{toZ-ofZ}
 use Rattle.octets.specs.Number.{Octets}
-use Rattle.octets.proofs.Pick.{both-false}
 use Rattle.octets.proofs.Laws.{take-octets, drop-octets}
 use Rattle.items.specs.declared.Cursor.{Cursor}
 use Rattle.heads.specs.declared.Refusal.{Refusal}
-use Rattle.heads.specs.Refusals.{noRoom}
 use Rattle.items.specs.Walk.{itemsFrom, cursor}
 use Rattle.stores.specs.Length.{shortest}
 use Rattle.stores.specs.Storing.{Put, Putting, put-fits}
-use Rattle.stores.proofs.Stores.{put-then, put-long, sets-front}
+use Rattle.stores.proofs.Stores.{put-then, put-long}
 use Rattle.settings.specs.declared.Settings.{Settings}
 use Rattle.settings.specs.Settings.{channelLimit}
 use Rattle.layout.specs.Frame.{Frame, samplesOctets, reported}
 use Rattle.layout.specs.Size.{groupsSize, frameSize}
 use Rattle.standing.specs.Standing.{octetsLimit}
 use Rattle.effects.specs.Effects.{valueAt}
-use Rattle.verdict.specs.Verdict.{State, state, Verdict, accepted, refused, interpret, verdict}
-use Rattle.pass.specs.Scan.{zeroFrame, sizeOf, sizes, scannedIn, scanOf}
-use Rattle.pass.specs.declared.Asked.{Asked}
-use Rattle.verdict.specs.declared.Checked.{Checked}
-use Rattle.pass.specs.declared.Scan.{Scan}
+use Rattle.verdict.specs.Verdict.{State, state, accepted, refused, interpret, verdict}
+use Rattle.pass.specs.Scan.{zeroFrame, sizeOf, sizes}
 use Rattle.verdict.proofs.Keeps.{Keeps, frames-kept, reached-verdict}
 use Rattle.verdict.proofs.Steps.{meaning-steps, step-grown}
 use Rattle.framing.proofs.Framings.{pointer-small}
@@ -64,9 +58,8 @@ use Rattle.frames.specs.Parts.{samplesTurned, frameParts, frameGiven}
 use Rattle.frames.proofs.Given.{frame-put}
 use Rattle.canonical.specs.Recording.{Recorded, recordedFrame, recording}
 use Rattle.canonical.specs.Canonical.{waveformOf, frameOctets, framesOctets, canonical}
-use Rattle.canonical.specs.Write.{framesIn, canonicalOf, fits, outputIn, writtenOf, leftOf, Ready, Wrote}
-use Rattle.heads.specs.Answer.{Answer, answered, refusedAs, refusedBy, mapAnswer, leftBy}
-use Rattle.canonical.proofs.Octets.{waveform-big, waveform-little, frames-long, canonical-long, canonical-none, sampled-reported}
+use Rattle.canonical.specs.Write.{framesIn, canonicalOf, fits, Ready}
+use Rattle.canonical.proofs.Octets.{waveform-big, waveform-little, frames-long, sampled-reported}
 use Rattle.canonical.proofs.Recordings.{waveform-long}
 
 -- ---- the frames met so far are the first of the file's
@@ -274,90 +267,3 @@ module _ {s d : List ℕ} {x : Stand} {at : ℕ} {e : List ℕ} (p : Writing s d
           reaches = after;
           put = put-as (so-far-more (p .met) frame-there) (put-then (p .put) (put-as parts (frame-put (narrowed (v .start)) (v .little) (v .sequences) channels w inside few frame-room q')));
         }
-
--- ---- what the writer answers
-
-module _ (s d : List ℕ) (q : Asked) (r : Scan) (e : r ≡ scanOf q s) where
-  -- The answer, and the buffer afterwards.
-  abbrev WrittenAs : Answer ℕ → List ℕ → Type 0
-  WrittenAs a left = (a ≡ writtenOf s d) × (left ≡ leftOf s d)
-
-  told : (x : Answer (List ℕ)) → x ≡ outputIn d (verdict s) → WrittenAs (mapAnswer length x) (leftBy x d)
-  unfolding writtenOf leftOf
-  told x u = (ap (mapAnswer length) u, ap (λ (y : Answer (List ℕ)). leftBy y d) u)
-
-  -- The file's own refusal.
-  pub written-refused : (x : Refusal) → r .checked ≡ Checked.Refused x → WrittenAs (refusedBy x) d
-  unfolding leftBy outputIn scanOf scannedIn
-  written-refused x h = told (refusedBy x) (by (verdict s) refl)
-    where
-      by : (v : Verdict) → verdict s ≡ v → refusedBy x ≡ outputIn d (verdict s)
-      by (accepted fs) k =
-          let z : Checked.Frames (length fs) ≡ Checked.Refused x = sym (ap (λ (y : Scan). y .checked) (e ∙ ap (scannedIn q) k)) ∙ h in
-          let y : _≡_ {A = ℕ} 0 1 = cc in
-          let o : ⊥ = omega arith in
-          absurd o
-      by (refused y) k =
-          let z : Checked.Refused y ≡ Checked.Refused x = sym (ap (λ (y : Scan). y .checked) (e ∙ ap (scannedIn q) k)) ∙ h in
-          let f : y ≡ x = cc in
-          rw (k, f)
-
-  module _ (n : ℕ) (h : r .checked ≡ Checked.Frames n) where
-    -- An accepted file, with so many frames.
-    taken-is : (verdict s ≡ accepted (framesIn (verdict s))) × (n ≡ length (framesIn (verdict s))) × (r .size ≡ sizes (framesIn (verdict s)))
-    unfolding scanOf scannedIn framesIn
-    taken-is = by (verdict s) refl
-      where
-        by : (v : Verdict) → verdict s ≡ v → (verdict s ≡ accepted (framesIn (verdict s))) × (n ≡ length (framesIn (verdict s))) × (r .size ≡ sizes (framesIn (verdict s)))
-        by (accepted fs) k =
-            let z : Checked.Frames (length fs) ≡ Checked.Frames n = sym (ap (λ (y : Scan). y .checked) (e ∙ ap (scannedIn q) k)) ∙ h in
-            let f : length fs ≡ n = cc in
-            (rw k, rw k (sym f), rw k (ap (λ (y : Scan). y .size) (e ∙ ap (scannedIn q) k)))
-        by (refused y) k =
-            let z : Checked.Refused y ≡ Checked.Frames n = sym (ap (λ (y : Scan). y .checked) (e ∙ ap (scannedIn q) k)) ∙ h in
-            let y : _≡_ {A = ℕ} 0 1 = cc in
-            let o : ⊥ = omega arith in
-            absurd o
-
-    told-taken : (x : Answer (List ℕ)) → x ≡ outputIn d (accepted (framesIn (verdict s))) → WrittenAs (mapAnswer length x) (leftBy x d)
-    told-taken x u = told x (u ∙ ap (outputIn d) (sym (taken-is .0)))
-
-    -- No frames: the empty file.
-    pub written-none : n ≡ 0 → WrittenAs (answered 0) d
-    unfolding leftBy outputIn fits
-    written-none z =
-        let c = canonical-none (framesIn (verdict s)) (sym (taken-is .1) ∙ z) in
-        told-taken (answered []) (rw c (simp (le-leb 0 (length d) (omega arith))))
-
-    module _ (some : n ≡ 0 → ⊥) where
-      long-is : length (canonical (recording (framesIn (verdict s)))) ≡ r .size + 3
-      long-is = canonical-long (framesIn (verdict s)) (λ z. some (taken-is .1 ∙ z)) ∙ omega (arith, taken-is .2)
-
-      -- It does not fit.
-      pub written-short : fits (canonicalOf s) d ≡ false → WrittenAs (refusedAs noRoom 0) d
-      unfolding leftBy outputIn canonicalOf
-      written-short f = told-taken (refusedAs noRoom 0) (rw f)
-
-      pub short-buffer : length d < r .size + 3 → fits (canonicalOf s) d ≡ false
-      unfolding fits canonicalOf
-      short-buffer l = simp (long-is, lt-leb (r .size + 3) (length d) l)
-
-      pub short-limit : octetsLimit < r .size + 3 → fits (canonicalOf s) d ≡ false
-      unfolding fits canonicalOf
-      short-limit l = simp (long-is, lt-leb (r .size + 3) octetsLimit l, both-false)
-
-      pub ready : r .size + 3 ≤ length d → Ready s d
-      ready l = record { is = taken-is .0; some = λ z. some (taken-is .1 ∙ z); room = omega (arith, taken-is .2) }
-
-      -- It fits, and is written.
-      pub written-whole : {k : ℕ} {f : List ℕ} → r .size + 3 ≤ octetsLimit → r .size + 3 ≤ length d → Put d 0 (canonicalOf s) k f → WrittenAs (answered k) f
-      unfolding leftBy outputIn fits canonicalOf
-      written-whole {k} {f} l m p =
-          let c = canonical (recording (framesIn (verdict s))) in
-          let b : fits c d ≡ true = simp (long-is, le-leb (r .size + 3) (length d) m, le-leb (r .size + 3) octetsLimit l) in
-          let t = told-taken (answered c) (rw b) in
-          (ap answered (p .next ∙ zero-add (length c)) ∙ t .0, p .stored ∙ sets-front c d (omega (arith, long-is)) ∙ t .1)
-
--- The answer and the buffer, of a file whose octets the slice's rule gives.
-pub promised : {s d e : List ℕ} {a : Answer ℕ} → Octets s → (a ≡ writtenOf s d) × (e ≡ leftOf s d) → Wrote s d a e
-promised octets p = record { octets = octets; answers = p .0; leaves = p .1 }

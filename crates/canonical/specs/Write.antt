@@ -1,4 +1,5 @@
--- What the canonical writer answers and what it leaves in the buffer (document 01, "What comes back when it is no" and "The canonical file").
+-- What the canonical writer answers and what it leaves in the buffer, and the canonical file's length without a buffer (document 01, "What comes
+-- back when it is no" and "The canonical file").
 use mathlib.Core.List.{List, []}
 use mathlib.Core.Bool.{Bool}
 use Prim.Native.Nat.{ℕ, _+_, _≤_}
@@ -30,29 +31,38 @@ recordingOf s = recording (framesIn (verdict s))
 unfoldable pub canonicalOf : List ℕ → List ℕ
 canonicalOf s = canonical (recordingOf s)
 
--- The canonical file is no longer than the output buffer, nor than 15's limit.
-unfoldable pub fits : List ℕ → List ℕ → Bool
-fits octets buffer = both (leb (length octets) (length buffer)) (leb (length octets) octetsLimit)
+-- The canonical file is no longer than there is room, nor than 15's limit.
+unfoldable pub fits : List ℕ → ℕ → Bool
+fits octets room = both (leb (length octets) room) (leb (length octets) octetsLimit)
 
 -- What the writer's answer says: the canonical file's length, or the refusal.
 abbrev pub writtenSays : Written → Answer ℕ
 writtenSays (Written.Octets n) = answered n
 writtenSays (Written.Refused r) = refusedBy r
 
--- What is written: the file's own refusal; else 23 where the canonical file does not fit; else that file.
-unfoldable pub outputIn : List ℕ → Verdict → Answer (List ℕ)
-outputIn buffer (refused r) = refusedBy r
-outputIn buffer (accepted fs) =
+-- What is written where there is room for so many octets: the file's own refusal; else 23 where the canonical file does not fit; else that file.
+unfoldable pub outputIn : ℕ → Verdict → Answer (List ℕ)
+outputIn room (refused r) = refusedBy r
+outputIn room (accepted fs) =
     let octets = canonical (recording fs) in
-    pick (fits octets buffer) (answered octets) (refusedAs noRoom 0)
+    pick (fits octets room) (answered octets) (refusedAs noRoom 0)
 
--- The writer answers the canonical file's length.
+-- The answer is its length.
+abbrev pub outputLength : ℕ → List ℕ → Answer ℕ
+outputLength room s = mapAnswer length (outputIn room (verdict s))
+
+-- The writer answers the canonical file's length; the room is the output buffer's.
 unfoldable pub writtenOf : List ℕ → List ℕ → Answer ℕ
-writtenOf s buffer = mapAnswer length (outputIn buffer (verdict s))
+writtenOf s buffer = outputLength (length buffer) s
+
+-- The canonical file's length without a buffer, as with room for the longest file: the file's own refusal; else 23 where the canonical file
+-- is longer than 15's limit; else its length.
+unfoldable pub canonicalLengthOf : List ℕ → Answer ℕ
+canonicalLengthOf s = outputLength octetsLimit s
 
 -- The buffer afterwards: a refusal changes no octet of it; on success the canonical file stands at its start, and octets past it keep what they held.
 unfoldable pub leftOf : List ℕ → List ℕ → List ℕ
-leftOf s buffer = leftBy (outputIn buffer (verdict s)) buffer
+leftOf s buffer = leftBy (outputIn (length buffer) (verdict s)) buffer
 
 -- A call of the writer: the file s and what the buffer held, and then the answer and the buffer as the call leaves it. A file is octets.
 pub record Wrote (s buffer : List ℕ) (answer : Answer ℕ) (left : List ℕ) : Type 0 where

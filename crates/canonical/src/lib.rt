@@ -2,15 +2,19 @@
 //
 // Promises, for any octets and any buffer: `write_canonical` answers the file's own refusal, or 23 where the canonical file is longer than the
 // buffer or than a file may be, with every octet of the buffer as it was; else the canonical file stands at the start of the buffer, its
-// length is answered, and the octets past it are as they were.
+// length is answered, and the octets past it are as they were. `canonical_length` answers the same without a buffer: what the writer does
+// where there is room for any file.
 // Read first: specs/Recording.antt (what a recording is), specs/Canonical.antt (its octets; a frame's head and groups are in crate groups),
 // specs/Write.antt (the writer's answer).
 // Refusal comes first: the size is known from one pass over the file before the first octet is stored. A frame is stored by crate frames.
+ghost use mathlib.Core.Path.{_≡_};
 ghost use mathlib.Core.List.{_∷_, []};
 ghost use Prim.Native.Nat.{_≤_};
 ghost use lib.ListN.{length};
 ghost use Rattle.stores.specs.Storing.{Put};
-ghost use Rattle.canonical.specs.Write.{canonicalOf, Ready, writtenSays, Wrote};
+ghost use Rattle.heads.specs.Refusals.{noRoom};
+ghost use Rattle.heads.specs.Answer.{refusedAs};
+ghost use Rattle.canonical.specs.Write.{canonicalOf, canonicalLengthOf, Ready, writtenSays, Wrote};
 use heads::Refusal;
 use pass::Asked;
 use records::Records;
@@ -68,9 +72,19 @@ fn write_frames(s: &[u8], out: &mut [u8]) -> usize
     }
 }
 
-// Writes the canonical file of a file into the front of a buffer.
-pub fn write_canonical(s: &[u8], out: &mut [u8]) -> Written
-    ensures { λ r. ⌜ Wrote (now (s .entry)) (now (out .entry)) (writtenSays r) (now (out .exit)) ⌝ }
+// The canonical file is longer than there is room.
+fn no_room() -> Written
+    ensures { λ r. ⌜ writtenSays r ≡ refusedAs noRoom 0 ⌝ }
+{
+    Written::Refused(Refusal {
+        number: Refusal::NO_ROOM,
+        place: 0,
+    })
+}
+
+// The length of a file's canonical file, from one pass over the file; nothing is written.
+pub fn canonical_length(s: &[u8]) -> Written
+    ensures { λ r. ⌜ writtenSays r ≡ canonicalLengthOf (now (s .entry)) ⌝ }
 {
     let pass = pass::scan_file(
         s,
@@ -90,15 +104,25 @@ pub fn write_canonical(s: &[u8], out: &mut [u8]) -> Written
         return Written::Octets(0);
     }
     let size = pass.size as usize;
-    let short = Written::Refused(Refusal {
-        number: Refusal::NO_ROOM,
-        place: 0,
-    });
     if Standing::OCTETS - 3 < size {
-        return short;
+        return no_room();
     }
-    if out.len() < size + 3 {
-        return short;
+    Written::Octets(size + 3)
+}
+
+// Writes the canonical file of a file into the front of a buffer.
+pub fn write_canonical(s: &[u8], out: &mut [u8]) -> Written
+    ensures { λ r. ⌜ Wrote (now (s .entry)) (now (out .entry)) (writtenSays r) (now (out .exit)) ⌝ }
+{
+    let answer = canonical_length(s);
+    let Written::Octets(octets) = answer else {
+        return answer;
+    };
+    if octets == 0 {
+        return answer;
+    }
+    if out.len() < octets {
+        return no_room();
     }
     Written::Octets(write_frames(s, out))
 }

@@ -9,6 +9,7 @@ ghost use Rattle.heads.specs.Answer.{leftBy};
 ghost use Rattle.verdict.specs.Verdict.{checkOf};
 ghost use Rattle.reader.specs.Answer.{attributesOf, sampleOf};
 ghost use Rattle.bulk.specs.Samples.{readOf, countRead};
+ghost use Rattle.canonical.specs.Write.{canonicalLengthOf};
 ghost use Rattle.mfer.specs.Answers.{outputs, countOut, CanonicalOut, numbersOf, bitPairOf, attributesValues, attributesOut, sampleValues, sampleOut};
 ghost use lib.ListN.{length};
 use bulk::Read;
@@ -194,6 +195,25 @@ pub extern "C" fn mfer_samples(
         }
         Read::Refused(x) => {
             *count = 0;
+            *place = x.place as u64;
+            x.number as u32
+        }
+    }
+}
+
+// The length of the canonical file of a file. Nothing is written.
+#[no_mangle]
+pub extern "C" fn mfer_canonical_length(file: &[u8], length: &mut u64, place: &mut u64) -> u32
+    ensures { λ r. ⌜ outputs r (now (place .exit)) (now (length .exit)) ≡ countOut (canonicalLengthOf (now (file .entry))) ⌝ }
+{
+    match canonical::canonical_length(file) {
+        Written::Octets(n) => {
+            *length = n as u64;
+            *place = 0;
+            0
+        }
+        Written::Refused(x) => {
+            *length = 0;
             *place = x.place as u64;
             x.number as u32
         }

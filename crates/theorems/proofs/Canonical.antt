@@ -1,7 +1,7 @@
 -- The canonical files of recordings.
 --     recording-is, recording-long    the recording that a file holds
 --     canonical-read     the canonical file of an accepted file is accepted, and holds the same recording
---     writes             the writer answers 23 exactly when the canonical file does not fit, and else its length
+--     writer-answers, length-answers    23 is answered exactly when the canonical file does not fit, and else its length
 --     wrote-out          what mfer_canonical does, write_canonical does
 --     written-file       the canonical file in the buffer that a call left
 --     written-again      that file, read and written again
@@ -9,18 +9,13 @@
 -- Assumes nothing.
 use Prim.Native.Nat.{ℕ, _≤_, _<_}
 use mathlib.Core.Path.{_≡_, refl, sym, ap, _∙_}
-use mathlib.Core.Logic.{_↔_, _⊎_, inl, inr}
+use mathlib.Core.Logic.{_↔_}
 use mathlib.Core.List.{List, _++_}
-use mathlib.Core.Bool.{true, false}
 use native.Mathlib.Omega.{arith}
-use native.Mathlib.Decide.{decLe}
-use borrow.Author.Tests.{le-leb, lt-leb}
 use lib.ListN.{length, take, drop, length-map}
 use lib.Seq.{take-append-seam, drop-append-seam}
 use Rattle.octets.specs.Number.{Octets}
-use Rattle.octets.proofs.Pick.{both-false}
 use Rattle.heads.specs.declared.Refusal.{Refusal}
-use Rattle.heads.specs.Refusals.{noRoom}
 use Rattle.heads.specs.Answer.{Answer, answered, refusedAs, mapAnswer, leftBy}
 use Rattle.layout.specs.Frame.{Frame}
 use Rattle.standing.specs.Standing.{octetsLimit}
@@ -29,7 +24,8 @@ use Rattle.reader.proofs.Ordered.{accepted-few}
 use Rattle.reader.proofs.Checks.{check-accepted}
 use Rattle.canonical.specs.Recording.{Recorded, recordedFrame, recording}
 use Rattle.canonical.specs.Canonical.{canonical}
-use Rattle.canonical.specs.Write.{framesIn, recordingOf, fits, outputIn, writtenOf, leftOf, Wrote}
+use Rattle.canonical.specs.Write.{framesIn, recordingOf, outputIn, writtenOf, canonicalLengthOf, leftOf, Wrote}
+use Rattle.canonical.proofs.Room.{Fitting, Writes, writes, output-fits}
 use Rattle.canonical.proofs.ReadBack.{Reads, read-back}
 use Rattle.canonical.proofs.Accepted.{accepted-recorded}
 use Rattle.mfer.specs.Answers.{Outputs, outputs, handedOut, countOut, CanonicalOut}
@@ -62,35 +58,6 @@ canonical-read s octets fs e short =
 
 -- ---- writing
 
--- The canonical file is longer than the buffer, or than a file may be.
-abbrev pub TooLong : List ℕ → List ℕ → Type 0
-TooLong x d = (length d < length x) ⊎ (octetsLimit < length x)
-
--- It is neither.
-abbrev Fitting : List ℕ → List ℕ → Type 0
-Fitting x d = (length x ≤ length d) × (length x ≤ octetsLimit)
-
-not-both : (x d : List ℕ) → Fitting x d → TooLong x d → ⊥
-not-both x d h (inl l) = omega arith
-not-both x d h (inr l) = omega arith
-
-one-of : (x d : List ℕ) → Fitting x d ⊎ TooLong x d
-one-of x d = by (decLe (length x) (length d)) (decLe (length x) octetsLimit)
-  where
-    by : Dec (length x ≤ length d) → Dec (length x ≤ octetsLimit) → Fitting x d ⊎ TooLong x d
-    by (yes h) (yes k) = inl (h, k)
-    by (yes h) (no k) = inr (inr (omega arith))
-    by (no h) k = inr (inl (omega arith))
-
-fits-yes : (x d : List ℕ) → Fitting x d → fits x d ≡ true
-unfolding fits
-fits-yes x d h = simp (le-leb (length x) (length d) (h .0), le-leb (length x) octetsLimit (h .1))
-
-fits-no : (x d : List ℕ) → TooLong x d → fits x d ≡ false
-unfolding fits
-fits-no x d (inl h) = simp (lt-leb (length x) (length d) h)
-fits-no x d (inr h) = simp (lt-leb (length x) octetsLimit h, both-false)
-
 -- The writer gives no refusal: the file is accepted, its canonical file stands at the start of the buffer, and octets past it keep what they
 -- held.
 pub record WrittenOut (s d : List ℕ) (m : ℕ) : Type 0 where
@@ -102,56 +69,24 @@ pub record WrittenOut (s d : List ℕ) (m : ℕ) : Type 0 where
   pub file : take m (leftOf s d) ≡ canonical (recording frames)
   pub rest : drop m (leftOf s d) ≡ drop m d
 
--- What the writer does with an accepted file whose frames are fs.
-pub record Writes (s d : List ℕ) (fs : List Frame) : Type 0 where
-  pub short : (writtenOf s d ≡ refusedAs noRoom 0) ↔ TooLong (canonical (recording fs)) d
-  pub late : (number place : ℕ) → writtenOf s d ≡ refusedAs number place → (number ≡ noRoom) × (place ≡ 0)
-  pub octets : (m : ℕ) → (writtenOf s d ≡ answered m) ↔ ((length (canonical (recording fs)) ≡ m) × (m ≤ length d) × (m ≤ octetsLimit))
-
 module _ (s d : List ℕ) (fs : List Frame) (e : verdict s ≡ accepted fs) where
   -- Its canonical file.
   abbrev file : List ℕ
   file = canonical (recording fs)
 
-  output-fits : Fitting file d → outputIn d (verdict s) ≡ answered file
-  unfolding outputIn
-  output-fits h = ap (outputIn d) e ∙ rw (fits-yes file d h)
+  -- What the writer answers of an accepted file.
+  pub writer-answers : Writes (writtenOf s d) (length d) fs
+  unfolding writtenOf
+  writer-answers = writes s (length d) fs e
 
-  output-short : TooLong file d → outputIn d (verdict s) ≡ refusedAs noRoom 0
-  unfolding outputIn
-  output-short h = ap (outputIn d) e ∙ rw (fits-no file d h)
-
-  written-fits : Fitting file d → (writtenOf s d ≡ answered (length file)) × (leftOf s d ≡ file ++ drop (length file) d)
-  unfolding writtenOf leftOf leftBy
-  written-fits h = (ap (mapAnswer length) (output-fits h), ap (λ (x : Answer (List ℕ)). leftBy x d) (output-fits h))
-
-  written-short : TooLong file d → (writtenOf s d ≡ refusedAs noRoom 0) × (leftOf s d ≡ d)
-  unfolding writtenOf leftOf leftBy
-  written-short h = (ap (mapAnswer length) (output-short h), ap (λ (x : Answer (List ℕ)). leftBy x d) (output-short h))
-
-  pub writes : Writes s d fs
-  writes = by (one-of file d)
-    where
-      by : Fitting file d ⊎ TooLong file d → Writes s d fs
-      by (inl t) =
-          let w = written-fits t .0 in
-          record {
-            short = (λ h. let z : _≡_ {A = ℕ} 0 1 = cc in let n : ⊥ = omega arith in absurd n, λ h. absurd (not-both file d t h));
-            late = λ number place h. let z : _≡_ {A = ℕ} 0 1 = cc in let n : ⊥ = omega arith in absurd n;
-            octets = λ m. (λ h. let k : length file ≡ m = cc in (k, omega arith, omega arith), λ h. w ∙ ap answered (h .0));
-          }
-      by (inr t) =
-          let w = written-short t .0 in
-          record {
-            short = (λ h. t, λ h. w);
-            late = λ number place h. (cc, cc);
-            octets = λ m. (λ h. let z : _≡_ {A = ℕ} 0 1 = cc in let n : ⊥ = omega arith in absurd n, λ h. absurd (not-both file d (omega arith) t));
-          }
+  left-fits : Fitting file (length d) → leftOf s d ≡ file ++ drop (length file) d
+  unfolding leftOf leftBy
+  left-fits h = ap (λ (x : Answer (List ℕ)). leftBy x d) (output-fits s (length d) fs e h)
 
   out : (m : ℕ) → writtenOf s d ≡ answered m → WrittenOut s d m
   out m h =
-      let w = writes .octets m .0 h in
-      let l = written-fits (omega arith) .1 in
+      let w = writer-answers .octets m .0 h in
+      let l = left-fits (omega arith) in
       record {
         frames = fs;
         is = e;
@@ -161,6 +96,11 @@ module _ (s d : List ℕ) (fs : List Frame) (e : verdict s ≡ accepted fs) wher
         file = rw (← w .0, l) (take-append-seam file (drop (length file) d));
         rest = rw (← w .0, l) (drop-append-seam file (drop (length file) d));
       }
+
+-- The length of an accepted file's canonical file.
+pub length-answers : (s : List ℕ) (fs : List Frame) → verdict s ≡ accepted fs → Writes (canonicalLengthOf s) octetsLimit fs
+unfolding canonicalLengthOf
+length-answers s fs e = writes s octetsLimit fs e
 
 -- The file itself is refused.
 module _ (s d : List ℕ) (r : Refusal) (e : verdict s ≡ refused r) where
@@ -181,7 +121,7 @@ written-numbered : (s d : List ℕ) (number place : ℕ) → writtenOf s d ≡ r
 written-numbered s d number place h = by (verdict s) refl
   where
     by : (v : Verdict) → verdict s ≡ v → 0 < number
-    by (accepted fs) e = omega (arith, writes s d fs e .late number place h)
+    by (accepted fs) e = omega (arith, writer-answers s d fs e .late number place h)
     by (refused r) e = let k = refused-answers s r e .written d in let n : r .number ≡ number = cc in omega (arith, refused-numbered s r e)
 
 -- A call of mfer_canonical whose result is 0 is as one of write_canonical that answers the length handed out.
@@ -209,29 +149,32 @@ module _ {s d left : List ℕ} {m : ℕ} (w : Wrote s d (answered m) left) where
   file-long : length (take m left) ≡ m
   file-long = rw (w .leaves, out-is .file) (out-is .long)
 
--- The file x holds the recording of the accepted file s: the check counts as many frames, and the writer does the same with both.
+-- The file x holds the recording of the accepted file s: the check counts as many frames, the canonical file is as long, and the writer does
+-- the same with both.
 pub record ReadAgain (s x : List ℕ) : Type 0 where
   pub recorded : Reads x (recordingOf s)
   pub check : checkOf x ≡ checkOf s
+  pub measured : canonicalLengthOf x ≡ canonicalLengthOf s
   pub written : (d : List ℕ) → writtenOf x d ≡ writtenOf s d
   pub left : (d : List ℕ) → leftOf x d ≡ leftOf s d
 
 -- What is written is the recording's.
-same-output : (fs gs : List Frame) → recording fs ≡ recording gs → (d : List ℕ) → outputIn d (accepted fs) ≡ outputIn d (accepted gs)
+same-output : (fs gs : List Frame) → recording fs ≡ recording gs → (room : ℕ) → outputIn room (accepted fs) ≡ outputIn room (accepted gs)
 unfolding outputIn
-same-output fs gs q d = rw q
+same-output fs gs q room = rw q
 
 read-again : (s x : List ℕ) (fs : List Frame) → verdict s ≡ accepted fs → Reads x (recordingOf s) → ReadAgain s x
-unfolding writtenOf leftOf
+unfolding writtenOf canonicalLengthOf leftOf
 read-again s x fs e r =
     let q : recording (r .frames) ≡ recording fs = r .recorded ∙ recording-is s fs e in
     let n : length (r .frames) ≡ length fs = sym (recording-long (r .frames)) ∙ ap length q ∙ recording-long fs in
-    let same : (d : List ℕ) → outputIn d (verdict x) ≡ outputIn d (verdict s) = λ d. ap (outputIn d) (r .is) ∙ same-output (r .frames) fs q d ∙ ap (outputIn d) (sym e) in
+    let same : (room : ℕ) → outputIn room (verdict x) ≡ outputIn room (verdict s) = λ room. ap (outputIn room) (r .is) ∙ same-output (r .frames) fs q room ∙ ap (outputIn room) (sym e) in
     record {
       recorded = r;
       check = check-accepted x (length fs) .1 (r .frames, r .is, n) ∙ sym (check-accepted s (length fs) .1 (fs, e, refl));
-      written = λ d. ap (mapAnswer length) (same d);
-      left = λ d. ap (λ (y : Answer (List ℕ)). leftBy y d) (same d);
+      measured = ap (mapAnswer length) (same octetsLimit);
+      written = λ d. ap (mapAnswer length) (same (length d));
+      left = λ d. ap (λ (y : Answer (List ℕ)). leftBy y d) (same (length d));
     }
 
 pub written-again : {s d left : List ℕ} {m : ℕ} → Wrote s d (answered m) left → ReadAgain s (take m left)

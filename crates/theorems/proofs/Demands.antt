@@ -19,17 +19,19 @@ use Rattle.reader.specs.Answer.{attributesIn, attributesOf, sampleIn, sampleOf,
 use Rattle.view.specs.View.{viewOf}
 use Rattle.bulk.specs.Samples.{readOf}
 use Rattle.canonical.specs.Canonical.{canonical}
-use Rattle.canonical.specs.Write.{recordingOf, Wrote}
+use Rattle.canonical.specs.Write.{recordingOf, writtenOf, canonicalLengthOf, Wrote}
 use Rattle.mfer.specs.Answers.{outputs, CanonicalOut}
 use Rattle.reader.proofs.Ordered.{endOf}
 use Rattle.reader.proofs.Checks.{check-accepted, check-refused}
+use Rattle.canonical.proofs.Room.{Writes}
+use Rattle.canonical.proofs.Lengths.{ByLength, by-length}
 use Rattle.theorems.proofs.Questions.{frameNumber, ByChannel, BySample, accepted-or-refused, limit-exactly, limit-place, attributes-answered, channel-answered, sample-answered, place-answered, bitsRead, samples-answered, same-place}
 use Rattle.theorems.proofs.Places.{Name, Exists, NamedSample, Belongs, InWaveform, Owned, sample-exists, sample-inside, samples-apart, octet-owned}
 use Rattle.theorems.proofs.Waveforms.{PartOfFile, waveform-part, waveforms-apart}
 use Rattle.theorems.proofs.EntryPoints.{AnsweredBy, HandedOut, BuffersKept, refused-answers, handed-out, buffers-kept}
 use Rattle.theorems.specs.Refusing.{Refusing}
 use Rattle.theorems.proofs.Exactly.{refused-exactly, refused-numbered}
-use Rattle.theorems.proofs.Canonical.{Writes, ReadAgain, writes, wrote-out, written-file, written-again, same-written}
+use Rattle.theorems.proofs.Canonical.{ReadAgain, writer-answers, length-answers, wrote-out, written-file, written-again, same-written}
 use Rattle.theorems.proofs.Told.{RecordingTold, ToldSame, recording-told, told-same}
 
 -- ---- demand 1
@@ -46,7 +48,7 @@ pub record DemandOne (s : List ℕ) : Type 0 where
   pub numbered : (number place : ℕ) → checkOf s ≡ refusedAs number place → (0 < number) × (number ≤ longFile)
   -- The file is accepted or refused.
   pub ends : ((fs : List Frame) × (verdict s ≡ accepted fs)) ⊎ ((r : Refusal) × (verdict s ≡ refused r))
-  -- On a refused file every question and the writer answer its refusal.
+  -- On a refused file every question, the writer and the length of its canonical file answer its refusal.
   pub refusedFile : (r : Refusal) → verdict s ≡ refused r → AnsweredBy s r
   -- On an accepted file 20, 21, 22 and 23 are answered at place 0, each exactly when its condition holds and none ahead of it does.
   pub attributes : (fs : List Frame) → verdict s ≡ accepted fs → (i c : ℕ) → ByChannel (attributesOf s i c) (attributesIn c) fs i c
@@ -54,7 +56,10 @@ pub record DemandOne (s : List ℕ) : Type 0 where
   pub sample : (fs : List Frame) → verdict s ≡ accepted fs → (i c n : ℕ) → BySample (sampleOf s i c n) (sampleIn c n) fs i c n
   pub place : (fs : List Frame) → verdict s ≡ accepted fs → (i c n : ℕ) → BySample (placedOf s i c n) (λ f. foundPlace (placeOf c n f) (viewOf c f)) fs i c n
   pub samples : (fs : List Frame) → verdict s ≡ accepted fs → (i c n room : ℕ) → BySample (readOf s i c n room) (bitsRead c n room) fs i c n
-  pub written : (fs : List Frame) → verdict s ≡ accepted fs → (d : List ℕ) → Writes s d fs
+  pub written : (fs : List Frame) → verdict s ≡ accepted fs → (d : List ℕ) → Writes (writtenOf s d) (length d) fs
+  pub measured : (fs : List Frame) → verdict s ≡ accepted fs → Writes (canonicalLengthOf s) octetsLimit fs
+  -- Where the length is answered, the writer answers it in a buffer of at least so many octets, and 23 in a shorter one.
+  pub byLength : (d : List ℕ) → ByLength s d
   -- Each function for C hands a refusal out exactly when its question answers it, and all its other outputs are then 0.
   pub handed : HandedOut s
   -- A refusal changes no octet of the buffer.
@@ -74,7 +79,9 @@ demand-one s =
       sample = sample-answered s;
       place = place-answered s;
       samples = samples-answered s;
-      written = λ fs e d. writes s d fs e;
+      written = λ fs e d. writer-answers s d fs e;
+      measured = length-answers s;
+      byLength = by-length s;
       handed = handed-out s;
       kept = buffers-kept s;
     }

@@ -1,7 +1,7 @@
 -- Refusals at every entry point.
---     AnsweredBy, refused-answers    on a refused file every question and the writer answer that file's refusal
+--     AnsweredBy, refused-answers    on a refused file every question, the writer and the length answer that file's refusal
 --     handed-exactly     a function for C hands a refusal out exactly when its question answers it
---     HandedOut, handed-out    so each of the five
+--     HandedOut, handed-out    so each of the six
 --     refusal-keeps, counted-refusal    a refusal changes no octet of a buffer
 --     BuffersKept, buffers-kept         so for each function that has one
 -- Assumes nothing.
@@ -13,16 +13,17 @@ use native.Mathlib.Omega.{arith}
 use lib.ListN.{length}
 use Rattle.heads.specs.declared.Refusal.{Refusal}
 use Rattle.heads.specs.Answer.{Answer, answered, refusedAs, refusedBy, mapAnswer, leftBy}
+use Rattle.standing.specs.Standing.{octetsLimit}
 use Rattle.verdict.specs.Verdict.{Verdict, refused, verdict, checkedAs, checkOf}
 use Rattle.reader.specs.Answer.{attributesOf, sampleOf, seenOf, placedOf}
 use Rattle.reader.proofs.Order.{asked-refused}
-use Rattle.canonical.specs.Write.{outputIn, writtenOf, leftOf, Wrote}
+use Rattle.canonical.specs.Write.{outputIn, writtenOf, canonicalLengthOf, leftOf, Wrote}
 use Rattle.bulk.specs.Samples.{readOf, countRead}
 use Rattle.mfer.specs.Answers.{Outputs, outputs, handedOut, countOut, CanonicalOut, zeroAttributes, attributesOut, zeroSample, sampleOut}
 
 -- ---- a refused file
 
--- Every question and the writer answer the refusal r.
+-- Every question, the writer and the length answer the refusal r.
 pub record AnsweredBy (s : List ℕ) (r : Refusal) : Type 0 where
   pub check : checkOf s ≡ refusedBy r
   pub attributes : (i c : ℕ) → attributesOf s i c ≡ refusedBy r
@@ -30,10 +31,11 @@ pub record AnsweredBy (s : List ℕ) (r : Refusal) : Type 0 where
   pub sample : (i c n : ℕ) → sampleOf s i c n ≡ refusedBy r
   pub place : (i c n : ℕ) → placedOf s i c n ≡ refusedBy r
   pub samples : (i c n room : ℕ) → readOf s i c n room ≡ refusedBy r
+  pub measured : canonicalLengthOf s ≡ refusedBy r
   pub written : (d : List ℕ) → writtenOf s d ≡ refusedBy r
 
 pub refused-answers : (s : List ℕ) (r : Refusal) → verdict s ≡ refused r → AnsweredBy s r
-unfolding checkOf checkedAs attributesOf seenOf sampleOf placedOf readOf writtenOf outputIn
+unfolding checkOf checkedAs attributesOf seenOf sampleOf placedOf readOf writtenOf canonicalLengthOf outputIn
 refused-answers s r e =
     record {
       check = ap checkedAs e;
@@ -42,7 +44,8 @@ refused-answers s r e =
       sample = λ i c n. asked-refused i c _ e;
       place = λ i c n. asked-refused i c _ e;
       samples = λ i c n room. asked-refused i c _ e;
-      written = λ d. ap (λ (v : Verdict). mapAnswer length (outputIn d v)) e;
+      measured = ap (λ (v : Verdict). mapAnswer length (outputIn octetsLimit v)) e;
+      written = λ d. ap (λ (v : Verdict). mapAnswer length (outputIn (length d) v)) e;
     }
 
 -- ---- the functions for C
@@ -58,12 +61,13 @@ handed-exactly {A} {B} place values zeros (answered x) number at h =
 handed-exactly {A} {B} place values zeros (refusedAs m p) number at h =
     (λ e. λ i. refusedAs (e i .refusal) (e i .place), λ e. ap (handedOut place values zeros) e)
 
--- The five functions for C.
+-- The six functions for C.
 pub record HandedOut (s : List ℕ) : Type 0 where
   pub check : HandedExactly (countOut (checkOf s)) 0 (checkOf s)
   pub attributes : (i c : ℕ) → HandedExactly (attributesOut (attributesOf s i c)) zeroAttributes (attributesOf s i c)
   pub sample : (i c n : ℕ) → HandedExactly (sampleOut (sampleOf s i c n)) zeroSample (sampleOf s i c n)
   pub samples : (i c n room : ℕ) → HandedExactly (countOut (countRead s i c n room)) 0 (countRead s i c n room)
+  pub canonicalLength : HandedExactly (countOut (canonicalLengthOf s)) 0 (canonicalLengthOf s)
   pub canonical : (d : List ℕ) → HandedExactly (countOut (writtenOf s d)) 0 (writtenOf s d)
 
 pub handed-out : (s : List ℕ) → HandedOut s
@@ -73,6 +77,7 @@ handed-out s =
       attributes = λ i c. handed-exactly _ _ _ (attributesOf s i c);
       sample = λ i c n. handed-exactly _ _ _ (sampleOf s i c n);
       samples = λ i c n room. handed-exactly _ _ _ (countRead s i c n room);
+      canonicalLength = handed-exactly _ _ _ (canonicalLengthOf s);
       canonical = λ d. handed-exactly _ _ _ (writtenOf s d);
     }
 
@@ -104,7 +109,7 @@ module _ (s d : List ℕ) where
   -- By the writer's answer.
   written-kept : (number place : ℕ) (left : List ℕ) → writtenOf s d ≡ refusedAs number place → left ≡ leftOf s d → left ≡ d
   unfolding writtenOf leftOf
-  written-kept number place left a l = l ∙ refusal-keeps (outputIn d (verdict s)) d number place a
+  written-kept number place left a l = l ∙ refusal-keeps (outputIn (length d) (verdict s)) d number place a
 
   pub buffers-kept : BuffersKept s d
   unfolding countRead

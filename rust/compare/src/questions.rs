@@ -122,8 +122,13 @@ fn ask_samples(file: &[u8], frame: u32, channel: u32, first: u64, room: usize) -
     same(question, proved, second)
 }
 
-/// The canonical file in buffers that are too short, exact and longer.
+/// The canonical file's length, and the file in buffers that are too short, exact and longer.
 fn ask_canonical(file: &[u8], frames: u32) -> Agreed {
+    same(
+        || "length of the canonical file".into(),
+        ffi::canonical_length(file),
+        expected_count(&writer::canonical_length(file)),
+    )?;
     let length = match second_canonical(file) {
         Ok(canonical) => {
             let written = ffi::check(&canonical);
@@ -154,20 +159,11 @@ fn rewrites_itself(canonical: &[u8]) -> Agreed {
     same(question, &again[..], canonical)
 }
 
-/// The second program's canonical file, in a buffer that is found long enough.
+/// The second program's canonical file, in a buffer of its length.
 fn second_canonical(file: &[u8]) -> Result<Vec<u8>, Refusal> {
-    let mut room = 2 * file.len() + 300;
-    loop {
-        let mut out = vec![0; room];
-        match writer::canonical(file, &mut out) {
-            Ok(length) => {
-                out.truncate(length);
-                return Ok(out);
-            }
-            Err(refusal) if refusal.number == Refusal::NO_ROOM => room *= 4,
-            Err(refusal) => return Err(refusal),
-        }
-    }
+    let mut out = vec![0; writer::canonical_length(file)?];
+    writer::canonical(file, &mut out)?;
+    Ok(out)
 }
 
 fn expected_check(answer: &Result<u32, Refusal>) -> Checked {

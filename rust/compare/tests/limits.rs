@@ -107,6 +107,8 @@ fn one_frame_of_the_whole_file(limit: usize) {
     let count = File::new(&file).samples(0, 0, samples - 2, &mut bits);
     assert_eq!((count, bits), (Ok(2), [0, 0x0012, 9]));
     // The canonical file would have 62 octets more.
+    let answer = ffi::canonical_length(&file);
+    assert_eq!((answer.number, answer.count), (Refusal::NO_ROOM, 0));
     let mut out = vec![0; limit + 100];
     let answer = ffi::canonical(&file, &mut out);
     assert_eq!((answer.number, answer.count), (Refusal::NO_ROOM, 0));
@@ -132,6 +134,7 @@ fn longer_files_are_refused(limit: usize) {
         assert_eq!(file.attributes(0, 0), Err(refusal));
         assert_eq!(file.sample(0, 0, 0), Err(refusal));
         assert_eq!(file.samples(0, 0, 0, &mut [0]), Err(refusal));
+        assert_eq!(file.canonical_length(), Err(refusal));
         let mut out = [0xA5; 100];
         assert_eq!(file.canonical(&mut out), Err(refusal));
         assert_eq!(out, [0xA5; 100]);
@@ -149,6 +152,7 @@ fn the_longest_canonical_file(limit: usize) {
     *whole.last_mut().unwrap() = 0x77;
     let file = &mut whole[..header + samples];
     *file.last_mut().unwrap() = 0x55;
+    assert_eq!(File::new(file).canonical_length(), Ok(limit));
     let mut out = vec![0; limit + 100];
     let answer = ffi::canonical(file, &mut out[..limit - 1]);
     assert_eq!((answer.number, answer.count), (Refusal::NO_ROOM, 0));
@@ -160,6 +164,8 @@ fn the_longest_canonical_file(limit: usize) {
     drop(out);
     let mut out = vec![0; limit + 100];
     whole[5..9].copy_from_slice(&(samples as u32 + 1).to_be_bytes());
+    let answer = ffi::canonical_length(&whole);
+    assert_eq!((answer.number, answer.count), (Refusal::NO_ROOM, 0));
     let answer = ffi::canonical(&whole, &mut out);
     assert_eq!((answer.number, answer.count), (Refusal::NO_ROOM, 0));
     assert!(out[..1000].iter().all(|octet| *octet == 0));

@@ -45,6 +45,13 @@ extern "C" {
         place: *mut u64,
     ) -> u32;
 
+    fn mfer_canonical_length(
+        file: *const u8,
+        file_len: usize,
+        length: *mut u64,
+        place: *mut u64,
+    ) -> u32;
+
     fn mfer_canonical(
         file: *const u8,
         file_len: usize,
@@ -163,12 +170,12 @@ pub fn sample(file: &[u8], frame: u32, channel: u32, number: u64) -> Sampled {
     }
 }
 
-/// What `mfer_samples` and `mfer_canonical` answer, but for the buffer.
+/// What `mfer_samples`, `mfer_canonical_length` and `mfer_canonical` answer, but for the buffer.
 #[derive(Clone, Copy, PartialEq, Eq, Debug)]
 pub struct Filled {
     /// The refusal's number, 0 for none.
     pub number: u32,
-    /// How many samples or octets were written to the buffer.
+    /// How many samples or octets were written to the buffer, or would be.
     pub count: u64,
     /// The refusal's place.
     pub place: u64,
@@ -191,6 +198,19 @@ pub fn samples(file: &[u8], frame: u32, channel: u32, first: u64, out: &mut [u64
             &mut place,
         )
     };
+    Filled {
+        number,
+        count,
+        place,
+    }
+}
+
+/// Asks `mfer_canonical_length`.
+pub fn canonical_length(file: &[u8]) -> Filled {
+    let (mut count, mut place) = (UNSET, UNSET);
+    // SAFETY: see the module's first lines.
+    let number =
+        unsafe { mfer_canonical_length(file.as_ptr(), file.len(), &mut count, &mut place) };
     Filled {
         number,
         count,

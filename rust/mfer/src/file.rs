@@ -75,6 +75,20 @@ impl<'a> File<'a> {
         Refusal::or(filled.number, filled.place, filled.count as usize)
     }
 
+    /// The length of the canonical file: the octets that [`File::canonical`] needs.
+    /// [`Refusal::NO_ROOM`] here says that it is longer than a file may be.
+    ///
+    /// ```
+    /// use mfer::File;
+    ///
+    /// assert_eq!(File::new(&[]).canonical_length(), Ok(0));
+    /// assert_eq!(File::new(&[0x1E, 0x03, 0x00, 0x01, 0x02]).canonical_length(), Ok(67));
+    /// ```
+    pub fn canonical_length(&self) -> Result<usize, Refusal> {
+        let filled = ffi::canonical_length(self.0);
+        Refusal::or(filled.number, filled.place, filled.count as usize)
+    }
+
     /// Writes the canonical file to the start of `out` and answers its length. The octets past it
     /// keep what they held; at a refusal all do.
     ///
@@ -92,24 +106,12 @@ impl<'a> File<'a> {
         Refusal::or(filled.number, filled.place, filled.count as usize)
     }
 
-    /// The canonical file. [`Refusal::NO_ROOM`] here says that it is longer than a file may be.
+    /// The canonical file, in a vector of just its length. It goes through the file's items three
+    /// times. [`Refusal::NO_ROOM`] here says that it is longer than a file may be.
     pub fn canonical_vec(&self) -> Result<Vec<u8>, Refusal> {
-        const LIMIT: usize = File::LIMIT as usize;
-        let mut room = (2 * self.0.len() + 1024).min(LIMIT);
-        loop {
-            let mut out = vec![0; room];
-            match self.canonical(&mut out) {
-                Ok(length) => {
-                    out.truncate(length);
-                    out.shrink_to_fit();
-                    return Ok(out);
-                }
-                Err(refusal) if refusal.number == Refusal::NO_ROOM && room < LIMIT => {
-                    room = (4 * room).min(LIMIT);
-                }
-                Err(refusal) => return Err(refusal),
-            }
-        }
+        let mut out = vec![0; self.canonical_length()?];
+        self.canonical(&mut out)?;
+        Ok(out)
     }
 
     /// The frames in order, if the file is accepted.

@@ -92,7 +92,24 @@ fn canonical_files_that_are_far_longer_than_the_file() {
     }
     let written = File::new(&octets).canonical_vec().unwrap();
     assert_eq!(written.len(), 3 + 100 * (14 + 256 * 42 + 128 + 2));
+    assert_eq!(written.capacity(), written.len());
     assert_eq!(File::new(&written).canonical_vec(), Ok(written.clone()));
+}
+
+/// The length is what the writer answers, and the least room in which it does.
+#[test]
+fn the_length_of_the_canonical_file() {
+    let octets = two_channels(10);
+    let file = File::new(&octets);
+    let length = file.canonical_length().unwrap();
+    let mut out = vec![0xA5; length];
+    let refusal = Refusal {
+        number: Refusal::NO_ROOM,
+        place: 0,
+    };
+    assert_eq!(file.canonical(&mut out[1..]), Err(refusal));
+    assert_eq!(file.canonical(&mut out), Ok(length));
+    assert_eq!(file.canonical_vec(), Ok(out));
 }
 
 #[test]
@@ -195,6 +212,7 @@ fn a_refused_file_answers_its_refusal_to_every_question() {
     let mut out = [0xA5; 200];
     assert_eq!(file.canonical(&mut out), Err(refusal));
     assert_eq!(out, [0xA5; 200]);
+    assert_eq!(file.canonical_length(), Err(refusal));
     assert_eq!(file.canonical_vec(), Err(refusal));
     assert_eq!(file.frames().err(), Some(refusal));
     assert_eq!(file.frame(0).err(), Some(refusal));

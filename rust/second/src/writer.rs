@@ -9,7 +9,7 @@ use crate::settings::Record;
 /// a refusal `out` keeps all its octets.
 pub fn canonical(octets: &[u8], out: &mut [u8]) -> Result<usize, Refusal> {
     let length = canonical_length(octets)?;
-    if length > FILE_LIMIT || length > out.len() as u64 {
+    if length > out.len() {
         return Err(Refusal::without_place(Refusal::NO_ROOM));
     }
     let mut output = Output { octets: out, at: 0 };
@@ -20,16 +20,19 @@ pub fn canonical(octets: &[u8], out: &mut [u8]) -> Result<usize, Refusal> {
     Ok(output.at)
 }
 
-/// The length of the canonical file, if the file is accepted.
-fn canonical_length(octets: &[u8]) -> Result<u64, Refusal> {
+/// The length of the canonical file of an accepted file, if it is no longer than a file may be.
+pub fn canonical_length(octets: &[u8]) -> Result<usize, Refusal> {
     let mut length = 0;
     let frames = scan(octets, |standing, frame| {
         length += frame_length(standing, frame)
     })?;
-    Ok(match frames {
-        0 => 0,
-        _ => 3 + length,
-    })
+    if frames > 0 {
+        length += 3;
+    }
+    match length <= FILE_LIMIT {
+        true => Ok(length as usize),
+        false => Err(Refusal::without_place(Refusal::NO_ROOM)),
+    }
 }
 
 /// Octets of one frame in the canonical file.

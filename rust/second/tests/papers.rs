@@ -123,6 +123,8 @@ fn p6_to_p10_are_refused() {
         assert_eq!(attributes(&file, 9, 9), refused(number, place));
         assert_eq!(sample(&file, 9, 9, 9), refused(number, place));
         assert_eq!(samples(&file, 9, 9, 9, &mut [0]), refused(number, place));
+        let length = second::writer::canonical_length(&file);
+        assert_eq!(length, refused(number, place));
         let mut buffer = [0xA5; 200];
         let written = second::writer::canonical(&file, &mut buffer);
         assert_eq!(written, refused(number, place));

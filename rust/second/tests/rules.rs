@@ -379,6 +379,7 @@ fn files_have_a_limit() {
     assert_eq!(check(&file), refused(15, 0));
     assert_eq!(sample(&file, 9, 9, 9), refused(15, 0));
     assert_eq!(writer::canonical(&file, &mut []), refused(15, 0));
+    assert_eq!(writer::canonical_length(&file), refused(15, 0));
     file.truncate(limit);
     assert_eq!(check(&file), Ok(1));
     let last = sample(&file, 0, 0, 1_073_741_819);
@@ -387,6 +388,7 @@ fn files_have_a_limit() {
     // The canonical file of this one would pass the limit, though there is room for it.
     let mut buffer = vec![0; limit + 1000];
     assert_eq!(writer::canonical(&file, &mut buffer), refused(23, 0));
+    assert_eq!(writer::canonical_length(&file), refused(23, 0));
 }
 
 #[test]

@@ -1,106 +1,71 @@
--- By what the pass over the file says, and by whether the canonical file fits.
-use mathlib.Core.Path.{_∙_}
-use native.Mathlib.Omega.{arith}
-use Rattle.canonical.proofs.Writing.{written-refused, written-none, written-short, short-buffer, short-limit, ready, written-whole, promised}
+-- By the canonical file's length, and by whether the buffer has as many octets.
 use borrow.Author.Needs.{needs}
+use Rattle.canonical.proofs.Lengths.{written-refused, written-none, written-short, ready, written-whole}
 use Rattle.canonical.proofs.write_canonical.Statement.{statement}
 use Rattle.canonical.proofs.write_canonical.Tie as tie
 
-scan-file-requires : tie.Need-scan-file-requires
-scan-file-requires c κs = search needs
+canonical-length-requires : tie.Need-canonical-length-requires
+canonical-length-requires c κs = search needs
 
-enum-known-checked : tie.Need-enum-known-checked
-enum-known-checked c = search needs
-
-enum-known-checked-2 : tie.Need-enum-known-checked-2
-enum-known-checked-2 c = search needs
-
-enum-known-checked-3 : tie.Need-enum-known-checked-3
-enum-known-checked-3 c = search needs
+enum-known-answer : tie.Need-enum-known-answer
+enum-known-answer c = search needs
 
 enum-told : tie.Need-enum-told
 enum-told c = search needs
 
 returns : tie.Need-returns
-returns c = search needs
+returns c =
+    let at-length = c .before .before in
+    written-refused (λ i. at-length .before .before .shared-slice-known .given i .fits) (at-length .canonical-length .result) (c .before .match .keys2) (at-length .canonical-length .ensures)
 
 returns-2 : tie.Need-returns-2
 returns-2 c =
-    let at-match = c .before .before .before .before in
-    let at-scan = at-match .before .before in
-    promised (λ i. at-scan .before .before .shared-slice-known .given i .fits)
-    (written-refused _ _ _ _ (at-scan .scan-file .ensures) _ (at-match .checked2 .given .1 ∙ c .before .checked3 .given .1))
+    let at-match = c .before .before in
+    let at-length = at-match .before .before in
+    written-none (λ i. at-length .before .before .shared-slice-known .given i .fits) (at-length .canonical-length .ensures) (at-match .answer .given .1) (c .if1 .taken)
+
+no-room-requires : tie.Need-no-room-requires
+no-room-requires c κs = search needs
 
 returns-3 : tie.Need-returns-3
 returns-3 c =
-    let at-match = c .before .before in
-    let at-scan = at-match .before .before in
-    promised (λ i. at-scan .before .before .shared-slice-known .given i .fits)
-    (written-none _ _ _ _ (at-scan .scan-file .ensures) _ (at-match .checked .given .1) (c .if1 .taken))
-
-sub-if2 : tie.Need-sub-if2
-sub-if2 c = search needs
-
-returns-4 : tie.Need-returns-4
-returns-4 c =
-    let at-none = c .before in
-    let at-match = at-none .before .before in
-    let at-scan = at-match .before .before in
-    let pass = at-scan .scan-file .ensures in
-    let counted = at-match .checked .given .1 in
-    let some = at-none .if1 .left in
-    promised (λ i. at-scan .before .before .shared-slice-known .given i .fits)
-    (written-short _ _ _ _ pass _ counted some (short-limit _ _ _ _ pass _ counted some (omega (arith, c .if2 .taken))))
-
-add-if3 : tie.Need-add-if3
-add-if3 c = search needs
-
-returns-5 : tie.Need-returns-5
-returns-5 c =
-    let at-none = c .before .before in
-    let at-match = at-none .before .before in
-    let at-scan = at-match .before .before in
-    let pass = at-scan .scan-file .ensures in
-    let counted = at-match .checked .given .1 in
-    let some = at-none .if1 .left in
-    promised (λ i. at-scan .before .before .shared-slice-known .given i .fits)
-    (written-short _ _ _ _ pass _ counted some (short-buffer _ _ _ _ pass _ counted some (c .if3 .taken)))
+    let at-short = c .before in
+    let at-match = at-short .before .before .before in
+    let at-length = at-match .before .before in
+    written-short (λ i. at-length .before .before .shared-slice-known .given i .fits) (at-length .canonical-length .ensures) (at-match .answer .given .1)
+    (c .no-room .ensures) (at-short .if2 .taken)
 
 write-frames-requires : tie.Need-write-frames-requires
 write-frames-requires c κs =
-    let at-none = c .before .before .before in
-    let at-match = at-none .before .before in
-    ready _ _ _ _ (at-match .before .before .scan-file .ensures) _ (at-match .checked .given .1) (at-none .if1 .left) (c .before .if3 .left)
+    let at-room = c .before in
+    let at-match = at-room .before .before .before in
+    let at-length = at-match .before .before in
+    ready (λ i. at-length .before .before .shared-slice-known .given i .fits) (at-length .canonical-length .ensures) (at-match .answer .given .1)
+    (at-room .before .if1 .left) (at-room .if2 .left)
 
 same-length : tie.Need-same-length
 same-length c = search needs
 
-returns-6 : tie.Need-returns-6
-returns-6 c =
-    let at-room = c .before .before .before .before in
-    let at-none = at-room .before .before in
-    let at-match = at-none .before .before in
-    let at-scan = at-match .before .before in
-    promised (λ i. at-scan .before .before .shared-slice-known .given i .fits)
-    (written-whole _ _ _ _ (at-scan .scan-file .ensures) _ (at-match .checked .given .1) (at-none .if1 .left)
-    (omega (arith, at-room .before .if2 .left)) (at-room .if3 .left) (c .before .before .write-frames .ensures))
+returns-4 : tie.Need-returns-4
+returns-4 c =
+    let at-write = c .before .before in
+    let at-room = at-write .before .before in
+    let at-match = at-room .before .before .before in
+    let at-length = at-match .before .before in
+    written-whole (λ i. at-length .before .before .shared-slice-known .given i .fits) (at-length .canonical-length .ensures) (at-match .answer .given .1)
+    (at-room .before .if1 .left) (at-room .if2 .left) (at-write .write-frames .ensures)
 
 pub write-canonical-spec : {M : Type 1} → statement M
 write-canonical-spec =
     tie.close
     (tie.spec
-    scan-file-requires
-    enum-known-checked
-    enum-known-checked-2
-    enum-known-checked-3
+    canonical-length-requires
+    enum-known-answer
     enum-told
     returns
     returns-2
+    no-room-requires
     returns-3
-    sub-if2
-    returns-4
-    add-if3
-    returns-5
     write-frames-requires
     same-length
-    returns-6)
+    returns-4)

@@ -9,17 +9,9 @@ pub fn refused<T>(number: u8, place: u64) -> Result<T, Refusal> {
     Err(Refusal { number, place })
 }
 
-/// The canonical file, written to a buffer that is found long enough.
+/// The canonical file, in a buffer of its length.
 pub fn canonical(file: &[u8]) -> Vec<u8> {
-    let mut buffer = vec![0; 1000];
-    loop {
-        match writer::canonical(file, &mut buffer) {
-            Ok(length) => {
-                buffer.truncate(length);
-                return buffer;
-            }
-            Err(refusal) => assert_eq!(refusal.number, 23),
-        }
-        buffer = vec![0; buffer.len() * 4];
-    }
+    let mut buffer = vec![0; writer::canonical_length(file).unwrap()];
+    assert_eq!(writer::canonical(file, &mut buffer), Ok(buffer.len()));
+    buffer
 }
