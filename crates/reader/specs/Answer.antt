@@ -83,6 +83,10 @@ askedSample answer frame channel n v =
 abbrev pub attributesWith : ℤ → ℕ → ℕ → Settings → Attributes
 attributesWith start channels sequences c = record { start = start; channels = channels; sequences = sequences; settings = c }
 
+-- The attributes of a channel that is seen.
+abbrev pub attributesSeen : View → Attributes
+attributesSeen v = attributesWith (v .start) (v .channels) (v .sequences) (reported (v .settings))
+
 -- The attributes of a channel in a frame: its settings as they are reported.
 unfoldable pub attributesIn : ℕ → Frame → Attributes
 attributesIn channel f = attributesWith (f .start) (length (f .channels)) (f .sequences) (reported (channelIn channel (f .channels)))

@@ -5,9 +5,8 @@
 // a refusal. All are thin over `pass::scan_file`, which walks the file once.
 // Read first: in crate pass specs/Verdict.antt (the file), then specs/Answer.antt (the questions).
 ghost use mathlib.Core.Path.{_≡_};
-ghost use Rattle.layout.specs.Frame.{reported};
 ghost use Rattle.verdict.specs.Verdict.{checkedSays, checkOf};
-ghost use Rattle.reader.specs.Answer.{describedSays, sampledSays, lookedUpSays, placedSays, attributesWith, attributesOf, placedOf, sampleOf, seenOf};
+ghost use Rattle.reader.specs.Answer.{describedSays, sampledSays, lookedUpSays, placedSays, attributesSeen, attributesOf, placedOf, sampleOf, seenOf};
 use heads::Refusal;
 use pass::Asked;
 use pass::Found;
@@ -100,8 +99,8 @@ pub fn look_up(s: &[u8], frame: u32, channel: u32) -> LookedUp
 }
 
 // The attributes of the channel that is seen.
-fn attributes_seen(v: View) -> Attributes
-    ensures { λ r. ⌜ r ≡ attributesWith (v .start) (v .channels) (v .sequences) (reported (v .settings)) ⌝ }
+pub fn attributes_seen(v: View) -> Attributes
+    ensures { λ r. ⌜ r ≡ attributesSeen v ⌝ }
 {
     let settings = layout::reported(v.settings);
     Attributes {

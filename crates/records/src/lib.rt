@@ -2,7 +2,7 @@
 //
 // A record takes `Records::WORDS` words, one number a word and one for the octets of a sequence below its channel; words hold as many records as
 // there is room for. A number is that of the lowest octets of its word, so that any words at all are records.
-// Promises, for any words and any number of a record: `get` answers a record, `held` its settings, `put` stores one, and `clear` sends all channels back to
+// Promises, for any words and any number of a record: `get` answers a record, `held` its settings and `below` the octets below its channel, `put` stores one, and `clear` sends all channels back to
 // the root settings. Where there is no such record `get` answers zeros and `put` stores nothing. Words of no record's numbers stay as they are. `settled`
 // answers what stands for a record's channel, `at_most` how many of so many channels have records, and `layout_in` the layout that their records give.
 // `refresh` brings the records of so many channels up to date, keeps the octets below each, and answers the layout.
@@ -16,7 +16,7 @@ ghost use Rattle.octets.specs.Number.{lowOf, twos};
 ghost use Rattle.settings.specs.Settings.{channelLimit};
 ghost use Rattle.dated.specs.Dated.{zeroDated, settledAt, upToDate};
 ghost use Rattle.layout.specs.Measure.{layoutOf};
-ghost use Rattle.records.specs.Records.{recordNumbers, scaleBy, bitsBy, recordBy, wordsAt, recordsHeld, recordsIn, heldIn, outdated, Holding, Refreshed, Overlaid};
+ghost use Rattle.records.specs.Records.{recordNumbers, scaleBy, bitsBy, recordBy, wordsAt, recordsHeld, recordsIn, heldIn, belowIn, outdated, Holding, Refreshed, Overlaid};
 ghost use Rattle.records.specs.Records.{recordWords, belowWord};
 use dated::Dated;
 use dated::Dates;
@@ -251,6 +251,16 @@ pub fn held(t: &[u64], k: usize) -> Settings
 {
     let record = get(t, k);
     record.settings
+}
+
+// The octets of a sequence below a channel, as they are kept with its record; 0 where there is none.
+pub fn below(t: &[u64], k: usize) -> u64
+    ensures { λ r. ⌜ r ≡ belowIn (now (t .entry)) k ⌝ }
+{
+    if k < t.len() / Records::WORDS {
+        return t[k * Records::WORDS + Records::BELOW];
+    }
+    0
 }
 
 // The layout of the first `count` channels by what their records hold, as far as there are records.

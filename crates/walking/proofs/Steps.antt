@@ -1,11 +1,12 @@
 -- Laws of a walk begun and gone on with, in words.
 --     can-hold              words that can hold a head
+--     lent-all              the words from a place on
 --     begun                 a walk begun
 --     begins-when           words that begin a walk
 --     opens-refused, opens-few, opens-begun    the words of a refused file, too few words, and words that begin a walk
 --     goes-few, goes-on     too few words, and words that go on
 -- Assumes nothing.
-use mathlib.Core.Path.{_≡_, refl, sym, ap, _∙_}
+use mathlib.Core.Path.{_≡_, refl, sym, ap, subst, _∙_}
 use mathlib.Core.Bool.{Bool, true, false}
 use mathlib.Core.List.{List, [], _++_, append-nil, map}
 use Prim.Native.Nat.{ℕ, _+_, _-_, _≤_, _<_}
@@ -27,7 +28,7 @@ use Rattle.standing.specs.Standing.{firstStanding}
 use Rattle.items.specs.declared.Within.the-variants.{Root}
 use Rattle.items.specs.Walk.{cursor}
 use Rattle.dated.specs.declared.Dated.{Dated}
-use Rattle.walk.specs.Advance.{Stand, stand, stop, advanceOf, standOf, firstHead, Advances}
+use Rattle.walk.specs.Advance.{Stand, stand, stop, advanceOf, standOf, firstHead, BelowKept, Advances}
 use Rattle.walking.specs.Words.{headWords, headIn, waveformIn, standIn, Keeping}
 use Rattle.walking.specs.Steps.{noWaveform, frameTold, holdsHead, walkBegins, begunIn, Begins, Opens, Goes}
 
@@ -50,7 +51,7 @@ lent n u = take (length u - n) (drop n u)
 abbrev given-back : ℕ → List ℕ → List ℕ → List ℕ
 given-back n u x = take n u ++ (x ++ drop (length u - n) (drop n u))
 
-lent-all : (n : ℕ) (u : List ℕ) → lent n u ≡ drop n u
+pub lent-all : (n : ℕ) (u : List ℕ) → lent n u ≡ drop n u
 lent-all n u = take-all (length u - n) (drop n u) (omega (arith, length-drop n u))
 
 module _ (n : ℕ) (u x : List ℕ) (room : n ≤ length u) where
@@ -98,6 +99,7 @@ module _ (u x : List ℕ) (room : headWords ≤ length u) {h : Head} {f : Wavefo
         same = ap (stop k) stand-kept ∙ a .same ∙ from ∙ sym (can-hold u (advanceOf s (standIn u)) (stop Step.Ended (standIn u)) room);
         tells = frame-kept ∙ d ∙ sym (can-hold u (frameTold k) (waveformIn u) room);
         long = long-kept;
+        below = subst (λ (w : List ℕ). BelowKept w k) (sym (p .rest ∙ back-behind headWords u x room)) (a .below);
         stays = λ t. let b = le-leb headWords (length u) room in let y : _≡_ {A = ℕ} 0 1 = cc in let z : ⊥ = omega arith in absurd z;
       }
 
@@ -108,6 +110,7 @@ goes-few s u h =
       same = sym (cannot-hold u (advanceOf s (standIn u)) (stop Step.Ended (standIn u)) h);
       tells = sym (cannot-hold u (frameTold Step.Ended) (waveformIn u) h);
       long = refl;
+      below = tt;
       stays = λ t. refl;
     }
 

@@ -2,6 +2,7 @@
 --     Walked          what holds of the words of a walk over an accepted file
 --     walked-open     after it is opened: no frame is met
 --     walked-frame    after a step to a frame: that frame is met too
+--     walked-counts   the step says how many channels it has, and the octets of a sequence
 --     walked-ended    at the end the frames met are all frames of the file
 --     walked-never    no step is a refusal
 -- Assumes nothing.
@@ -20,7 +21,7 @@ use Rattle.walk.specs.declared.Waveform.{Waveform}
 use Rattle.walk.specs.declared.Step.{Step}
 use Rattle.walk.specs.Advance.{Stop, stop, advanceOf}
 use Rattle.walk.specs.Joined.{frameBy}
-use Rattle.walk.proofs.Joins.{Reaches, StepReaches, reaches-cleared, advance-reaches}
+use Rattle.walk.proofs.Joins.{Reaches, Counts, StepReaches, reaches-cleared, advance-reaches}
 use Rattle.reader.proofs.Ordered.{accepted-small}
 use Rattle.reader.proofs.Checks.{check-accepted}
 use Rattle.walking.specs.Words.{headWords, walkWords, standIn}
@@ -62,6 +63,9 @@ module _ {s : List ℕ} {met : List Frame} {u v : List ℕ} (p : Walked s met u)
 
   pub walked-frame : {x : Waveform} → Goes s u (Step.Frame x) v → Walked s (met ++ (frameBy s x (standIn v) ∷ [])) v
   walked-frame g = record { all = p .all; is = p .is; long = g .long ∙ p .long; reaches = comes g .2 }
+
+  pub walked-counts : {x : Waveform} → Goes s u (Step.Frame x) v → Counts x (frameBy s x (standIn v))
+  walked-counts g = comes g .3
 
   pub walked-ended : Goes s u Step.Ended v → verdict s ≡ accepted met
   walked-ended g = sym (comes g)

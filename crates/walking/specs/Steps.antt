@@ -17,7 +17,7 @@ use Rattle.verdict.specs.declared.Checked.{Checked}
 use Rattle.verdict.specs.Verdict.{checkedSays, checkOf}
 use Rattle.walk.specs.declared.Waveform.{Waveform}
 use Rattle.walk.specs.declared.Step.{Step}
-use Rattle.walk.specs.Advance.{Stand, stand, Stop, stop, advanceOf}
+use Rattle.walk.specs.Advance.{Stand, stand, Stop, stop, advanceOf, BelowKept}
 use Rattle.walking.specs.Words.{headWords, waveformIn, standIn}
 
 -- No frame: every number is 0, and so it has no channels.
@@ -66,4 +66,5 @@ pub record Goes (s u : List ℕ) (r : Step) (v : List ℕ) : Type 0 where
   pub same : stop r (standIn v) ≡ stepIn s u
   pub tells : waveformIn v ≡ pick (holdsHead u) (frameTold r) (waveformIn u)
   pub long : length v ≡ length u
+  pub below : BelowKept (drop headWords v) r
   pub stays : holdsHead u ≡ false → v ≡ u

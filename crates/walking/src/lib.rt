@@ -10,17 +10,22 @@ ghost use mathlib.Core.Path.{_≡_};
 ghost use Prim.Native.Nat.{_+_, _≤_};
 ghost use lib.ListN.{length, getD};
 ghost use Rattle.octets.specs.Number.{lowOf, twos};
+ghost use Rattle.reader.specs.Answer.{lookedUpSays};
 ghost use Rattle.records.specs.Records.{wordsAt, Overlaid};
 ghost use Rattle.walking.specs.Words.{headWords, headPlace, flagOf, withinBy, cursorBy, standingBy, timesBy, headBy, rootOf, toldBy, headIn, waveformIn, Keeping};
+ghost use Rattle.walking.specs.Views.{viewKept, viewIn};
 ghost use Rattle.walking.specs.Steps.{noWaveform, frameTold, Begins, Opens, Goes};
 use dated::Dates;
 use dated::Times;
+use heads::Refusal;
 use items::Cursor;
 use items::Within;
+use reader::LookedUp;
 use records::Records;
 use settings::Settings;
 use standing::Standing;
 use verdict::Checked;
+use view::View;
 use walk::Head;
 use walk::Step;
 use walk::Waveform;
@@ -328,4 +333,49 @@ pub fn next(s: &[u8], w: &mut [u64]) -> Step
     let step = m.step;
     keep(w, m.head, frame_told(step));
     step
+}
+
+// A channel of the frame that the last step told of.
+fn view_kept(w: &[u64], channel: u32) -> View
+    requires { ⌜ headWords ≤ length (now w) ⌝ }
+    ensures { λ r. ⌜ r ≡ viewKept (now (w .entry)) channel ⌝ }
+{
+    let v = waveform_at(w);
+    let rest = Walking::HEAD;
+    let t = &w[rest..];
+    let settings = records::held(t, channel as usize);
+    View {
+        start: v.start,
+        channels: v.channels,
+        sequences: v.sequences,
+        little: v.little,
+        place: v.place,
+        octets: v.octets,
+        below: records::below(t, channel as usize),
+        settings,
+    }
+}
+
+// The same, or why there is none: 20, then 21.
+pub fn view_at(w: &[u64], channel: u32) -> LookedUp
+    ensures { λ r. ⌜ lookedUpSays r ≡ viewIn (now (w .entry)) channel ⌝ }
+{
+    let none = Refusal {
+        number: Refusal::NO_FRAME,
+        place: 0,
+    };
+    if w.len() < Walking::HEAD {
+        return LookedUp::Refused(none);
+    }
+    let v = waveform_at(w);
+    if v.channels == 0 {
+        return LookedUp::Refused(none);
+    }
+    if v.channels <= channel {
+        return LookedUp::Refused(Refusal {
+            number: Refusal::NO_CHANNEL,
+            place: 0,
+        });
+    }
+    LookedUp::Channel(view_kept(w, channel))
 }
