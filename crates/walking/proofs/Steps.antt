@@ -78,8 +78,11 @@ module _ (u x : List ℕ) (room : headWords ≤ length u) {h : Head} {f : Wavefo
   frame-kept : waveformIn v ≡ f
   frame-kept = p .waveform still-room
 
+  behind-kept : drop headWords v ≡ x
+  behind-kept = p .rest ∙ back-behind headWords u x room
+
   stand-kept : standIn v ≡ standOf h x
-  stand-kept = λ i. standOf (p .head still-room i) ((p .rest ∙ back-behind headWords u x room) i)
+  stand-kept = λ i. standOf (p .head still-room i) (behind-kept i)
 
   -- The first head, over records that are all sent back.
   pub begun : Holding (lent headWords u) (map outdated (recordsIn (lent headWords u))) x → h ≡ firstHead → f ≡ noWaveform → Begins u v
