@@ -19,6 +19,11 @@ abbrev pub mapAnswer : {A B : Type 0} → (A → B) → Answer A → Answer B
 mapAnswer f (answered a) = answered (f a)
 mapAnswer f (refusedAs number place) = refusedAs number place
 
+-- What is asked of an answer; a refusal stays the answer.
+abbrev pub thenAnswer : {A B : Type 0} → Answer A → (A → Answer B) → Answer B
+thenAnswer (answered a) f = f a
+thenAnswer (refusedAs number place) f = refusedAs number place
+
 -- The buffer that an answer goes to, afterwards: what is answered stands at its start, and past it the buffer keeps what it held. A refusal
 -- changes nothing.
 unfoldable pub leftBy : Answer (List ℕ) → List ℕ → List ℕ

@@ -125,10 +125,12 @@ module _ (s u : List ℕ) where
   opens-not e t =
       record {
         answers = e;
-        stands = sym (ap (λ (b : Bool). pick b (begunIn u) (standIn u)) t);
-        tells = sym (ap (λ (b : Bool). pick b noWaveform (waveformIn u)) t);
-        long = refl;
-        stays = λ q. refl;
+        words = record {
+          stands = sym (ap (λ (b : Bool). pick b (begunIn u) (standIn u)) t);
+          tells = sym (ap (λ (b : Bool). pick b noWaveform (waveformIn u)) t);
+          long = refl;
+          stays = λ q. refl;
+        };
       }
 
   pub opens-refused : {x : Refusal} → checkedSays (Checked.Refused x) ≡ checkOf s → Opens s u (Checked.Refused x) u
@@ -149,8 +151,10 @@ module _ (s u : List ℕ) where
       let t = begin-so h e in
       record {
         answers = e;
-        stands = b .stands ∙ sym (begins-when h e (begunIn u) (standIn u));
-        tells = b .tells ∙ sym (begins-when h e noWaveform (waveformIn u));
-        long = b .long;
-        stays = λ f. let y : _≡_ {A = ℕ} 0 1 = cc in let z : ⊥ = omega arith in absurd z;
+        words = record {
+          stands = b .stands ∙ sym (begins-when h e (begunIn u) (standIn u));
+          tells = b .tells ∙ sym (begins-when h e noWaveform (waveformIn u));
+          long = b .long;
+          stays = λ f. let y : _≡_ {A = ℕ} 0 1 = cc in let z : ⊥ = omega arith in absurd z;
+        };
       }

@@ -43,11 +43,11 @@ walked-open {s} {u} {v} {n} l o =
     let a = check-accepted s n .0 (sym (o .answers)) in
     let room : headWords ≤ length u = omega arith in
     let behind : length (drop headWords u) ≡ tableWords = length-drop headWords u ∙ omega arith in
-    let stood : standIn v ≡ begunIn u = o .stands ∙ begins-when s u room (o .answers) (begunIn u) (standIn u) in
+    let stood : standIn v ≡ begunIn u = o .words .stands ∙ begins-when s u room (o .answers) (begunIn u) (standIn u) in
     record {
       all = a .0;
       is = a .1;
-      long = o .long ∙ l;
+      long = o .words .long ∙ l;
       reaches = subst (Reaches s []) (sym stood) (reaches-cleared s (recordsIn (drop headWords u)) (accepted-small s (a .0) (a .1)) (records-full (drop headWords u) behind));
     }
 

@@ -49,13 +49,17 @@ pub record Begins (u v : List ℕ) : Type 0 where
   pub tells : waveformIn v ≡ noWaveform
   pub long : length v ≡ length u
 
--- What opening a file answers, and how it leaves the words.
-pub record Opens (s u : List ℕ) (r : Checked) (v : List ℕ) : Type 0 where
-  pub answers : checkedSays r ≡ checkOf s
+-- How opening a file leaves the words.
+pub record Opened (s u v : List ℕ) : Type 0 where
   pub stands : standIn v ≡ pick (walkBegins (checkOf s) u) (begunIn u) (standIn u)
   pub tells : waveformIn v ≡ pick (walkBegins (checkOf s) u) noWaveform (waveformIn u)
   pub long : length v ≡ length u
   pub stays : walkBegins (checkOf s) u ≡ false → v ≡ u
+
+-- What it answers, and how it leaves the words.
+pub record Opens (s u : List ℕ) (r : Checked) (v : List ℕ) : Type 0 where
+  pub answers : checkedSays r ≡ checkOf s
+  pub words : Opened s u v
 
 -- From where words stand to the next frame, the end or the refusal. Words that cannot hold a head are at the end.
 abbrev pub stepIn : List ℕ → List ℕ → Stop
