@@ -1,10 +1,8 @@
 -- Laws of the pass that writes the frames of an accepted file.
---     frames-grow     the frames met so far are the first of the file's
 --     frame-is        a frame's octets are those of its parts
 --     Writing         the loop's invariant
---     writing-first, -goes, -frame    before the first item, after an item, after a frame
---     written-end, never-fault, never-refuses    the end; an accepted file has no other
---     Going, going-..    the same over the records that are laid down
+--     writing-first, writing-later, writing-frame    before the first item, further on, after a frame
+--     written-done    after the last frame
 -- Assumes nothing.
 use mathlib.Core.Path.{_≡_, refl, sym, ap, subst, _∙_}
 use mathlib.Core.List.{List, [], _∷_, _++_, map, append-assoc, append-nil, map-append}
@@ -37,8 +35,6 @@ use Rattle.standing.specs.Standing.{octetsLimit}
 use Rattle.effects.specs.Effects.{valueAt}
 use Rattle.verdict.specs.Verdict.{State, state, accepted, refused, interpret, verdict}
 use Rattle.pass.specs.Scan.{zeroFrame, sizeOf, sizes}
-use Rattle.verdict.proofs.Keeps.{Keeps, frames-kept, reached-verdict}
-use Rattle.verdict.proofs.Steps.{meaning-steps, step-grown}
 use Rattle.framing.proofs.Framings.{pointer-small}
 use Rattle.dated.specs.Dated.{held}
 use Rattle.dated.proofs.Refreshed.{held-long}
@@ -48,7 +44,7 @@ use Rattle.walk.specs.declared.Step.{Step}
 use Rattle.walk.proofs.Step.{the-type}
 use Rattle.walk.specs.Advance.{Stand, standsFor, Stop, stop, advanceOf}
 use Rattle.walk.specs.Joined.{frameBy}
-use Rattle.walk.proofs.Joins.{Reaches, StepReaches, advance-reaches}
+use Rattle.walk.proofs.Joins.{Reaches, StepReaches, reaches-grown, advance-reaches}
 use Rattle.reader.proofs.Ordered.{Lies, accepted-lies, accepted-small}
 use Rattle.groups.specs.Item.{itemOctets}
 use Rattle.groups.specs.Head.{headItems}
@@ -61,21 +57,6 @@ use Rattle.canonical.specs.Canonical.{waveformOf, frameOctets, framesOct
 use Rattle.canonical.specs.Write.{framesIn, canonicalOf, fits, Ready}
 use Rattle.canonical.proofs.Octets.{waveform-big, waveform-little, frames-long, sampled-reported}
 use Rattle.canonical.proofs.Recordings.{waveform-long}
-
--- ---- the frames met so far are the first of the file's
-
-abbrev First : List Frame → State → Cursor → Type 0
-First fs y d = (rest : List Frame) × (y .frames ≡ fs ++ rest)
-
-first-keeps : (s : List ℕ) (fs : List Frame) → Keeps s (First fs)
-first-keeps s fs x c i d y p n m =
-    let g = step-grown s x i y (meaning-steps s x i y m) in
-    (p .0 ++ g .0, g .1 ∙ ap (λ (l : List Frame). l ++ g .0) (p .1) ∙ append-assoc fs (p .0) (g .0))
-
-pub frames-grow : (s : List ℕ) (x : State) (c : Cursor) (fs : List Frame) → interpret s x (itemsFrom s c) ≡ accepted fs → (rest : List Frame) × (fs ≡ x .frames ++ rest)
-frames-grow s x c fs e =
-    let k = frames-kept s (First (x .frames)) (first-keeps s (x .frames)) x c fs ([], sym (append-nil (x .frames))) e in
-    (k .holds .0, sym (k .frames) ∙ k .holds .1)
 
 -- ---- a frame's octets, in the parts in which it is written
 
@@ -215,7 +196,7 @@ module _ {s d : List ℕ} {x : Stand} {at : ℕ} {e : List ℕ} (p : Writing s d
     after = comes a .2
 
     grown : (rest : List Frame) × (all ≡ (p .met ++ (frame-there ∷ [])) ++ rest)
-    grown = frames-grow s (state (y .standing) (standsFor y) (p .met ++ (frame-there ∷ []))) (y .cursor) all (reached-verdict s (after .long) (after .reached) ∙ p .is)
+    grown = reaches-grown after (p .is)
 
     split : all ≡ p .met ++ frame-there ∷ (grown .0)
     split = grown .1 ∙ append-assoc (p .met) (frame-there ∷ []) (grown .0)

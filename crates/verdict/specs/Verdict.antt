@@ -105,9 +105,13 @@ interpret s x (item i more) = afterItem (λ y. interpret s y more) (placeAt i) (
 interpret s x finished = accepted (x .frames)
 interpret s x (fault r) = refused r
 
--- 15 comes first.
+-- The verdict where this state stands before the first item. 15 comes first.
+abbrev pub verdictFrom : State → List ℕ → Verdict
+verdictFrom x s = pick (ltb octetsLimit (length s)) (refused (refusal longFile 0)) (interpret s x (itemsOf s))
+
+-- The verdict on a file.
 unfoldable pub verdict : List ℕ → Verdict
-verdict s = pick (ltb octetsLimit (length s)) (refused (refusal longFile 0)) (interpret s firstState (itemsOf s))
+verdict s = verdictFrom firstState s
 
 -- What the check's answer says: the number of frames, or the refusal.
 abbrev pub checkedSays : Checked → Answer ℕ

@@ -1,12 +1,13 @@
 -- Where a walk of a file stands, and that the frames it stops at are the verdict's.
 --     Reaches            the file's items lead to where the walk stands, with these frames met
 --     reaches-first, reaches-cleared    before the first item
+--     reaches-grown      the frames met so far are the first of the file's
 --     Counts             what a waveform says of its frame
 --     advance-reaches    an advance leads on: behind one frame more, or to the verdict
 --     joined-verdict     the frames that successive advances stop at, joined
 -- Assumes nothing.
 use mathlib.Core.Path.{_≡_, refl, sym, ap, subst, _∙_}
-use mathlib.Core.List.{List, [], _∷_, _++_, map}
+use mathlib.Core.List.{List, [], _∷_, _++_, append-assoc, append-nil, map}
 use Prim.Native.Nat.{ℕ, zero, suc, _+_, _-_, _%_, _^_, _≤_, _<_, min}
 use native.Mathlib.Omega.{arith}
 use lib.ListN.{length, take, drop, length-append, length-set, length-map, replicate, length-replicate}
@@ -38,7 +39,8 @@ use Rattle.records.specs.Records.{outdated}
 use Rattle.records.proofs.Laws.{timely-outdated, table-outdated}
 use Rattle.verdict.specs.Verdict.{State, state, goes, refuses, withFrame, carried, placeAt, accepted, refused, interpret, verdict}
 use Rattle.verdict.specs.Reached.{Reached, begin, behind as one-behind}
-use Rattle.verdict.proofs.Keeps.{interpret-refuses, reached-verdict}
+use Rattle.verdict.proofs.Keeps.{Keeps, frames-kept, interpret-refuses, reached-verdict}
+use Rattle.verdict.proofs.Steps.{meaning-steps, step-grown}
 use Rattle.verdict.proofs.Frames.{frame-carried, count-few, taken-root}
 use Rattle.verdict.proofs.Settled.{carried-count, carried-all, carried-one}
 use Rattle.walk.specs.declared.Waveform.{Waveform}
@@ -78,6 +80,24 @@ reaches-cleared s xs h e =
       count = refl;
       reached = subst (λ (u : List Settings). Reached s (state firstStanding u []) (cursor 0 Root)) (sym (table-outdated defaultSettings firstDates xs ∙ ap (λ (n : ℕ). replicate n defaultSettings) e)) begin;
     }
+
+-- ---- the frames met so far are the first of the file's
+
+abbrev First : List Frame → State → Cursor → Type 0
+First fs y d = (rest : List Frame) × (y .frames ≡ fs ++ rest)
+
+first-keeps : (s : List ℕ) (fs : List Frame) → Keeps s (First fs)
+first-keeps s fs x c i d y p n m =
+    let g = step-grown s x i y (meaning-steps s x i y m) in
+    (p .0 ++ g .0, g .1 ∙ ap (λ (l : List Frame). l ++ g .0) (p .1) ∙ append-assoc fs (p .0) (g .0))
+
+pub reaches-grown : {s : List ℕ} {met : List Frame} {x : Stand} {fs : List Frame} → Reaches s met x → verdict s ≡ accepted fs → (rest : List Frame) × (fs ≡ met ++ rest)
+reaches-grown {s} {met} {x} {fs} p e =
+    let here = state (x .standing) (standsFor x) met in
+    let k = frames-kept s (First met) (first-keeps s met) here (x .cursor) fs ([], sym (append-nil met)) (reached-verdict s (p .long) (p .reached) ∙ e) in
+    (k .holds .0, sym (k .frames) ∙ k .holds .1)
+
+-- ---- what an advance comes to
 
 -- A waveform says how many channels its frame has, and the octets of a sequence.
 pub record Counts (v : Waveform) (f : Frame) : Type 0 where

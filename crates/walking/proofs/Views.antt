@@ -1,6 +1,6 @@
 -- Laws of the channels that words hold.
 --     view-few, view-none, view-past, view-there    too few words, no frame, no such channel, a channel
---     walked-view     after a step to a frame the words hold the views of its channels
+--     walked-room, walked-told, walked-view     after a step to a frame the words tell of it, and hold the views of its channels
 -- Assumes nothing.
 use mathlib.Core.Path.{_≡_, refl, sym, ap, _∙_}
 use mathlib.Core.Bool.{Bool, true}
@@ -73,11 +73,11 @@ module _ {s : List ℕ} {met : List Frame} {u v : List ℕ} {x : Waveform} (p : 
   counts : Counts x frame
   counts = walked-counts p g
 
-  room : headWords ≤ length v
-  room = omega (arith, p .long, g .long)
+  pub walked-room : headWords ≤ length v
+  walked-room = omega (arith, p .long, g .long)
 
-  told : waveformIn v ≡ x
-  told = g .tells ∙ can-hold u x (waveformIn u) (omega (arith, p .long))
+  pub walked-told : waveformIn v ≡ x
+  walked-told = g .tells ∙ can-hold u x (waveformIn u) (omega (arith, p .long))
 
   module _ (k : ℕ) (h : k < x .channels) where
     below-there : belowIn rest k ≡ octetsBelow k (frame .channels)
@@ -98,7 +98,7 @@ module _ {s : List ℕ} {met : List Frame} {u v : List ℕ} {x : Waveform} (p : 
     kept : viewKept v k ≡ viewOf k frame
     unfolding viewOf
     kept =
-        (λ i. viewBy (told i) (below-there i) (settings-there i))
+        (λ i. viewBy (walked-told i) (below-there i) (settings-there i))
         ∙ (λ i. record {
           start = x .start;
           channels = counts .channels i;
@@ -113,5 +113,5 @@ module _ {s : List ℕ} {met : List Frame} {u v : List ℕ} {x : Waveform} (p : 
     -- The words hold the views of the frame's channels.
     pub walked-view : viewIn v k ≡ answered (viewOf k frame)
     walked-view =
-        let n : waveformIn v .channels ≡ x .channels = ap (λ (y : Waveform). y .channels) told in
-        sym (view-there v k room (omega (arith, h, n)) (omega (arith, h, n))) ∙ ap answered kept
+        let n : waveformIn v .channels ≡ x .channels = ap (λ (y : Waveform). y .channels) walked-told in
+        sym (view-there v k walked-room (omega (arith, h, n)) (omega (arith, h, n))) ∙ ap answered kept
