@@ -33,9 +33,12 @@ flagNumber b = pick b 1 0
 unfoldable pub frameNumbers : Waveform → List ℕ
 frameNumbers v = v .channels ∷ v .sequences ∷ flagNumber (v .little) ∷ v .place ∷ v .len ∷ v .octets ∷ []
 
+abbrev pub noFrameValues : FrameOut
+noFrameValues = frameValues (pos 0) (replicate 6 0)
+
 -- A frame, and no place.
 abbrev pub frameOut : Answer Waveform → Outputs FrameOut
-frameOut a = handedOut (λ x. 0) (λ x. frameValues (x .start) (frameNumbers x)) (frameValues (pos 0) (replicate 6 0)) a
+frameOut a = handedOut (λ x. 0) (λ x. frameValues (x .start) (frameNumbers x)) noFrameValues a
 
 -- A call of mfer_walk_next: the file s and the words u of the walk, and then what is handed out and the words as the call leaves them.
 pub record WalkNext (s u : List ℕ) (out : Outputs FrameOut) (v : List ℕ) : Type 0 where

@@ -9,5 +9,6 @@ pub mod Waveforms
 pub mod EntryPoints
 pub mod Canonical
 pub mod Told
+pub mod Walks
 pub mod Demands
 pub mod Bench

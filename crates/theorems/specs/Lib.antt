@@ -3,3 +3,4 @@ pub mod Attributes
 pub mod Rows
 pub mod Refusing
 pub mod Told
+pub mod Walks
