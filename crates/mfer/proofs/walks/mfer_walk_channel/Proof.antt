@@ -5,8 +5,8 @@ use Rattle.reader.specs.Answer.{lookedUpSays}
 use Rattle.mfer.specs.Answers.{outputs, handedOut, numbersOf, bitPairOf}
 use Rattle.mfer.specs.Walks.{channelValues, channelOut}
 use borrow.Author.Needs.{needs}
-use Rattle.mfer.proofs.mfer_walk_channel.Statement.{statement}
-use Rattle.mfer.proofs.mfer_walk_channel.Tie as tie
+use Rattle.mfer.proofs.walks.mfer_walk_channel.Statement.{statement}
+use Rattle.mfer.proofs.walks.mfer_walk_channel.Tie as tie
 
 view-at-requires : tie.Need-view-at-requires
 view-at-requires c κs = search needs

@@ -3,8 +3,8 @@ use mathlib.Core.Path.{sym, ap, _∙_}
 use Rattle.verdict.specs.Verdict.{checkedSays}
 use Rattle.mfer.specs.Answers.{handedOut, countOut}
 use borrow.Author.Needs.{needs}
-use Rattle.mfer.proofs.mfer_walk_open.Statement.{statement}
-use Rattle.mfer.proofs.mfer_walk_open.Tie as tie
+use Rattle.mfer.proofs.walks.mfer_walk_open.Statement.{statement}
+use Rattle.mfer.proofs.walks.mfer_walk_open.Tie as tie
 
 open-requires : tie.Need-open-requires
 open-requires c κs = search needs

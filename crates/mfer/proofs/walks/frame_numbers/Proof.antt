@@ -2,8 +2,8 @@
 use mathlib.Core.List.{[], _∷_}
 use Rattle.mfer.specs.Walks.{frameNumbers}
 use borrow.Author.Needs.{needs}
-use Rattle.mfer.proofs.frame_numbers.Statement.{statement}
-use Rattle.mfer.proofs.frame_numbers.Tie as tie
+use Rattle.mfer.proofs.walks.frame_numbers.Statement.{statement}
+use Rattle.mfer.proofs.walks.frame_numbers.Tie as tie
 
 cast-t2 : tie.Need-cast-t2
 cast-t2 c = search needs

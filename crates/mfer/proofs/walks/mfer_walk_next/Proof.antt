@@ -5,10 +5,10 @@ use mir.Val.{SFits}
 use mir.Facts.{toZ-ofZ}
 use Rattle.mfer.specs.Answers.{outputs, handedOut}
 use Rattle.mfer.specs.Walks.{frameValues}
-use Rattle.mfer.proofs.Walks.{next-handed}
+use Rattle.mfer.proofs.Handed.{next-handed}
 use borrow.Author.Needs.{needs}
-use Rattle.mfer.proofs.mfer_walk_next.Statement.{statement}
-use Rattle.mfer.proofs.mfer_walk_next.Tie as tie
+use Rattle.mfer.proofs.walks.mfer_walk_next.Statement.{statement}
+use Rattle.mfer.proofs.walks.mfer_walk_next.Tie as tie
 
 next-requires : tie.Need-next-requires
 next-requires c κs = search needs

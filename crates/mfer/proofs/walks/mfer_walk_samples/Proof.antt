@@ -6,10 +6,10 @@ use lib.ListN.{length}
 use Rattle.heads.specs.Answer.{Answer, mapAnswer, leftBy}
 use Rattle.bulk.specs.Samples.{readSays}
 use Rattle.mfer.specs.Answers.{Outputs, handedOut, countOut}
-use Rattle.mfer.proofs.Walks.{walk-refused, walk-seen}
+use Rattle.mfer.proofs.Handed.{walk-refused, walk-seen}
 use borrow.Author.Needs.{needs}
-use Rattle.mfer.proofs.mfer_walk_samples.Statement.{statement}
-use Rattle.mfer.proofs.mfer_walk_samples.Tie as tie
+use Rattle.mfer.proofs.walks.mfer_walk_samples.Statement.{statement}
+use Rattle.mfer.proofs.walks.mfer_walk_samples.Tie as tie
 
 view-at-requires : tie.Need-view-at-requires
 view-at-requires c κs = search needs
