@@ -257,7 +257,8 @@ pub fn held(t: &[u64], k: usize) -> Settings
 pub fn below(t: &[u64], k: usize) -> u64
     ensures { λ r. ⌜ r ≡ belowIn (now (t .entry)) k ⌝ }
 {
-    if k < t.len() / Records::WORDS {
+    let held = t.len() / Records::WORDS;
+    if k < held {
         return t[k * Records::WORDS + Records::BELOW];
     }
     0
