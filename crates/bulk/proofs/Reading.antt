@@ -2,7 +2,7 @@
 --     width-wide      the widths of samples
 --     rest-low, in-blocks    the samples of a channel that lies in the file lie there in blocks
 --     seen-bits       the samples of the blocks are those of the channel
---     read-seen, read-located    the answer, and the one for a frame of the file
+--     read-located, values-located    the answers for a frame of the file
 --     kept, filled    the buffer
 -- Assumes nothing.
 use mathlib.Core.Path.{_≡_, refl, sym, ap, _∙_}
@@ -19,14 +19,14 @@ use Rattle.stores.proofs.Stores.{sets-front}
 use Rattle.heads.specs.Answer.{Answer, answered, refusedAs, leftBy}
 use Rattle.values.specs.Sample.{widthOf}
 use Rattle.values.proofs.Laws.{width-cases, width-other}
-use Rattle.layout.specs.Frame.{widthIn, blockOctets, samplesOf}
+use Rattle.layout.specs.Frame.{widthIn, blockOctets, channelIn, samplesOf}
 use Rattle.laid.specs.Laid.{sampleBits}
 use Rattle.laid.proofs.Places.{row-fits}
 use Rattle.view.specs.declared.View.{View}
 use Rattle.view.specs.View.{countSeen, placeSeen, askedSeen}
-use Rattle.view.proofs.Lying.{FoundIn, factor-some, block-some, seen-inside}
-use Rattle.reader.proofs.Answers.{Located, frameIn, count-seen, bits-seen, asked-seen}
-use Rattle.bulk.specs.Samples.{bitsFrom, bitsSeen, readOf, readSeen}
+use Rattle.view.proofs.Lying.{FoundIn, factor-some, block-some, seen-inside, map-seen}
+use Rattle.reader.proofs.Answers.{Located, frameIn, settings-seen, count-seen, bits-seen, asked-seen}
+use Rattle.bulk.specs.Samples.{bitsFrom, bitsSeen, readOf, readSeen, valuesBy, valuesOf, valuesSeen}
 use Rattle.bulk.specs.Walked.{blocked, Wide, InBlocks}
 use Rattle.bulk.proofs.Walks.{bits-same}
 
@@ -82,20 +82,32 @@ module _ (s : List ℕ) {v : View} {first p : ℕ} (m : FoundIn (length s) v fir
 -- ---- the answer
 
 -- A frame of the file: its channel lies in the file, and what is seen of it are its samples.
-pub read-located : {s : List ℕ} {frame channel : ℕ} {v : View} → Octets s → Located s frame channel v → (first room : ℕ) → readSeen s v first room ≡ readOf s frame channel first room
-unfolding readSeen readOf bitsSeen
-read-located {s} {frame} {channel} {v} o l first room =
-    let n = ap (λ (k : ℕ). min room (k - first)) (count-seen l) in
-    let same = bits-same (bitsSeen s v) (sampleBits (frameIn l) channel) first first (min room (countSeen v - first)) (λ j k. bits-seen l (omega arith)) in
-    ap (askedSeen (length s) v first) (same ∙ ap (bitsFrom (sampleBits (frameIn l) channel) first) n)
-    ∙ sym (asked-seen l o (λ f. bitsFrom (sampleBits f channel) first (min room (samplesOf channel f - first))) first)
+module _ {s : List ℕ} {frame channel : ℕ} {v : View} (o : Octets s) (l : Located s frame channel v) (first room : ℕ) where
+  same-bits : bitsFrom (bitsSeen s v) first (min room (countSeen v - first)) ≡ bitsFrom (sampleBits (frameIn l) channel) first (min room (samplesOf channel (frameIn l) - first))
+  unfolding bitsSeen
+  same-bits =
+      bits-same (bitsSeen s v) (sampleBits (frameIn l) channel) first first (min room (countSeen v - first)) (λ j k. bits-seen l (omega arith))
+      ∙ ap (λ (k : ℕ). bitsFrom (sampleBits (frameIn l) channel) first (min room (k - first))) (count-seen l)
+
+  pub read-located : readSeen s v first room ≡ readOf s frame channel first room
+  unfolding readSeen readOf
+  read-located =
+      ap (askedSeen (length s) v first) same-bits
+      ∙ sym (asked-seen l o (λ f. bitsFrom (sampleBits f channel) first (min room (samplesOf channel f - first))) first)
+
+  pub values-located : valuesSeen s v first room ≡ valuesOf s frame channel first room
+  unfolding valuesSeen readSeen valuesOf
+  values-located =
+      map-seen (valuesBy (v .settings)) (length s) v first (bitsFrom (bitsSeen s v) first (min room (countSeen v - first)))
+      ∙ (λ i. askedSeen (length s) v first (valuesBy (settings-seen l i) (same-bits i)))
+      ∙ sym (asked-seen l o (λ f. valuesBy (channelIn channel (f .channels)) (bitsFrom (sampleBits f channel) first (min room (samplesOf channel f - first)))) first)
 
 -- The buffer, and how many samples are answered, by what is read.
-module _ {a : Answer (List ℕ)} (out : List ℕ) where
+module _ {A : Type 0} {a : Answer (List A)} (out : List A) where
   pub kept : {number place : ℕ} → refusedAs number place ≡ a → out ≡ leftBy a out
   unfolding leftBy
-  kept e = ap (λ (x : Answer (List ℕ)). leftBy x out) e
+  kept e = ap (λ (x : Answer (List A)). leftBy x out) e
 
-  pub filled : {x new : List ℕ} → answered x ≡ a → length x ≤ length out → new ≡ sets out 0 x → new ≡ leftBy a out
+  pub filled : {x new : List A} → answered x ≡ a → length x ≤ length out → new ≡ sets out 0 x → new ≡ leftBy a out
   unfolding leftBy
-  filled {x} e h f = f ∙ sets-front x out h ∙ ap (λ (y : Answer (List ℕ)). leftBy y out) e
+  filled {x} e h f = f ∙ sets-front x out h ∙ ap (λ (y : Answer (List A)). leftBy y out) e

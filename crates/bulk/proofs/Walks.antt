@@ -49,7 +49,7 @@ bits-same f g a b (suc n) e =
     λ i. first i ∷ rest i
 
 -- One run of stores after another is the run of both.
-pub stores-join : (out u v : List ℕ) (p : ℕ) {new : List ℕ} {m : ℕ} → new ≡ sets out p u → length u ≡ m → sets new (p + m) v ≡ sets out p (u ++ v)
+pub stores-join : {A : Type 0} (out u v : List A) (p : ℕ) {new : List A} {m : ℕ} → new ≡ sets out p u → length u ≡ m → sets new (p + m) v ≡ sets out p (u ++ v)
 stores-join out u v p f e = rw (f, ← e) (sets-append u v out p)
 
 -- ---- evenly spaced samples

@@ -1,10 +1,13 @@
--- What reading many samples of a channel answers (document 01, "Frames and samples"): their bits, as the file has them.
-use mathlib.Core.List.{List, [], _∷_}
+-- What reading many samples of a channel answers (document 01, "Frames and samples"): their bits, as the file has them, or their values.
+use mathlib.Core.List.{List, [], _∷_, map}
 use Prim.Native.Nat.{ℕ, zero, suc, _-_, min}
+use lib.IntN.{ℤ}
 use lib.ListN.{length, take, drop}
 use Rattle.heads.specs.Answer.{Answer, answered, refusedBy, mapAnswer}
 use Rattle.octets.specs.Number.{numberOf}
-use Rattle.layout.specs.Frame.{widthIn, samplesOf}
+use Rattle.values.specs.Sample.{Said, valueOf}
+use Rattle.settings.specs.declared.Settings.{Settings}
+use Rattle.layout.specs.Frame.{widthIn, channelIn, samplesOf}
 use Rattle.laid.specs.Laid.{sampleBits}
 use Rattle.view.specs.declared.View.{View}
 use Rattle.view.specs.View.{countSeen, placeSeen, askedSeen}
@@ -37,6 +40,30 @@ bitsSeen s v n = numberOf (v .little) (take (widthIn (v .settings)) (drop (place
 -- samples do not lie in the file.
 unfoldable pub readSeen : List ℕ → View → ℕ → ℕ → Answer (List ℕ)
 readSeen s v first room = askedSeen (length s) v first (bitsFrom (bitsSeen s v) first (min room (countSeen v - first)))
+
+-- ---- values
+
+-- The values of the samples whose bits are these, of a channel with such settings.
+abbrev pub valuesBy : Settings → List ℕ → List Said
+valuesBy c bits = map (valueOf (c .datatype) (c .null)) bits
+
+-- The values of the samples from number `first` on, with the same refusals as for their bits.
+unfoldable pub valuesOf : List ℕ → ℕ → ℕ → ℕ → ℕ → Answer (List Said)
+valuesOf s frame channel first room =
+    askedSample (λ f. valuesBy (channelIn channel (f .channels)) (bitsFrom (sampleBits f channel) first (min room (samplesOf channel f - first)))) frame channel first (verdict s)
+
+-- The same of a channel that is seen.
+unfoldable pub valuesSeen : List ℕ → View → ℕ → ℕ → Answer (List Said)
+valuesSeen s v first room = mapAnswer (valuesBy (v .settings)) (readSeen s v first room)
+
+-- The kinds of values, and their whole numbers: 0 where a value is of another kind.
+abbrev pub kindsIn : Answer (List Said) → Answer (List ℕ)
+kindsIn a = mapAnswer (map (λ x. x .kind)) a
+
+abbrev pub wholesIn : Answer (List Said) → Answer (List ℤ)
+wholesIn a = mapAnswer (map (λ x. x .whole)) a
+
+-- ---- how many
 
 -- The answer: how many samples were written.
 unfoldable pub countRead : List ℕ → ℕ → ℕ → ℕ → ℕ → Answer ℕ

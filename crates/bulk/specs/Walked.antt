@@ -1,12 +1,18 @@
 -- How the loops walk samples. No public contract cites this.
 use mathlib.Core.Logic.{_⊎_}
 use mathlib.Core.Path.{_≡_}
-use mathlib.Core.List.{List, [], _∷_}
-use mathlib.Core.Bool.{Bool}
-use Prim.Native.Nat.{ℕ, zero, suc, _+_, _*_, _/_, _%_, _≤_, _<_}
-use lib.ListN.{take, drop}
+use mathlib.Core.List.{List, [], _∷_, map}
+use mathlib.Core.Bool.{Bool, true}
+use Prim.Native.Nat.{ℕ, zero, suc, _+_, _*_, _/_, _%_, _^_, _≤_, _<_}
+use lib.IntN.{ℤ}
+use lib.ListN.{length, take, drop}
 use Rattle.standing.specs.Standing.{octetsLimit}
 use Rattle.octets.specs.Number.{numberOf}
+use Rattle.values.specs.declared.Meaning.{Meaning}
+use Rattle.values.specs.Told.{meaningOf, toldOf}
+use Rattle.view.specs.declared.View.{View}
+use Rattle.view.specs.View.{countSeen, liesIn}
+use Rattle.bulk.specs.Samples.{bitsFrom, bitsSeen}
 
 -- The bits of the sample of w octets that lies at p.
 abbrev pub bitsHere : Bool → ℕ → List ℕ → ℕ → ℕ
@@ -40,3 +46,28 @@ pub record InBlocks (size start r b g w n : ℕ) : Type 0 where
   pub block : b * w ≤ g
   pub starts : start + r * w ≤ size
   pub each : (j : ℕ) → j < n → start + ((r + j) / b * g + (r + j) % b * w) + w ≤ size
+
+-- Samples are still to be told: the channel lies in the file and has n samples from `first` on, and both buffers have room for them.
+pub record ToTell (s : List ℕ) (v : View) (first n kinds wholes : ℕ) : Type 0 where
+  pub lies : liesIn (length s) v ≡ true
+  pub number : first + n ≤ countSeen v
+  pub small : first + n < 2 ^ 64
+  pub kindsFit : n ≤ kinds
+  pub wholesFit : n ≤ wholes
+
+-- What is told of bits: kinds and whole numbers.
+abbrev pub kindsTold : Meaning → List ℕ → List ℕ
+kindsTold m bits = map (λ b. toldOf m b .kind) bits
+
+abbrev pub wholesTold : Meaning → List ℕ → List ℤ
+wholesTold m bits = map (λ b. toldOf m b .whole) bits
+
+-- The same of n samples of a channel that is seen.
+abbrev pub meaningSeen : View → Meaning
+meaningSeen v = meaningOf (v .settings .datatype) (v .settings .null)
+
+abbrev pub kindsSeen : List ℕ → View → ℕ → ℕ → List ℕ
+kindsSeen s v first n = kindsTold (meaningSeen v) (bitsFrom (bitsSeen s v) first n)
+
+abbrev pub wholesSeen : List ℕ → View → ℕ → ℕ → List ℤ
+wholesSeen s v first n = wholesTold (meaningSeen v) (bitsFrom (bitsSeen s v) first n)

@@ -7,13 +7,14 @@
 // of its own, with straight-line reads, because the compiler makes one wide load of them only so.
 ghost use mathlib.Core.Path.{_≡_};
 ghost use Prim.Native.Nat.{_+_, _*_, _≤_, min};
-ghost use lib.ListN.{length};
+ghost use lib.ListN.{length, take};
 ghost use lib.Seq.{sets};
 ghost use Rattle.heads.specs.Answer.{mapAnswer, leftBy};
-ghost use Rattle.bulk.specs.Samples.{bitsFrom, readSays, readOf, readSeen, countRead};
-ghost use Rattle.bulk.specs.Walked.{bitsHere, spaced, blocked, Wide, InFile, InBlocks};
+ghost use Rattle.bulk.specs.Samples.{bitsFrom, readSays, readOf, readSeen, valuesOf, valuesSeen, kindsIn, wholesIn, countRead};
+ghost use Rattle.bulk.specs.Walked.{bitsHere, spaced, blocked, Wide, InFile, InBlocks, ToTell, kindsTold, wholesTold, kindsSeen, wholesSeen};
 use heads::Refusal;
 use reader::LookedUp;
+use values::Meaning;
 use view::SamplePlace;
 use view::View;
 
@@ -296,5 +297,80 @@ pub fn samples(s: &[u8], frame: u32, channel: u32, first: u64, out: &mut [u64]) 
     match reader::look_up(s, frame, channel) {
         LookedUp::Refused(x) => Read::Refused(x),
         LookedUp::Channel(v) => seen(s, v, first, out),
+    }
+}
+
+// How many samples are told at a time.
+const PIECE: usize = 64;
+
+// The kinds and the whole numbers of n samples whose bits stand at the front of a slice, from `at` on in the buffers.
+fn tell(bits: &[u64], n: usize, m: Meaning, kinds: &mut [u8], wholes: &mut [i64], at: usize)
+    requires { ⌜ n ≤ length (now bits) ⌝ }
+    requires { ⌜ (at + n ≤ length (now kinds)) × (at + n ≤ length (now wholes)) ⌝ }
+    ensures { λ _. ⌜ now (kinds .exit) ≡ sets (now (kinds .entry)) at (kindsTold m (take n (now (bits .entry)))) ⌝ }
+    ensures { λ _. ⌜ now (wholes .exit) ≡ sets (now (wholes .entry)) at (wholesTold m (take n (now (bits .entry)))) ⌝ }
+{
+    let mut i = 0usize;
+    while i < n {
+        let t = m.tell(bits[i]);
+        kinds[at + i] = t.kind;
+        let whole = t.whole;
+        wholes[at + i] = whole;
+        i += 1;
+    }
+}
+
+// The kinds and the whole numbers of n samples of a channel that is seen, from number `first` on, piece by piece.
+fn tell_samples(s: &[u8], v: View, first: u64, n: usize, kinds: &mut [u8], wholes: &mut [i64])
+    requires { ⌜ ToTell (now s) v first n (length (now kinds)) (length (now wholes)) ⌝ }
+    ensures { λ _. ⌜ now (kinds .exit) ≡ sets (now (kinds .entry)) 0 (kindsSeen (now (s .entry)) v first n) ⌝ }
+    ensures { λ _. ⌜ now (wholes .exit) ≡ sets (now (wholes .entry)) 0 (wholesSeen (now (s .entry)) v first n) ⌝ }
+{
+    let c = v.settings;
+    let null = c.null;
+    let m = Meaning::of_type(c.datatype, null);
+    let mut bits = [0u64; PIECE];
+    let mut done = 0usize;
+    while done < n {
+        let k = smaller(PIECE, n - done);
+        seen(s, v, first + done as u64, &mut bits);
+        tell(&bits, k, m, kinds, wholes, done);
+        done += k;
+    }
+}
+
+// The values of the samples of a channel that is seen, from number `first` on: kinds and whole numbers at the fronts of the buffers, as many as
+// fit in both or there are.
+pub fn values_seen(s: &[u8], v: View, first: u64, kinds: &mut [u8], wholes: &mut [i64]) -> Read
+    ensures { λ r. ⌜ readSays r ≡ mapAnswer length (valuesSeen (now (s .entry)) v first (min (length (now (kinds .entry))) (length (now (wholes .entry))))) ⌝ }
+    ensures { λ _. ⌜ now (kinds .exit) ≡ leftBy (kindsIn (valuesSeen (now (s .entry)) v first (min (length (now (kinds .entry))) (length (now (wholes .entry)))))) (now (kinds .entry)) ⌝ }
+    ensures { λ _. ⌜ now (wholes .exit) ≡ leftBy (wholesIn (valuesSeen (now (s .entry)) v first (min (length (now (kinds .entry))) (length (now (wholes .entry)))))) (now (wholes .entry)) ⌝ }
+{
+    match v.find(s.len(), first) {
+        SamplePlace::Refused(x) => Read::Refused(x),
+        SamplePlace::At(_) => {
+            let n = fitting(smaller(kinds.len(), wholes.len()), v.count() - first);
+            tell_samples(s, v, first, n, kinds, wholes);
+            Read::Samples(n)
+        }
+    }
+}
+
+// The same by frame and channel.
+pub fn values(
+    s: &[u8],
+    frame: u32,
+    channel: u32,
+    first: u64,
+    kinds: &mut [u8],
+    wholes: &mut [i64],
+) -> Read
+    ensures { λ r. ⌜ readSays r ≡ mapAnswer length (valuesOf (now (s .entry)) frame channel first (min (length (now (kinds .entry))) (length (now (wholes .entry))))) ⌝ }
+    ensures { λ _. ⌜ now (kinds .exit) ≡ leftBy (kindsIn (valuesOf (now (s .entry)) frame channel first (min (length (now (kinds .entry))) (length (now (wholes .entry)))))) (now (kinds .entry)) ⌝ }
+    ensures { λ _. ⌜ now (wholes .exit) ≡ leftBy (wholesIn (valuesOf (now (s .entry)) frame channel first (min (length (now (kinds .entry))) (length (now (wholes .entry)))))) (now (wholes .entry)) ⌝ }
+{
+    match reader::look_up(s, frame, channel) {
+        LookedUp::Refused(x) => Read::Refused(x),
+        LookedUp::Channel(v) => values_seen(s, v, first, kinds, wholes),
     }
 }

@@ -26,6 +26,6 @@ thenAnswer (refusedAs number place) f = refusedAs number place
 
 -- The buffer that an answer goes to, afterwards: what is answered stands at its start, and past it the buffer keeps what it held. A refusal
 -- changes nothing.
-unfoldable pub leftBy : Answer (List ℕ) → List ℕ → List ℕ
+unfoldable pub leftBy : {A : Type 0} → Answer (List A) → List A → List A
 leftBy (answered x) buffer = x ++ drop (length x) buffer
 leftBy (refusedAs number place) buffer = buffer

@@ -11,7 +11,7 @@ use borrow.Author.Tests.{le-leb, lt-leb}
 use Rattle.stores.specs.Storing.{Put, Putting, put-fits, fitsIn, placed, storedIn}
 
 -- One run of stores after another is the run of both.
-pub sets-append : (u v l : List ℕ) (i : ℕ) → sets (sets l i u) (i + length u) v ≡ sets l i (u ++ v)
+pub sets-append : {A : Type 0} (u v l : List A) (i : ℕ) → sets (sets l i u) (i + length u) v ≡ sets l i (u ++ v)
 sets-append [] v l i = rw add-zero
 sets-append (a ∷ u) v l i = rw (add-suc, ← suc-add) (sets-append u v (set l i a) (suc i))
 
@@ -23,7 +23,7 @@ set-sets (b ∷ vs) l i k a h =
     ∙ set-sets vs (set l i b) (suc i) k a (omega arith)
 
 -- A run of stores at the front.
-pub sets-front : (vs d : List ℕ) → length vs ≤ length d → sets d 0 vs ≡ vs ++ drop (length vs) d
+pub sets-front : {A : Type 0} (vs d : List A) → length vs ≤ length d → sets d 0 vs ≡ vs ++ drop (length vs) d
 sets-front vs d h = rw zero-add at (sets-eq vs d 0 (omega arith))
 
 -- One list stored after another is the two appended.
