@@ -6,10 +6,11 @@ use Prim.Native.Nat.{ℕ}
 use lib.IntN.{ℤ, pos}
 use lib.ListN.{replicate}
 use Rattle.octets.specs.Pick.{pick}
+use Rattle.values.specs.Sample.{Said}
 use Rattle.heads.specs.Answer.{Answer, thenAnswer}
 use Rattle.view.specs.declared.View.{View}
 use Rattle.reader.specs.Answer.{attributesSeen}
-use Rattle.bulk.specs.Samples.{readSeen}
+use Rattle.bulk.specs.Samples.{readSeen, valuesSeen}
 use Rattle.walk.specs.declared.Waveform.{Waveform}
 use Rattle.walk.specs.Says.{stepSays}
 use Rattle.walking.specs.Steps.{stepIn, Goes}
@@ -65,8 +66,12 @@ channelSeen v = channelValues (numbersOf (attributesSeen v)) (bitPairOf (attribu
 abbrev pub channelOut : Answer View → Outputs ChannelOut
 channelOut a = handedOut (λ v. 0) channelSeen zeroChannel a
 
--- ---- mfer_walk_samples
+-- ---- mfer_walk_samples, mfer_walk_values
 
 -- The bits of samples of a channel of the frame that the words u tell of.
-unfoldable pub walkRead : List ℕ → List ℕ → ℕ → ℕ → ℕ → Answer (List ℕ)
+abbrev pub walkRead : List ℕ → List ℕ → ℕ → ℕ → ℕ → Answer (List ℕ)
 walkRead s u channel first room = thenAnswer (viewIn u channel) (λ v. readSeen s v first room)
+
+-- Their values.
+abbrev pub walkValues : List ℕ → List ℕ → ℕ → ℕ → ℕ → Answer (List Said)
+walkValues s u channel first room = thenAnswer (viewIn u channel) (λ v. valuesSeen s v first room)

@@ -1,15 +1,17 @@
 // A walk over a file, held by a caller in C as an array of words.
 //
-// `mfer_walk_open` checks the file and begins the walk, `mfer_walk_next` goes to its next frame, `mfer_walk_channel` and `mfer_walk_samples` tell of the channels of
-// the frame that it stands behind, with nothing read again. Any words at all are some walk.
+// `mfer_walk_open` checks the file and begins the walk, `mfer_walk_next` goes to its next frame, `mfer_walk_channel`, `mfer_walk_samples` and `mfer_walk_values` tell of
+// the channels of the frame that it stands behind, with nothing read again. Any words at all are some walk.
 // Read first: specs/Walks.antt, and specs/Steps.antt and specs/Views.antt of crate walking.
 ghost use mathlib.Core.Path.{_≡_};
+ghost use Prim.Native.Nat.{min};
 ghost use lib.ListN.{length};
 ghost use Rattle.heads.specs.Answer.{mapAnswer, leftBy};
 ghost use Rattle.verdict.specs.Verdict.{checkOf};
+ghost use Rattle.bulk.specs.Samples.{kindsIn, wholesIn};
 ghost use Rattle.walking.specs.Steps.{Opened};
 ghost use Rattle.walking.specs.Views.{viewIn};
-ghost use Rattle.mfer.specs.Walks.{flagNumber, frameNumbers, frameValues, WalkNext, channelValues, channelOut, walkRead};
+ghost use Rattle.mfer.specs.Walks.{flagNumber, frameNumbers, frameValues, WalkNext, channelValues, channelOut, walkRead, walkValues};
 ghost use Rattle.mfer.specs.Answers.{outputs, countOut};
 use bulk::Read;
 use heads::Refusal;
@@ -153,6 +155,43 @@ pub extern "C" fn mfer_walk_samples(
         LookedUp::Channel(v) => match bulk::seen(file, v, first, out) {
             Read::Samples(n) => {
                 *count = n as u64;
+                *place = 0;
+                0
+            }
+            Read::Refused(x) => {
+                *count = 0;
+                *place = x.place as u64;
+                x.number as u32
+            }
+        },
+    }
+}
+
+// Their values: the kinds and the whole numbers of a channel's samples as mfer_sample tells them, of the frame that a walk stands behind.
+#[no_mangle]
+pub extern "C" fn mfer_walk_values(
+    file: &[u8],
+    walk: &[u64; Walking::WORDS],
+    channel: u32,
+    first: u64,
+    kinds: &mut [u8],
+    wholes: &mut [i64],
+    count: &mut u64,
+    place: &mut u64,
+) -> u32
+    ensures { λ r. ⌜ outputs r (now (place .exit)) (now (count .exit)) ≡ countOut (mapAnswer length (walkValues (now (file .entry)) (now (walk .entry)) channel first (min (length (now (kinds .entry))) (length (now (wholes .entry)))))) ⌝ }
+    ensures { λ _. ⌜ now (kinds .exit) ≡ leftBy (kindsIn (walkValues (now (file .entry)) (now (walk .entry)) channel first (min (length (now (kinds .entry))) (length (now (wholes .entry)))))) (now (kinds .entry)) ⌝ }
+    ensures { λ _. ⌜ now (wholes .exit) ≡ leftBy (wholesIn (walkValues (now (file .entry)) (now (walk .entry)) channel first (min (length (now (kinds .entry))) (length (now (wholes .entry)))))) (now (wholes .entry)) ⌝ }
+{
+    match walking::view_at(walk, channel) {
+        LookedUp::Refused(x) => {
+            *count = 0;
+            *place = x.place as u64;
+            x.number as u32
+        }
+        LookedUp::Channel(v) => match bulk::values_seen(file, v, first, kinds, wholes) {
+            Read::Samples(told) => {
+                *count = told as u64;
                 *place = 0;
                 0
             }

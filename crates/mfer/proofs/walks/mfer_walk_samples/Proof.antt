@@ -4,7 +4,7 @@ use mathlib.Core.List.{List}
 use Prim.Native.Nat.{ℕ}
 use lib.ListN.{length}
 use Rattle.heads.specs.Answer.{Answer, mapAnswer, leftBy}
-use Rattle.bulk.specs.Samples.{readSays}
+use Rattle.bulk.specs.Samples.{readSays, readSeen}
 use Rattle.mfer.specs.Answers.{Outputs, handedOut, countOut}
 use Rattle.mfer.proofs.Handed.{walk-refused, walk-seen}
 use borrow.Author.Needs.{needs}
@@ -42,7 +42,7 @@ returns : tie.Need-returns
 unfolding handedOut leftBy
 returns c =
     let a = c .before .before .before .before .before .before .before .before .args in
-    let is = walk-refused (a .file .now) (a .walk .now) (a .channel) (a .first) (length (a .out .now)) (c .before .before .before .before .view-at .ensures) (c .before .before .x .given .1) in
+    let is = walk-refused (λ v. readSeen (a .file .now) v (a .first) (length (a .out .now))) (a .walk .now) (a .channel) (c .before .before .before .before .view-at .ensures) (c .before .before .x .given .1) in
     (ap count is, ap (λ (y : Answer (List ℕ)). leftBy y (a .out .now)) is)
 
 same-length : tie.Need-same-length
@@ -52,7 +52,7 @@ returns-2 : tie.Need-returns-2
 unfolding handedOut
 returns-2 c =
     let a = c .before .before .before .before .before .before .before .before .before .before .before .before .before .before .args in
-    let is = walk-seen (a .file .now) (a .walk .now) (a .channel) (a .first) (length (a .out .now)) (c .before .before .before .before .before .before .before .before .before .before .view-at .ensures) (c .before .before .before .before .before .before .before .before .v .given .1) in
+    let is = walk-seen (λ v. readSeen (a .file .now) v (a .first) (length (a .out .now))) (a .walk .now) (a .channel) (c .before .before .before .before .before .before .before .before .before .before .view-at .ensures) (c .before .before .before .before .before .before .before .before .v .given .1) in
     let read = c .before .before .before .before .before .seen .ensures in
     (ap countOut (ap readSays (sym (c .before .n .given .1)) ∙ read .0) ∙ ap count is, read .1 ∙ ap (λ (y : Answer (List ℕ)). leftBy y (a .out .now)) is)
 
@@ -63,7 +63,7 @@ returns-3 : tie.Need-returns-3
 unfolding handedOut
 returns-3 c =
     let a = c .before .before .before .before .before .before .before .before .before .before .before .before .before .before .before .args in
-    let is = walk-seen (a .file .now) (a .walk .now) (a .channel) (a .first) (length (a .out .now)) (c .before .before .before .before .before .before .before .before .before .before .before .view-at .ensures) (c .before .before .before .before .before .before .before .before .before .v .given .1) in
+    let is = walk-seen (λ v. readSeen (a .file .now) v (a .first) (length (a .out .now))) (a .walk .now) (a .channel) (c .before .before .before .before .before .before .before .before .before .before .before .view-at .ensures) (c .before .before .before .before .before .before .before .before .before .v .given .1) in
     let read = c .before .before .before .before .before .before .seen .ensures in
     (ap countOut (ap readSays (sym (c .before .before .x2 .given .1)) ∙ read .0) ∙ ap count is, read .1 ∙ ap (λ (y : Answer (List ℕ)). leftBy y (a .out .now)) is)
 
