@@ -32,9 +32,10 @@
  *
  * TWO WAYS TO ASK
  *
- * A walk goes over a file once, frame after frame, and tells all channels and samples of each: see
- * the example below, and "A walk" further down. It is the way to read a file, or much of it. The
- * other functions answer one question each, about a frame, a channel and a sample by their numbers.
+ * A walk checks a file and then goes over it once, frame after frame, with the channels and samples of
+ * each: see the example below, and "A walk" further down. It is the way to read a file, or much of it.
+ * The other functions answer one question each, about a frame, a channel and a sample by their
+ * numbers.
  *
  * POINTERS, OWNERSHIP, THREADS
  *
