@@ -368,9 +368,9 @@ uint32_t mfer_walk_channel(const uint64_t walk[MFER_WALK], uint32_t channel,
  * The bits of consecutive samples of a channel in the frame that the walk is at, from sample `first`
  * on: `out` and *count are as in mfer_samples.
  *
- * Refusals: MFER_NO_FRAME where the walk is at no frame, or where the channel's samples do not lie in
- * this file, which then is not the one that was opened; MFER_NO_CHANNEL; MFER_NO_SAMPLE where there
- * is no sample `first`.
+ * Refusals: MFER_NO_FRAME where the walk is at no frame; MFER_NO_CHANNEL; MFER_NO_SAMPLE where there
+ * is no sample `first`; and after these MFER_NO_FRAME where the channel's samples do not lie in this
+ * file, which then is not the one that was opened.
  */
 uint32_t mfer_walk_samples(const uint8_t *file, size_t file_len, const uint64_t walk[MFER_WALK],
                            uint32_t channel, uint64_t first, uint64_t *out, size_t out_len,
