@@ -18,83 +18,110 @@
  * mfer_words says a refusal in words. Every output is set in every case:
  *
  *   - with an answer: as each function says; `*place` is 0 but in mfer_sample;
- *   - at a refusal: `*place` is the refusal's place, every other output is 0, and a buffer keeps
- *     all it held.
+ *   - at a refusal: `*place` is the refusal's place, every other output is 0, and the buffer `out`
+ *     keeps all it held.
  *
  * The refusal's place is the offset of the tag of the item that earned it (for
  * MFER_UNENDED_GROUP: of the group's tag). It is 0 for MFER_LONG_FILE and for every number from 20
  * up, which are about no item.
  *
- * The whole file is checked at every question. Where it is refused, every function answers that one
- * refusal, whatever was asked for. Only then come MFER_NO_FRAME, MFER_NO_CHANNEL and MFER_NO_SAMPLE,
- * in that order, and MFER_NO_ROOM.
+ * The whole file is checked at every question, but in a walk: there mfer_walk_open checks it, and the
+ * other functions of the walk do not do so again. Where it is refused, every function that checks it
+ * answers that one refusal, whatever was asked for. Only then come MFER_NO_FRAME, MFER_NO_CHANNEL and
+ * MFER_NO_SAMPLE, in that order, and MFER_NO_ROOM.
+ *
+ * TWO WAYS TO ASK
+ *
+ * A walk checks a file and then goes over it once, frame after frame, with the channels and samples of
+ * each: see the example below, and "A walk" further down. It is the way to read a file, or much of it.
+ * The other functions answer one question each, about a frame, a channel and a sample by their
+ * numbers.
  *
  * POINTERS, OWNERSHIP, THREADS
  *
  * The caller owns all memory. The library allocates none, keeps no pointer after a call and never
  * writes to `file`. A pointer that goes with a length may be null where the length is 0, and is not
  * followed then. Every other pointer must not be null: it points to one object of its type, or to
- * as many as the array in the prototype has. Outputs and buffers overlap neither each other nor the
- * file.
+ * as many as the array in the prototype has. Outputs, buffers and walks overlap neither each other
+ * nor the file.
  *
  * There is no global state. Any number of threads may call any function at the same time, also on
- * the same file, as long as nobody changes the file and each thread has outputs of its own. Nothing
- * is called back, no error goes through errno or a signal. A call needs less than 256 KiB of stack.
+ * the same file, as long as nobody changes the file and each thread has outputs of its own. A walk is
+ * written to by mfer_walk_open and mfer_walk_next alone; while neither is called, any number of
+ * threads may read the channels of its frame. Nothing is called back, no error goes through errno or
+ * a signal. A call needs less than 256 KiB of stack.
  *
  * WHAT A QUESTION COSTS
  *
- * Every function goes through the items of the file, whatever it asks for: the time grows with the
- * number of items and not with the length of the waveforms, which are stepped over. mfer_canonical
- * goes through them twice and copies the samples. To read many samples, ask mfer_samples once, not
- * mfer_sample many times.
+ * A walk over a whole file goes through its items twice, once in mfer_walk_open and once in all calls
+ * of mfer_walk_next together, each of which goes from one frame to the next. It looks at each channel
+ * of each frame once. mfer_walk_channel and mfer_walk_samples go through no items: the first takes the
+ * same short time in any file, and the second the time to copy the samples that it reads.
+ *
+ * Every other function goes through all items of the file, whatever it asks for: the time grows with
+ * the number of items and not with the length of the waveforms, which are stepped over.
+ * mfer_canonical goes through them twice and copies the samples. So these functions are for single
+ * questions: a loop that asks them for every channel of every frame goes through the file as often as
+ * there are channels in all its frames, a million times where there are 4,096 frames of 256 channels.
+ * Walk instead. To read many samples of one channel, ask mfer_samples once, not mfer_sample many
+ * times.
  *
  * WHAT IS PROVED
  *
- * Of each function, for any octets and any numbers: it returns, and its result, its outputs and its
- * buffer afterwards are what its contract in crates/mfer/src/lib.rt defines. docs/SPECIFICATION.md
- * lists the definitions, docs/TRUST.md says what that rests on.
+ * Of each function, for any octets, any numbers and any content of a walk: it returns, and its
+ * result, its outputs, its buffer and its walk afterwards are what its contract in
+ * crates/mfer/src/lib.rt defines. docs/SPECIFICATION.md lists the definitions, docs/TRUST.md says
+ * what that rests on.
  *
  * This and all above is about the functions of the library. mfer_words and mfer_kind_name are none of
  * them: they stand in this header, and are only tested.
  *
  * EXAMPLE
  *
- * Prints the first channel of the first frame:
+ * Prints every sample of a file, frame after frame and channel after channel:
  *
  *     #include <inttypes.h>
  *     #include <stdio.h>
  *     #include "mfer.h"
  *
- *     int print_first(const uint8_t *file, size_t file_len)
+ *     static void print_channel(const uint8_t *file, size_t file_len, const uint64_t walk[MFER_WALK],
+ *                               uint32_t channel)
  *     {
- *         uint64_t place, number = 0;
- *         for (;;) {
- *             uint32_t kind;
- *             int64_t whole;
- *             uint64_t bits;
- *             uint32_t refusal = mfer_sample(file, file_len, 0, 0, number, &place, &kind, &whole, &bits);
- *             if (refusal == MFER_NO_SAMPLE)
- *                 return 0;
- *             if (refusal != MFER_OK) {
- *                 fprintf(stderr, "refused %" PRIu32 " at %" PRIu64 ": %s\n", refusal, place,
- *                         mfer_words(refusal));
- *                 return 1;
- *             }
- *             if (kind == MFER_WHOLE)
- *                 printf("%" PRId64 "\n", whole);
- *             else
- *                 printf("%s %" PRIX64 "\n", mfer_kind_name(kind), bits);
- *             number++;
+ *         int64_t numbers[MFER_NUMBERS];
+ *         uint64_t defined[2], bits[1000], below, first = 0, count, place, i;
+ *         if (mfer_walk_channel(walk, channel, numbers, defined, &below, &place) != MFER_OK)
+ *             return;
+ *         printf("channel %" PRIu32 ": lead %" PRId64 "\n", channel, numbers[MFER_NUMBER_LEAD]);
+ *         while (mfer_walk_samples(file, file_len, walk, channel, first, bits, 1000, &count, &place) ==
+ *                    MFER_OK &&
+ *                count > 0) {
+ *             for (i = 0; i < count; i++)
+ *                 printf("bits %" PRIu64 "\n", bits[i]);
+ *             first += count;
  *         }
  *     }
  *
- * and the same in bulk, 1,000 samples at a time:
- *
- *     uint64_t bits[1000], first = 0, count, place;
- *     while (mfer_samples(file, file_len, 0, 0, first, bits, 1000, &count, &place) == MFER_OK) {
- *         use(bits, count);
- *         first += count;
+ *     int print_file(const uint8_t *file, size_t file_len)
+ *     {
+ *         uint64_t walk[MFER_WALK], frame[MFER_FRAME_NUMBERS], frames, place;
+ *         int64_t start;
+ *         uint32_t channel, refusal = mfer_walk_open(file, file_len, walk, &frames, &place);
+ *         while (refusal == MFER_OK) {
+ *             refusal = mfer_walk_next(file, file_len, walk, &start, frame, &place);
+ *             if (refusal != MFER_OK)
+ *                 break;
+ *             printf("frame at %" PRId64 "\n", start);
+ *             for (channel = 0; channel < frame[MFER_FRAME_CHANNELS]; channel++)
+ *                 print_channel(file, file_len, walk, channel);
+ *         }
+ *         if (refusal == MFER_NO_FRAME)
+ *             return 0;
+ *         fprintf(stderr, "refused %" PRIu32 " at %" PRIu64 ": %s\n", refusal, place,
+ *                 mfer_words(refusal));
+ *         return 1;
  *     }
+ *
+ * Behind the last frame mfer_walk_next answers MFER_NO_FRAME; a refused file has another number.
  */
 #ifndef MFER_H
 #define MFER_H
@@ -264,6 +291,90 @@ uint32_t mfer_sample(const uint8_t *file, size_t file_len, uint32_t frame, uint3
 uint32_t mfer_samples(const uint8_t *file, size_t file_len, uint32_t frame, uint32_t channel,
                       uint64_t first, uint64_t *out, size_t out_len, uint64_t *count,
                       uint64_t *place);
+
+/*
+ * A walk: the frames of a file one after another, each with its channels and samples.
+ *
+ * mfer_walk_open checks the file and begins the walk, mfer_walk_next goes to the next frame,
+ * mfer_walk_channel and mfer_walk_samples tell of the channels of the frame that the walk is at. The
+ * walk is kept in an array of the caller's, `uint64_t walk[MFER_WALK]`, 33,280 octets: nothing has to
+ * be set in it before it is opened, and nothing freed afterwards. It holds numbers and no pointers. A
+ * copy of it is a walk of its own that goes on from the same frame, and it may be opened again, for
+ * the same file or another.
+ *
+ * What is told of an opened file is what mfer_attributes and mfer_samples tell of it, frame by frame.
+ * For this the file must have the same octets in every call as in mfer_walk_open; it may have moved
+ * to another address.
+ *
+ * Whatever is in the array and whatever file is handed in, each call ends, and nothing outside the
+ * file and the arrays is read or written. But where the array is no opened walk, or the file another,
+ * the answers mean nothing: numbers may be out of their ranges, and mfer_walk_next may answer any of
+ * the refusals 1 to 15.
+ */
+#define MFER_WALK 4160 /* numbers in the array of a walk */
+
+/* Where each number of a frame is in `frame`. */
+#define MFER_FRAME_CHANNELS 0  /* channels of the frame, 1 to 256 */
+#define MFER_FRAME_SEQUENCES 1 /* sequences of the frame, 0 to 4,294,967,295 */
+#define MFER_FRAME_LITTLE 2    /* 1 where its samples are little-endian, 0 where they are big-endian */
+#define MFER_FRAME_PLACE 3     /* the place of its waveform: the offset of its first octet */
+#define MFER_FRAME_LENGTH 4    /* octets of its waveform, those past the last sequence among them */
+#define MFER_FRAME_OCTETS 5    /* octets of a sequence, over all channels */
+#define MFER_FRAME_NUMBERS 6   /* how many there are */
+
+/*
+ * Checks a file and begins a walk over it, ahead of the first frame. At a refusal the walk keeps all
+ * it held.
+ *
+ * *frames  how many frames the file has, at most MFER_MAX_FRAMES
+ *
+ * Refusals: 1 to 15, as mfer_check has them.
+ */
+uint32_t mfer_walk_open(const uint8_t *file, size_t file_len, uint64_t walk[MFER_WALK],
+                        uint64_t *frames, uint64_t *place);
+
+/*
+ * Goes to the next frame. At a refusal the walk is at no frame.
+ *
+ * *start   the frame's start pointer, signed 32 bits
+ * frame    as the list above has it
+ *
+ * Refusals: MFER_NO_FRAME behind the last frame, as often as it is asked there.
+ */
+uint32_t mfer_walk_next(const uint8_t *file, size_t file_len, uint64_t walk[MFER_WALK],
+                        int64_t *start, uint64_t frame[MFER_FRAME_NUMBERS], uint64_t *place);
+
+/*
+ * The attributes of a channel in the frame that the walk is at.
+ *
+ * numbers  as mfer_attributes has them
+ * bits     as mfer_attributes has them
+ * *below   the octets of a sequence that come ahead of the channel's: those of the channels below it
+ *
+ * The first octet of sample n is at
+ *
+ *     frame[MFER_FRAME_PLACE] + n / block * frame[MFER_FRAME_OCTETS] + below + n % block * width
+ *
+ * in the file, where block is numbers[MFER_NUMBER_BLOCK] and width is numbers[MFER_NUMBER_WIDTH].
+ *
+ * Refusals: MFER_NO_FRAME where the walk is at no frame: ahead of the first, or behind the last;
+ * MFER_NO_CHANNEL.
+ */
+uint32_t mfer_walk_channel(const uint64_t walk[MFER_WALK], uint32_t channel,
+                           int64_t numbers[MFER_NUMBERS], uint64_t bits[2], uint64_t *below,
+                           uint64_t *place);
+
+/*
+ * The bits of consecutive samples of a channel in the frame that the walk is at, from sample `first`
+ * on: `out` and *count are as in mfer_samples.
+ *
+ * Refusals: MFER_NO_FRAME where the walk is at no frame; MFER_NO_CHANNEL; MFER_NO_SAMPLE where there
+ * is no sample `first`; and after these MFER_NO_FRAME where the channel's samples do not lie in this
+ * file, which then is not the one that was opened.
+ */
+uint32_t mfer_walk_samples(const uint8_t *file, size_t file_len, const uint64_t walk[MFER_WALK],
+                           uint32_t channel, uint64_t first, uint64_t *out, size_t out_len,
+                           uint64_t *count, uint64_t *place);
 
 /*
  * The length of the canonical file, which mfer_canonical writes: the octets that its buffer has to

@@ -45,6 +45,22 @@ static const uint8_t P2_CANONICAL[113] = {
     0xE8, 0x0C, 0x06, 0x00, 0xFA, 0x00, 0x00, 0x00, 0x01, 0x0D, 0x02, 0x00, 0x00, 0x12, 0x00,
     0x1E, 0x06, 0x00, 0x01, 0x00, 0x02, 0xFF, 0xFF};
 
+/* Document 01's P4: two channels of one octet; 7 and 8. */
+static const uint8_t P4[] = {0x05, 0x01, 0x02, 0x3F, 0x00, 0x03, 0x0A, 0x01,
+                             0x03, 0x0A, 0x01, 0x05, 0x1E, 0x02, 0x07, 0x08};
+
+/* Two frames, the settings ahead of the first; octets past the samples of both. */
+static const uint8_t LASTING[] = {0x01, 1, 1,    0x05, 1,    2,    0x06, 1,    1,    0x08, 1,    7,
+                                  0x0D, 2, 1,    0,    0x3F, 1,    7,    0x0A, 1,    1,    0x12, 2,
+                                  0x34, 0x12, 0x1E, 6, 1,    0,    2,    0,    9,    9,    0x1E, 9,
+                                  3,    0, 0x34, 0x12, 0x99, 0x99, 0x99, 0x99, 0x99};
+
+/* Blocks of 2, 1 and 3 octets, two sequences and one octet past them; then a start pointer, and two
+   frames of one channel. */
+static const uint8_t BLOCKS[] = {0x05, 1, 3, 0x0A, 1, 3, 0x3F, 0, 3, 0x04, 1,    2, 0x3F, 2,    3,
+                                 0x04, 1, 3, 0x1E, 13, 0, 1, 2, 3, 4,    5, 6,    7, 8,    9,    10,
+                                 11,   12, 0x07, 1, 0xFB, 0x05, 0, 0x1E, 2,    0xFF, 0x80, 0x1E, 0};
+
 static void expect_check(const uint8_t *file, size_t file_len, uint32_t number, uint64_t frames,
                          uint64_t place)
 {
@@ -92,6 +108,20 @@ static void expect_refusal(const uint8_t *file, size_t file_len, uint32_t frame,
     EXPECT(mfer_samples(file, file_len, frame, channel, number, NULL, 0, &count, &place_out) ==
            refusal);
     EXPECT(place_out == place && count == 0);
+}
+
+/* The file is refused when a walk is opened, and the walk keeps all it held. */
+static void expect_walk_refusal(const uint8_t *file, size_t file_len, uint32_t refusal,
+                                uint64_t place)
+{
+    uint64_t walk[MFER_WALK], frames_out = UNSET, place_out = UNSET;
+    size_t i, kept = 0;
+    memset(walk, 0xA5, sizeof walk);
+    EXPECT(mfer_walk_open(file, file_len, walk, &frames_out, &place_out) == refusal);
+    EXPECT(frames_out == 0 && place_out == place);
+    for (i = 0; i < MFER_WALK; i++)
+        kept += walk[i] == UNSET;
+    EXPECT(kept == MFER_WALK);
 }
 
 static void expect_canonical_length(const uint8_t *file, size_t file_len, uint32_t number,
@@ -184,6 +214,7 @@ static void check_refusals(void)
     for (i = 0; i < SIZE(files); i++) {
         const uint8_t *file = files[i].octets;
         expect_check(file, files[i].length, files[i].number, 0, files[i].place);
+        expect_walk_refusal(file, files[i].length, files[i].number, files[i].place);
         expect_refusal(file, files[i].length, 0, 0, 0, files[i].number, files[i].place);
         expect_refusal(file, files[i].length, UINT32_MAX, UINT32_MAX, UINT64_MAX, files[i].number,
                        files[i].place);
@@ -203,6 +234,7 @@ static void too_many_frames(void)
     }
     expect_check(file, length - 2, MFER_OK, MFER_MAX_FRAMES, 0);
     expect_check(file, length, MFER_MANY_FRAMES, 0, 2 * MFER_MAX_FRAMES);
+    expect_walk_refusal(file, length, MFER_MANY_FRAMES, 2 * MFER_MAX_FRAMES);
     free(file);
 }
 
@@ -216,6 +248,7 @@ static void too_long_a_file(void)
         return;
     expect_check(file, length, MFER_LONG_FILE, 0, 0);
     expect_refusal(file, length, 0, 0, 0, MFER_LONG_FILE, 0);
+    expect_walk_refusal(file, length, MFER_LONG_FILE, 0);
     expect_canonical_length(file, length, MFER_LONG_FILE, 0, 0);
     expect_canonical_refusal(file, length, 200, MFER_LONG_FILE, 0);
     free(file);
@@ -296,6 +329,418 @@ static void samples_in_bulk(void)
     count = UNSET;
     EXPECT(mfer_samples(P2, sizeof P2, 0, 1, 0, NULL, 0, &count, &place) == MFER_OK);
     EXPECT(count == 0 && place == 0);
+}
+
+/* The walk is behind the last frame. */
+static void expect_walk_end(const uint8_t *file, size_t file_len, uint64_t *walk)
+{
+    uint64_t frame[MFER_FRAME_NUMBERS], place = UNSET;
+    int64_t start = 99;
+    size_t i;
+    memset(frame, 0xA5, sizeof frame);
+    EXPECT(mfer_walk_next(file, file_len, walk, &start, frame, &place) == MFER_NO_FRAME);
+    EXPECT(start == 0 && place == 0);
+    for (i = 0; i < SIZE(frame); i++)
+        EXPECT(frame[i] == 0);
+}
+
+/* The walk answers this refusal to the questions for a channel and its samples. */
+static void expect_walk_lacks(const uint8_t *file, size_t file_len, const uint64_t *walk,
+                              uint32_t channel, uint64_t first, uint32_t refusal)
+{
+    int64_t numbers[MFER_NUMBERS];
+    uint64_t bits[2], below = UNSET, place = UNSET, count = UNSET, out[3];
+    size_t i;
+
+    if (refusal != MFER_NO_SAMPLE) {
+        memset(numbers, 0xA5, sizeof numbers);
+        memset(bits, 0xA5, sizeof bits);
+        EXPECT(mfer_walk_channel(walk, channel, numbers, bits, &below, &place) == refusal);
+        for (i = 0; i < SIZE(numbers); i++)
+            EXPECT(numbers[i] == 0);
+        EXPECT(bits[0] == 0 && bits[1] == 0 && below == 0 && place == 0);
+    }
+
+    place = UNSET;
+    memset(out, 0xA5, sizeof out);
+    EXPECT(mfer_walk_samples(file, file_len, walk, channel, first, out, SIZE(out), &count, &place) ==
+           refusal);
+    EXPECT(count == 0 && place == 0);
+    for (i = 0; i < SIZE(out); i++)
+        EXPECT(out[i] == UNSET);
+
+    place = count = UNSET;
+    EXPECT(mfer_walk_samples(file, file_len, walk, channel, first, NULL, 0, &count, &place) ==
+           refusal);
+    EXPECT(count == 0 && place == 0);
+}
+
+/* The place of a sample by what a walk says of its frame and its channel. */
+static uint64_t place_of(const uint64_t *frame, const int64_t *numbers, uint64_t below, uint64_t number)
+{
+    uint64_t block = (uint64_t)numbers[MFER_NUMBER_BLOCK];
+    uint64_t width = (uint64_t)numbers[MFER_NUMBER_WIDTH];
+    return frame[MFER_FRAME_PLACE] + number / block * frame[MFER_FRAME_OCTETS] + below +
+           number % block * width;
+}
+
+/* The number that the octets at a place stand for. */
+static uint64_t bits_of(const uint8_t *octets, uint64_t width, int little)
+{
+    uint64_t bits = 0, i;
+    for (i = 0; i < width; i++)
+        bits = bits << 8 | octets[little ? width - 1 - i : i];
+    return bits;
+}
+
+/* A channel by the walk is what mfer_attributes, mfer_sample and mfer_samples tell. */
+static void same_channel(const uint8_t *file, size_t file_len, const uint64_t *walk, uint32_t number,
+                         const uint64_t *frame, uint32_t channel)
+{
+    int64_t numbers[MFER_NUMBERS], numbers_asked[MFER_NUMBERS], whole;
+    uint64_t bits[2], bits_asked[2], below = UNSET, place = UNSET, samples, i;
+    uint64_t out[7], out_asked[7], count = UNSET, count_asked, first;
+    uint32_t kind, refusal;
+
+    EXPECT(mfer_walk_channel(walk, channel, numbers, bits, &below, &place) == MFER_OK);
+    EXPECT(place == 0);
+    EXPECT(mfer_attributes(file, file_len, number, channel, numbers_asked, bits_asked, &place) ==
+           MFER_OK);
+    EXPECT(memcmp(numbers, numbers_asked, sizeof numbers) == 0);
+    EXPECT(memcmp(bits, bits_asked, sizeof bits) == 0);
+
+    samples = (uint64_t)(numbers[MFER_NUMBER_SEQUENCES] * numbers[MFER_NUMBER_BLOCK]);
+    for (i = 0; i < samples; i++) {
+        uint64_t there = place_of(frame, numbers, below, i);
+        EXPECT(mfer_sample(file, file_len, number, channel, i, &place, &kind, &whole, bits_asked) ==
+               MFER_OK);
+        EXPECT(place == there);
+    }
+
+    /* In pieces of 7, up to the refusal. */
+    first = 0;
+    do {
+        place = UNSET;
+        memset(out, 0xA5, sizeof out);
+        memset(out_asked, 0xA5, sizeof out_asked);
+        refusal = mfer_walk_samples(file, file_len, walk, channel, first, out, SIZE(out), &count, &place);
+        EXPECT(place == 0);
+        EXPECT(mfer_samples(file, file_len, number, channel, first, out_asked, SIZE(out_asked),
+                            &count_asked, &place) == refusal);
+        EXPECT(count == count_asked && memcmp(out, out_asked, sizeof out) == 0);
+        first += count;
+    } while (refusal == MFER_OK && count > 0);
+    EXPECT(refusal == MFER_NO_SAMPLE && first == samples);
+    expect_walk_lacks(file, file_len, walk, channel, samples, MFER_NO_SAMPLE);
+    expect_walk_lacks(file, file_len, walk, channel, UINT64_MAX, MFER_NO_SAMPLE);
+    if (samples > 0) {
+        EXPECT(mfer_walk_samples(file, file_len, walk, channel, 0, NULL, 0, &count, &place) == MFER_OK);
+        EXPECT(count == 0 && place == 0);
+    }
+}
+
+/* All of a file by the walk is what the single questions tell. The walk's array is not set before. */
+static void same_by_walk(const uint8_t *file, size_t file_len)
+{
+    uint64_t *walk = (uint64_t *)malloc(MFER_WALK * sizeof *walk);
+    uint64_t frames = UNSET, frames_asked, place = UNSET, frame[MFER_FRAME_NUMBERS];
+    int64_t start;
+    uint32_t number, channel;
+
+    EXPECT(mfer_walk_open(file, file_len, walk, &frames, &place) == MFER_OK);
+    EXPECT(place == 0);
+    EXPECT(mfer_check(file, file_len, &frames_asked, &place) == MFER_OK && frames == frames_asked);
+    expect_walk_lacks(file, file_len, walk, 0, 0, MFER_NO_FRAME);
+    for (number = 0; number < frames; number++) {
+        int64_t numbers[MFER_NUMBERS];
+        uint64_t bits[2];
+        start = 99;
+        place = UNSET;
+        EXPECT(mfer_walk_next(file, file_len, walk, &start, frame, &place) == MFER_OK);
+        EXPECT(place == 0);
+        EXPECT(mfer_attributes(file, file_len, number, 0, numbers, bits, &place) == MFER_OK);
+        EXPECT(start == numbers[MFER_NUMBER_START]);
+        EXPECT(frame[MFER_FRAME_CHANNELS] == (uint64_t)numbers[MFER_NUMBER_CHANNELS]);
+        EXPECT(frame[MFER_FRAME_SEQUENCES] == (uint64_t)numbers[MFER_NUMBER_SEQUENCES]);
+        EXPECT(frame[MFER_FRAME_LITTLE] <= 1);
+        EXPECT(frame[MFER_FRAME_PLACE] + frame[MFER_FRAME_LENGTH] <= file_len);
+        EXPECT(frame[MFER_FRAME_SEQUENCES] * frame[MFER_FRAME_OCTETS] <= frame[MFER_FRAME_LENGTH]);
+        for (channel = 0; channel < frame[MFER_FRAME_CHANNELS]; channel++)
+            same_channel(file, file_len, walk, number, frame, channel);
+        expect_walk_lacks(file, file_len, walk, channel, 0, MFER_NO_CHANNEL);
+        expect_walk_lacks(file, file_len, walk, UINT32_MAX, UINT64_MAX, MFER_NO_CHANNEL);
+    }
+    for (number = 0; number < 3; number++) {
+        expect_walk_end(file, file_len, walk);
+        expect_walk_lacks(file, file_len, walk, 0, 0, MFER_NO_FRAME);
+    }
+    free(walk);
+}
+
+/* A file of so many frames, and its length: each has two channels, and settings of its own. */
+static uint8_t *many_frames(size_t frames, size_t *length)
+{
+    static const uint8_t head[] = {0x01, 1, 1, 0x05, 1, 2};
+    const size_t each = 15;
+    uint8_t *file = (uint8_t *)malloc(sizeof head + frames * each);
+    size_t i;
+    memcpy(file, head, sizeof head);
+    for (i = 0; i < frames; i++) {
+        uint8_t one[15] = {0x3F, 1, 3, 0x09, 1, 0, 0x0A, 1, 0, 0x1E, 4, 0, 0x80, 0xFF, 0};
+        one[5] = (uint8_t)i;
+        one[8] = (uint8_t)(i % 2 == 0 ? MFER_TYPE_SIGNED_16 : MFER_TYPE_UNSIGNED_8);
+        one[11] = (uint8_t)(i / 256);
+        one[14] = (uint8_t)(7 * i);
+        memcpy(file + sizeof head + i * each, one, each);
+    }
+    *length = sizeof head + frames * each;
+    return file;
+}
+
+static void walk_tells_the_same(void)
+{
+    static const uint8_t p3[] = {0x1E, 0x00};
+    static const uint8_t p5[] = {0x3F, 0x00, 0x03, 0x0A, 0x01, 0x03, 0x1E, 0x02, 0x00, 0x09};
+    static const uint8_t p11[] = {0x05, 0x02, 0x01, 0x00, 0x3F, 0x81, 0x7F, 0x03, 0x0A, 0x01, 0x03};
+    size_t length;
+    uint8_t *file = many_frames(100, &length);
+    same_by_walk(NULL, 0);
+    same_by_walk(P2, sizeof P2);
+    same_by_walk(p3, sizeof p3);
+    same_by_walk(P4, sizeof P4);
+    same_by_walk(p5, sizeof p5);
+    same_by_walk(p11, sizeof p11);
+    same_by_walk(P2_CANONICAL, sizeof P2_CANONICAL);
+    same_by_walk(FLOATS, sizeof FLOATS);
+    same_by_walk(LASTING, sizeof LASTING);
+    same_by_walk(BLOCKS, sizeof BLOCKS);
+    same_by_walk(file, length);
+    free(file);
+}
+
+static void walk_numbers(void)
+{
+    static const uint64_t first[MFER_FRAME_NUMBERS] = {3, 2, 0, 20, 13, 6};
+    static const uint64_t second[MFER_FRAME_NUMBERS] = {1, 2, 0, 40, 2, 1};
+    static const uint64_t little[MFER_FRAME_NUMBERS] = {2, 1, 1, 17, 6, 6};
+    uint64_t walk[MFER_WALK], frames, frame[MFER_FRAME_NUMBERS], place, bits[2], below, out[4], count;
+    int64_t start, numbers[MFER_NUMBERS];
+
+    EXPECT(mfer_walk_open(BLOCKS, sizeof BLOCKS, walk, &frames, &place) == MFER_OK && frames == 3);
+    EXPECT(mfer_walk_next(BLOCKS, sizeof BLOCKS, walk, &start, frame, &place) == MFER_OK);
+    EXPECT(start == 0 && memcmp(frame, first, sizeof frame) == 0);
+    EXPECT(mfer_walk_channel(walk, 2, numbers, bits, &below, &place) == MFER_OK);
+    EXPECT(below == 3 && numbers[MFER_NUMBER_BLOCK] == 3);
+    EXPECT(mfer_walk_samples(BLOCKS, sizeof BLOCKS, walk, 2, 1, out, 4, &count, &place) == MFER_OK);
+    EXPECT(count == 4 && out[0] == 4 && out[1] == 5 && out[2] == 9 && out[3] == 10);
+    EXPECT(mfer_walk_next(BLOCKS, sizeof BLOCKS, walk, &start, frame, &place) == MFER_OK);
+    EXPECT(start == -5 && memcmp(frame, second, sizeof frame) == 0);
+    EXPECT(mfer_walk_open(P2, sizeof P2, walk, &frames, &place) == MFER_OK && frames == 1);
+    EXPECT(mfer_walk_next(P2, sizeof P2, walk, &start, frame, &place) == MFER_OK);
+    EXPECT(start == 0 && memcmp(frame, little, sizeof frame) == 0);
+}
+
+/* As many frames as there may be, of as many channels. */
+static void walk_over_the_most_frames(void)
+{
+    static const uint8_t head[] = {0x05, 2, 1, 0};
+    size_t i, length = sizeof head + 2 * MFER_MAX_FRAMES;
+    uint8_t *file = (uint8_t *)malloc(length);
+    uint64_t walk[MFER_WALK], frames = 0, place, frame[MFER_FRAME_NUMBERS], met = 0, bits[2], below;
+    int64_t start, numbers[MFER_NUMBERS];
+    memcpy(file, head, sizeof head);
+    for (i = sizeof head; i < length; i += 2) {
+        file[i] = 0x1E;
+        file[i + 1] = 0;
+    }
+    EXPECT(mfer_walk_open(file, length, walk, &frames, &place) == MFER_OK);
+    EXPECT(frames == MFER_MAX_FRAMES);
+    while (mfer_walk_next(file, length, walk, &start, frame, &place) == MFER_OK) {
+        EXPECT(frame[MFER_FRAME_CHANNELS] == MFER_MAX_CHANNELS && frame[MFER_FRAME_OCTETS] == 512);
+        EXPECT(mfer_walk_channel(walk, 255, numbers, bits, &below, &place) == MFER_OK && below == 510);
+        met++;
+    }
+    EXPECT(met == frames);
+    expect_walk_end(file, length, walk);
+    free(file);
+}
+
+/* A copy goes on by itself, and so does a walk that is opened again. */
+static void walk_copied(void)
+{
+    uint64_t walk[MFER_WALK], copy[MFER_WALK], frames, place, bits, count;
+    uint64_t frame[MFER_FRAME_NUMBERS], frame_of_copy[MFER_FRAME_NUMBERS];
+    int64_t start, start_of_copy;
+    EXPECT(mfer_walk_open(LASTING, sizeof LASTING, walk, &frames, &place) == MFER_OK && frames == 2);
+    EXPECT(mfer_walk_next(LASTING, sizeof LASTING, walk, &start, frame, &place) == MFER_OK);
+    memcpy(copy, walk, sizeof copy);
+    EXPECT(mfer_walk_next(LASTING, sizeof LASTING, walk, &start, frame, &place) == MFER_OK);
+    EXPECT(mfer_walk_samples(LASTING, sizeof LASTING, walk, 0, 0, &bits, 1, &count, &place) == MFER_OK);
+    EXPECT(bits == 3);
+    EXPECT(mfer_walk_samples(LASTING, sizeof LASTING, copy, 0, 0, &bits, 1, &count, &place) == MFER_OK);
+    EXPECT(bits == 1);
+    expect_walk_end(LASTING, sizeof LASTING, walk);
+    EXPECT(mfer_walk_next(LASTING, sizeof LASTING, copy, &start_of_copy, frame_of_copy, &place) == MFER_OK);
+    EXPECT(start == start_of_copy && memcmp(frame, frame_of_copy, sizeof frame) == 0);
+    EXPECT(mfer_walk_open(P4, sizeof P4, copy, &frames, &place) == MFER_OK && frames == 1);
+    expect_walk_lacks(P4, sizeof P4, copy, 0, 0, MFER_NO_FRAME);
+    EXPECT(mfer_walk_next(P4, sizeof P4, copy, &start, frame, &place) == MFER_OK);
+    expect_walk_end(P4, sizeof P4, copy);
+}
+
+/* A file that is not the one that was opened: its next item is refused, or the samples do not lie in
+   it. */
+static void walk_over_another_file(void)
+{
+    static const uint8_t bad[] = {0x0A, 0x80};
+    uint64_t walk[MFER_WALK], frames, place, frame[MFER_FRAME_NUMBERS], out[3], count;
+    int64_t start;
+    size_t i;
+    EXPECT(mfer_walk_open(P2, sizeof P2, walk, &frames, &place) == MFER_OK);
+    EXPECT(mfer_walk_next(bad, sizeof bad, walk, &start, frame, &place) == MFER_LENGTH_OCTET);
+    EXPECT(start == 0 && place == 0 && frame[MFER_FRAME_CHANNELS] == 0);
+    expect_walk_lacks(P2, sizeof P2, walk, 0, 0, MFER_NO_FRAME);
+    EXPECT(mfer_walk_open(P2, sizeof P2, walk, &frames, &place) == MFER_OK);
+    EXPECT(mfer_walk_next(P2, sizeof P2, walk, &start, frame, &place) == MFER_OK);
+    for (i = 0; i < sizeof P2; i++) {
+        memset(out, 0xA5, sizeof out);
+        EXPECT(mfer_walk_samples(P2, i, walk, 0, 0, out, SIZE(out), &count, &place) == MFER_NO_FRAME);
+        EXPECT(count == 0 && place == 0 && out[0] == UNSET);
+        EXPECT(mfer_walk_samples(P2, i, walk, 0, 2, out, SIZE(out), &count, &place) == MFER_NO_SAMPLE);
+    }
+    expect_walk_end(NULL, 0, walk);
+}
+
+/* Numbers that look random, the same in every run. */
+static uint64_t state = 88172645463325252u;
+
+static uint64_t random_number(void)
+{
+    state ^= state << 13;
+    state ^= state >> 7;
+    state ^= state << 17;
+    return state;
+}
+
+/* Mostly small, so that it often is a place or a channel that there is; else at an end of a range, or
+   any number. */
+static uint64_t random_word(void)
+{
+    static const uint64_t ends[] = {UINT64_MAX,  UINT64_MAX - 1, (uint64_t)1 << 63, ((uint64_t)1 << 63) - 1,
+                                    UINT32_MAX,  (uint64_t)1 << 32, (uint64_t)1 << 31, MFER_MAX_OCTETS,
+                                    MFER_MAX_BLOCK, MFER_MAX_FRAMES, 256, 255};
+    uint64_t number = random_number();
+    switch (number >> 61) {
+    case 0: return number;
+    case 1: return ends[number % SIZE(ends)];
+    case 2: return number % 1000;
+    case 3: return number % 50;
+    default: return number % 4;
+    }
+}
+
+/*
+ * Whatever the words are: the samples that are told of lie in the file. `frame` is null where the walk's
+ * last step is not known.
+ */
+static void expect_safe(const uint8_t *file, size_t file_len, const uint64_t *walk, uint32_t channel,
+                        const uint64_t *frame)
+{
+    const size_t room = 40;
+    uint64_t *out = (uint64_t *)malloc(room * sizeof *out);
+    int64_t numbers[MFER_NUMBERS];
+    uint64_t bits[2], below = UNSET, place = UNSET, count = UNSET, first = random_word() % 100, i;
+    uint32_t known = mfer_walk_channel(walk, channel, numbers, bits, &below, &place), refusal;
+
+    EXPECT(known == MFER_OK || known == MFER_NO_FRAME || known == MFER_NO_CHANNEL);
+    EXPECT(place == 0);
+    place = UNSET;
+    memset(out, 0xA5, room * sizeof *out);
+    refusal = mfer_walk_samples(file, file_len, walk, channel, first, out, room, &count, &place);
+    EXPECT(place == 0 && count <= room);
+    if (known != MFER_OK)
+        EXPECT(refusal == known);
+    else
+        EXPECT(refusal == MFER_OK || refusal == MFER_NO_FRAME || refusal == MFER_NO_SAMPLE);
+    if (refusal == MFER_OK && frame != NULL) {
+        uint64_t width = (uint64_t)numbers[MFER_NUMBER_WIDTH];
+        for (i = 0; i < count; i++) {
+            uint64_t there = place_of(frame, numbers, below, first + i);
+            EXPECT(there + width <= file_len);
+            EXPECT(out[i] == bits_of(file + there, width, frame[MFER_FRAME_LITTLE] == 1));
+        }
+    }
+    for (i = count; i < room; i++)
+        EXPECT(out[i] == UNSET);
+    free(out);
+}
+
+/* Goes on from any words for some steps. How many steps told of a frame. */
+static int goes_on_safely(const uint8_t *file, size_t file_len, uint64_t *walk)
+{
+    uint64_t frame[MFER_FRAME_NUMBERS], place;
+    int64_t start;
+    int step, told = 0;
+    expect_safe(file, file_len, walk, (uint32_t)random_word(), NULL);
+    for (step = 0; step < 3; step++) {
+        uint32_t refusal = mfer_walk_next(file, file_len, walk, &start, frame, &place);
+        EXPECT(refusal <= MFER_LONG_FILE || refusal == MFER_NO_FRAME);
+        if (refusal != MFER_OK) {
+            EXPECT(start == 0 && frame[MFER_FRAME_CHANNELS] == 0);
+            expect_walk_lacks(file, file_len, walk, 0, 0, MFER_NO_FRAME);
+            return told;
+        }
+        EXPECT(frame[MFER_FRAME_PLACE] + frame[MFER_FRAME_LENGTH] <= file_len);
+        told++;
+        expect_safe(file, file_len, walk, (uint32_t)random_word(), frame);
+        expect_safe(file, file_len, walk, 0, frame);
+    }
+    return told;
+}
+
+/* From words that are all random to words that are nearly all 0. The file's memory ends with it. */
+static void walk_of_any_words(void)
+{
+    size_t length, i;
+    uint8_t *file = many_frames(20, &length);
+    uint64_t *walk = (uint64_t *)malloc(MFER_WALK * sizeof *walk);
+    int round, told = 0;
+    for (i = 0; i < MFER_WALK; i++)
+        walk[i] = random_word();
+    for (round = 0; round < 10000; round++) {
+        for (i = 0; i < 200; i++)
+            walk[i] = (random_number() >> 32) % (1u << round % 6) == 0 ? random_word() : 0;
+        for (i = 0; i < 100; i++)
+            walk[random_number() % MFER_WALK] = random_word();
+        told += goes_on_safely(file, length, walk);
+    }
+    EXPECT(told > 100);
+    free(walk);
+    free(file);
+}
+
+/* The walk begins in words that are 0: a changed one may lead to some that the walk has not set. */
+static void walk_with_one_word_changed(void)
+{
+    size_t length;
+    uint8_t *file = many_frames(20, &length);
+    uint64_t *walk = (uint64_t *)calloc(MFER_WALK, sizeof *walk);
+    uint64_t *changed = (uint64_t *)malloc(MFER_WALK * sizeof *changed);
+    uint64_t frames, place, frame[MFER_FRAME_NUMBERS];
+    int64_t start;
+    int round, told = 0;
+    for (round = 0; round < 10000; round++) {
+        if (round % 20 == 0)
+            EXPECT(mfer_walk_open(file, length, walk, &frames, &place) == MFER_OK && frames == 20);
+        memcpy(changed, walk, MFER_WALK * sizeof *changed);
+        changed[random_number() % (round % 10 == 0 ? MFER_WALK : 96)] = random_word();
+        told += goes_on_safely(file, length, changed);
+        EXPECT(mfer_walk_next(file, length, walk, &start, frame, &place) == MFER_OK);
+    }
+    EXPECT(told > 1000);
+    free(changed);
+    free(walk);
+    free(file);
 }
 
 /* The length is what the writer answers, and the least room in which it does. */
@@ -402,6 +847,13 @@ int main(int argc, char **argv)
     run("attributes", attributes);
     run("one_sample", one_sample);
     run("samples_in_bulk", samples_in_bulk);
+    run("walk_tells_the_same", walk_tells_the_same);
+    run("walk_numbers", walk_numbers);
+    run("walk_over_the_most_frames", walk_over_the_most_frames);
+    run("walk_copied", walk_copied);
+    run("walk_over_another_file", walk_over_another_file);
+    run("walk_of_any_words", walk_of_any_words);
+    run("walk_with_one_word_changed", walk_with_one_word_changed);
     run("canonical_length", canonical_length);
     run("canonical", canonical);
     run("words_of_refusals", words_of_refusals);

@@ -1,6 +1,6 @@
 #!/bin/bash
 # The C interface: compiles tests/interface.c as C99 and as C++ with warnings as errors, runs both, and runs the first once more under
-# valgrind. The header's examples are compiled and run too. The library is taken from MFER_LIB_DIR, else from target/staticlib. The last
+# valgrind. The header's example is compiled and run too. The library is taken from MFER_LIB_DIR, else from target/staticlib. The last
 # line counts the tests.
 set -u
 cd "$(dirname "$0")/.." || exit 2
@@ -32,40 +32,24 @@ if compile cxx "$cxx" -std=c++11 -x c++ tests/interface.c; then
     add last_line "$work/cxx"
 fi
 
-# The examples in the header's first comment, on document 01's P2 and P6: the first is a function, the second the body of one.
-comment() {
-    sed -n "$1" include/mfer.h | sed 's/^ \* \{0,5\}//'
-}
+# The example in the header's first comment, on document 01's P2 and P6.
 {
-    comment '/^ \*     #include <inttypes.h>$/,/^ \*     }$/p'
-    cat <<'BETWEEN'
-static void use(const uint64_t *bits, uint64_t count)
-{
-    uint64_t i;
-    for (i = 0; i < count; i++)
-        printf("bits %" PRIu64 "\n", bits[i]);
-}
-static void print_bulk(const uint8_t *file, size_t file_len)
-{
-BETWEEN
-    comment '/^ \*     uint64_t bits\[1000\]/,/^ \*     }$/p'
+    sed -n '/^ \*     #include <inttypes.h>$/,/^ \*\/$/s/^ \*     //p' include/mfer.h
     cat <<'MAIN'
-}
 int main(void)
 {
     static const uint8_t p2[] = {0x01, 0x01, 0x01, 0x04, 0x01, 0x02, 0x05, 0x01, 0x02, 0x3F, 0x01, 0x03,
                                  0x04, 0x01, 0x01, 0x1E, 0x06, 0x01, 0x00, 0x02, 0x00, 0xFF, 0xFF};
     static const uint8_t p6[] = {0x05, 0x01, 0x02, 0x3F, 0x02, 0x00};
-    print_bulk(p2, sizeof p2);
-    return print_first(p2, sizeof p2) != 0 || print_first(p6, sizeof p6) != 1;
+    return print_file(p2, sizeof p2) != 0 || print_file(p6, sizeof p6) != 1;
 }
 MAIN
 } > "$work/example.c"
 if compile example "$cc" -std=c99 "$work/example.c"; then
     says=$("$work/example" 2>"$work/refusal") &&
-        [ "$says" = "$(printf 'bits 1\nbits 2\n1\n2')" ] &&
+        [ "$says" = "$(printf '%s\n' 'frame at 0' 'channel 0: lead 0' 'bits 1' 'bits 2' 'channel 1: lead 0' 'bits 65535')" ] &&
         [ "$(cat "$work/refusal")" = 'refused 8 at 3: channel number not below the channel count' ]
-    count "the header's examples" $?
+    count "the header's example" $?
 fi
 
 counted

@@ -1,7 +1,7 @@
 //! The questions on one file, and what the proved library has to answer by the second program.
 
-use mfer::ffi::{self, Checked, Described, Filled, Sampled};
-use second::reader::{self, Attributes, Refusal, Value};
+use mfer::ffi::{self, Checked, Described, Filled, Sampled, Seen, Stepped, Walk};
+use second::reader::{self, Attributes, Met, Refusal, Series, Value};
 use second::writer;
 use std::fmt::Debug;
 
@@ -38,6 +38,7 @@ fn ask(file: &[u8]) -> Agreed {
         expected_check(&checked),
     )?;
     ask_canonical(file, checked.unwrap_or(0))?;
+    ask_walk(file, &checked)?;
     let Ok(frames) = checked else {
         ask_channel(file, 0, 0)?;
         return ask_channel(file, u32::MAX, u32::MAX);
@@ -120,6 +121,115 @@ fn ask_samples(file: &[u8], frame: u32, channel: u32, first: u64, room: usize) -
         || format!("samples from {first}, room for {room}, of frame {frame}, channel {channel}");
     same(question, answer, expected_count(&expected))?;
     same(question, proved, second)
+}
+
+/// Every frame, channel and sample by a walk.
+fn ask_walk(file: &[u8], checked: &Result<u32, Refusal>) -> Agreed {
+    let mut walk = [PATTERN; ffi::WALK];
+    let opened = ffi::walk_open(file, &mut walk);
+    same(|| "walk opened".into(), opened, expected_check(checked))?;
+    if checked.is_err() {
+        let kept = walk == [PATTERN; ffi::WALK];
+        return same(|| "words of a walk not opened".into(), kept, true);
+    }
+    ask_no_frame(file, &walk)?;
+    let mut agreed = Ok(());
+    let mut number = 0;
+    let visited = reader::frames(file, |met, channels| {
+        if agreed.is_ok() {
+            agreed = ask_frame(file, &mut walk, number, met, channels);
+            number += 1;
+        }
+    });
+    agreed?;
+    same(|| "the second program's frames".into(), Ok(number), visited)?;
+    for _ in 0..2 {
+        let end = || "walk behind the last frame".into();
+        let no_frame = Stepped {
+            number: Refusal::NO_FRAME.into(),
+            start: 0,
+            frame: [0; ffi::FRAME_NUMBERS],
+            place: 0,
+        };
+        same(end, ffi::walk_next(file, &mut walk), no_frame)?;
+        ask_no_frame(file, &walk)?;
+    }
+    Ok(())
+}
+
+/// A walk that is at no frame has no channel.
+fn ask_no_frame(file: &[u8], walk: &Walk) -> Agreed {
+    let no_frame = Refusal {
+        number: Refusal::NO_FRAME,
+        place: 0,
+    };
+    ask_no_channel(file, walk, 0, no_frame)?;
+    ask_no_channel(file, walk, u32::MAX, no_frame)
+}
+
+fn ask_no_channel(file: &[u8], walk: &Walk, channel: u32, refusal: Refusal) -> Agreed {
+    let question = || format!("channel {channel} by the walk");
+    let expected = expected_channel(Err(refusal));
+    same(question, ffi::walk_channel(walk, channel), expected)?;
+    let mut bits = [PATTERN];
+    let answer = ffi::walk_samples(file, walk, channel, 0, &mut bits);
+    same(question, answer, expected_count(&Err(refusal)))?;
+    same(question, bits, [PATTERN])
+}
+
+/// The next frame of a walk, with all its channels.
+fn ask_frame(file: &[u8], walk: &mut Walk, number: u32, met: Met, channels: &[Series]) -> Agreed {
+    let stepped = ffi::walk_next(file, walk);
+    let expected = Stepped {
+        number: 0,
+        start: met.start.into(),
+        frame: [
+            channels.len() as u64,
+            met.sequences.into(),
+            met.little.into(),
+            met.place,
+            met.length,
+            met.sequence_octets,
+        ],
+        place: 0,
+    };
+    same(|| format!("frame {number} by the walk"), stepped, expected)?;
+    for (channel, series) in (0..).zip(channels) {
+        let question = || format!("frame {number}, channel {channel} by the walk");
+        let seen = ffi::walk_channel(walk, channel);
+        same(question, seen, expected_channel(Ok(series)))?;
+        ask_series(file, walk, channel, series, question)?;
+    }
+    let no_channel = Refusal {
+        number: Refusal::NO_CHANNEL,
+        place: 0,
+    };
+    ask_no_channel(file, walk, channels.len() as u32, no_channel)?;
+    ask_no_channel(file, walk, u32::MAX, no_channel)
+}
+
+/// All samples of a channel by the walk: three, then as many as are read in one go, to the end.
+fn ask_series(
+    file: &[u8],
+    walk: &Walk,
+    channel: u32,
+    series: &Series,
+    question: impl Fn() -> String,
+) -> Agreed {
+    let (mut first, mut room) = (0, 3);
+    loop {
+        let (mut proved, mut second) = (vec![PATTERN; room], vec![PATTERN; room]);
+        let answer = ffi::walk_samples(file, walk, channel, first, &mut proved);
+        let expected = series.read(first, &mut second);
+        let question = || format!("samples from {first}, {}", question());
+        same(question, answer, expected_count(&expected))?;
+        same(question, proved, second)?;
+        let Ok(count) = expected else {
+            return Ok(());
+        };
+        first += count as u64;
+        room = BULK as usize;
+    }
 }
 
 /// The canonical file's length, and the file in buffers that are too short, exact and longer.
@@ -230,6 +340,13 @@ fn expected_attributes(answer: &Result<Attributes, Refusal>) -> Described {
             bits: [0; 2],
             place: *place,
         },
+    }
+}
+
+fn expected_channel(answer: Result<&Series, Refusal>) -> Seen {
+    Seen {
+        described: expected_attributes(&answer.map(Series::attributes)),
+        below: answer.map_or(0, Series::lower),
     }
 }
 

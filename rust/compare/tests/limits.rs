@@ -106,6 +106,11 @@ fn one_frame_of_the_whole_file(limit: usize) {
     let mut bits = [9; 3];
     let count = File::new(&file).samples(0, 0, samples - 2, &mut bits);
     assert_eq!((count, bits), (Ok(2), [0, 0x0012, 9]));
+    let frame = File::new(&file).frame(0).unwrap();
+    assert_eq!(frame.waveform(), 6..limit);
+    let mut bits = [9; 3];
+    let count = frame.channel(0).unwrap().samples(samples - 2, &mut bits);
+    assert_eq!((count, bits), (Ok(2), [0, 0x0012, 9]));
     // The canonical file would have 62 octets more.
     let answer = ffi::canonical_length(&file);
     assert_eq!((answer.number, answer.count), (Refusal::NO_ROOM, 0));
@@ -134,6 +139,7 @@ fn longer_files_are_refused(limit: usize) {
         assert_eq!(file.attributes(0, 0), Err(refusal));
         assert_eq!(file.sample(0, 0, 0), Err(refusal));
         assert_eq!(file.samples(0, 0, 0, &mut [0]), Err(refusal));
+        assert_eq!(file.frames().err(), Some(refusal));
         assert_eq!(file.canonical_length(), Err(refusal));
         let mut out = [0xA5; 100];
         assert_eq!(file.canonical(&mut out), Err(refusal));

@@ -4,12 +4,9 @@ use crate::failure::Failure;
 use crate::input::{read, shown};
 use crate::progress::Progress;
 use crate::{names, table};
-use mfer::{Attributes, File, Recording, Refusal};
+use mfer::{Attributes, File, Frame, Refusal};
 use std::ffi::OsStr;
 use std::io::Write;
-
-/// A file of fewer frames is asked as it is, which needs no second copy of its waveforms.
-const WORTH_CUTTING: u32 = 8;
 
 const HEAD: [&str; 9] = [
     "channel",
@@ -28,100 +25,51 @@ type Row = [String; HEAD.len()];
 pub fn show(name: &OsStr, out: &mut impl Write) -> Result<(), Failure> {
     let octets = read(name)?;
     let refused = |refusal| Failure::refused(name, refusal);
-    let file = File::new(&octets);
-    let frames = file.check().map_err(refused)?;
-    let source = Source::of(file, frames).map_err(refused)?;
+    let frames = File::new(&octets).frames().map_err(refused)?;
+    let count = frames.len() as u64;
     let length = counted(octets.len() as u64, "octet");
-    let count = counted(frames.into(), "frame");
-    writeln!(out, "{}: {length}, {count}", shown(name)).map_err(Failure::output)?;
+    let shown_count = counted(count, "frame");
+    writeln!(out, "{}: {length}, {shown_count}", shown(name)).map_err(Failure::output)?;
     let mut progress = Progress::beside_output("showing frames");
-    let mut channels = Vec::new();
-    // The last table that was written, and of which frame.
-    let mut last: Option<(u32, Vec<Row>)> = None;
-    for frame in 0..frames {
-        progress.step(frame.into(), frames.into());
-        channels = source.channels(frame, channels).map_err(refused)?;
-        let rows: Vec<Row> = (0..).zip(&channels).map(row).collect();
-        let head = heading(frame, &channels[0]);
+    // The last frame whose table was written, and its channels.
+    let mut last: Option<(u32, Vec<Attributes>)> = None;
+    for frame in frames {
+        let frame = frame.map_err(refused)?;
+        progress.step(frame.number().into(), count);
+        let channels = settings(&frame).map_err(refused)?;
+        let head = heading(&frame);
         match &last {
-            Some((number, written)) if *written == rows => {
+            Some((number, written)) if *written == channels => {
                 writeln!(out, "{head}; channels as in frame {number}").map_err(Failure::output)?;
             }
             _ => {
                 writeln!(out, "{head}").map_err(Failure::output)?;
+                let rows: Vec<Row> = (0..).zip(&channels).map(row).collect();
                 table::write(out, HEAD, &rows).map_err(Failure::output)?;
-                last = Some((frame, rows));
+                last = Some((frame.number(), channels));
             }
         }
     }
     Ok(())
 }
 
-/// Where the attributes are asked for.
-enum Source<'a> {
-    Whole(File<'a>),
-    Cut(Recording),
+/// What a table says of a frame's channels: all attributes but the start pointer.
+fn settings(frame: &Frame) -> Result<Vec<Attributes>, Refusal> {
+    let settings = |channel: mfer::Channel| Attributes {
+        start: 0,
+        ..*channel.attributes()
+    };
+    frame
+        .channels()
+        .map(|channel| channel.map(settings))
+        .collect()
 }
 
-impl<'a> Source<'a> {
-    fn of(file: File<'a>, frames: u32) -> Result<Source<'a>, Refusal> {
-        if frames < WORTH_CUTTING {
-            return Ok(Source::Whole(file));
-        }
-        match Recording::of(&file) {
-            Ok(recording) => Ok(Source::Cut(recording)),
-            // The canonical file would be too long; it takes longer, but the file itself will do.
-            Err(refusal) if refusal.number == Refusal::NO_ROOM => Ok(Source::Whole(file)),
-            Err(refusal) => Err(refusal),
-        }
-    }
-
-    /// The attributes of all channels of a frame, at least one; `before` are those of the frame
-    /// before it.
-    fn channels(&self, frame: u32, before: Vec<Attributes>) -> Result<Vec<Attributes>, Refusal> {
-        let Source::Cut(recording) = self else {
-            return self.ask(frame);
-        };
-        let number = frame as usize;
-        if number == 0 || recording.groups(number) != recording.groups(number - 1) {
-            return self.ask(frame);
-        }
-        let Attributes {
-            start, sequences, ..
-        } = self.file(frame).attributes(0, 0)?;
-        let same = |read| Attributes {
-            start,
-            sequences,
-            ..read
-        };
-        Ok(before.into_iter().map(same).collect())
-    }
-
-    fn ask(&self, frame: u32) -> Result<Vec<Attributes>, Refusal> {
-        let file = self.file(frame);
-        let frame = match self {
-            Source::Whole(_) => frame,
-            Source::Cut(_) => 0,
-        };
-        let first = file.attributes(frame, 0)?;
-        let others = (1..first.channels).map(|channel| file.attributes(frame, channel));
-        std::iter::once(Ok(first)).chain(others).collect()
-    }
-
-    /// The file that has the frame.
-    fn file(&self, frame: u32) -> File<'_> {
-        match self {
-            Source::Whole(file) => *file,
-            Source::Cut(recording) => recording.frame(frame as usize).unwrap_or(File::new(&[])),
-        }
-    }
-}
-
-fn heading(frame: u32, first: &Attributes) -> String {
-    let start = first.start;
-    let channels = counted(first.channels.into(), "channel");
-    let sequences = counted(first.sequences.into(), "sequence");
-    format!("frame {frame}: start {start}, {channels}, {sequences}")
+fn heading(frame: &Frame) -> String {
+    let (number, start) = (frame.number(), frame.start());
+    let channels = counted(frame.channels().len() as u64, "channel");
+    let sequences = counted(frame.sequences().into(), "sequence");
+    format!("frame {number}: start {start}, {channels}, {sequences}")
 }
 
 fn row((channel, read): (u32, &Attributes)) -> Row {

@@ -1,12 +1,21 @@
 //! The C functions, each behind a safe one that hands back the refusal's number and every output.
 //!
 //! This is the only module with unsafe code. What makes each call sound: a slice is passed as its
-//! pointer and its own length, every output is a place that this module owns, and the library keeps
-//! no pointer and has no state.
+//! pointer and its own length, a walk is an array of the length that the library has for it, every
+//! output is a place that this module owns, and the library keeps no pointer and has no state.
 #![allow(unsafe_code)]
 
 /// How many numbers the attributes of a channel are.
 pub const NUMBERS: usize = 15;
+
+/// How many words a walk is kept in.
+pub const WALK: usize = 4160;
+
+/// How many numbers a frame of a walk is, besides its start pointer.
+pub const FRAME_NUMBERS: usize = 6;
+
+/// A walk. Any words at all are some walk.
+pub type Walk = [u64; WALK];
 
 extern "C" {
     fn mfer_check(file: *const u8, file_len: usize, frames: *mut u64, place: *mut u64) -> u32;
@@ -45,6 +54,44 @@ extern "C" {
         place: *mut u64,
     ) -> u32;
 
+    fn mfer_walk_open(
+        file: *const u8,
+        file_len: usize,
+        walk: *mut Walk,
+        frames: *mut u64,
+        place: *mut u64,
+    ) -> u32;
+
+    fn mfer_walk_next(
+        file: *const u8,
+        file_len: usize,
+        walk: *mut Walk,
+        start: *mut i64,
+        frame: *mut [u64; FRAME_NUMBERS],
+        place: *mut u64,
+    ) -> u32;
+
+    fn mfer_walk_channel(
+        walk: *const Walk,
+        channel: u32,
+        numbers: *mut [i64; NUMBERS],
+        bits: *mut [u64; 2],
+        below: *mut u64,
+        place: *mut u64,
+    ) -> u32;
+
+    fn mfer_walk_samples(
+        file: *const u8,
+        file_len: usize,
+        walk: *const Walk,
+        channel: u32,
+        first: u64,
+        out: *mut u64,
+        out_len: usize,
+        count: *mut u64,
+        place: *mut u64,
+    ) -> u32;
+
     fn mfer_canonical_length(
         file: *const u8,
         file_len: usize,
@@ -65,7 +112,7 @@ extern "C" {
 /// What outputs hold before a call, so that one the library left alone would show.
 const UNSET: u64 = 0xA5A5_A5A5_A5A5_A5A5;
 
-/// What `mfer_check` answers.
+/// What `mfer_check` and `mfer_walk_open` answer, but for the walk.
 #[derive(Clone, Copy, PartialEq, Eq, Debug)]
 pub struct Checked {
     /// The refusal's number, 0 for none.
@@ -170,7 +217,8 @@ pub fn sample(file: &[u8], frame: u32, channel: u32, number: u64) -> Sampled {
     }
 }
 
-/// What `mfer_samples`, `mfer_canonical_length` and `mfer_canonical` answer, but for the buffer.
+/// What `mfer_samples`, `mfer_walk_samples`, `mfer_canonical_length` and `mfer_canonical` answer, but
+/// for the buffer.
 #[derive(Clone, Copy, PartialEq, Eq, Debug)]
 pub struct Filled {
     /// The refusal's number, 0 for none.
@@ -190,6 +238,115 @@ pub fn samples(file: &[u8], frame: u32, channel: u32, first: u64, out: &mut [u64
             file.as_ptr(),
             file.len(),
             frame,
+            channel,
+            first,
+            out.as_mut_ptr(),
+            out.len(),
+            &mut count,
+            &mut place,
+        )
+    };
+    Filled {
+        number,
+        count,
+        place,
+    }
+}
+
+/// Asks `mfer_walk_open`.
+pub fn walk_open(file: &[u8], walk: &mut Walk) -> Checked {
+    let (mut frames, mut place) = (UNSET, UNSET);
+    // SAFETY: see the module's first lines.
+    let number =
+        unsafe { mfer_walk_open(file.as_ptr(), file.len(), walk, &mut frames, &mut place) };
+    Checked {
+        number,
+        frames,
+        place,
+    }
+}
+
+/// What `mfer_walk_next` answers, but for the walk.
+#[derive(Clone, Copy, PartialEq, Eq, Debug)]
+pub struct Stepped {
+    /// The refusal's number, 0 for none; 20 behind the last frame.
+    pub number: u32,
+    /// The frame's start pointer.
+    pub start: i64,
+    /// Channels, sequences, byte order (1 for little-endian), place and length of the waveform,
+    /// octets of a sequence.
+    pub frame: [u64; FRAME_NUMBERS],
+    /// The refusal's place.
+    pub place: u64,
+}
+
+/// Asks `mfer_walk_next`.
+pub fn walk_next(file: &[u8], walk: &mut Walk) -> Stepped {
+    let mut start = UNSET as i64;
+    let mut frame = [UNSET; FRAME_NUMBERS];
+    let mut place = UNSET;
+    // SAFETY: see the module's first lines.
+    let number = unsafe {
+        mfer_walk_next(
+            file.as_ptr(),
+            file.len(),
+            walk,
+            &mut start,
+            &mut frame,
+            &mut place,
+        )
+    };
+    Stepped {
+        number,
+        start,
+        frame,
+        place,
+    }
+}
+
+/// What `mfer_walk_channel` answers.
+#[derive(Clone, Copy, PartialEq, Eq, Debug)]
+pub struct Seen {
+    /// What `mfer_attributes` answers.
+    pub described: Described,
+    /// The octets of a sequence that come ahead of the channel's.
+    pub below: u64,
+}
+
+/// Asks `mfer_walk_channel`.
+pub fn walk_channel(walk: &Walk, channel: u32) -> Seen {
+    let mut numbers = [UNSET as i64; NUMBERS];
+    let mut bits = [UNSET; 2];
+    let (mut below, mut place) = (UNSET, UNSET);
+    // SAFETY: see the module's first lines.
+    let number = unsafe {
+        mfer_walk_channel(
+            walk,
+            channel,
+            &mut numbers,
+            &mut bits,
+            &mut below,
+            &mut place,
+        )
+    };
+    let described = Described {
+        number,
+        numbers,
+        bits,
+        place,
+    };
+    Seen { described, below }
+}
+
+/// Asks `mfer_walk_samples`.
+pub fn walk_samples(file: &[u8], walk: &Walk, channel: u32, first: u64, out: &mut [u64]) -> Filled {
+    let (mut count, mut place) = (UNSET, UNSET);
+    // SAFETY: see the module's first lines.
+    let number = unsafe {
+        mfer_walk_samples(
+            file.as_ptr(),
+            file.len(),
+            walk,
             channel,
             first,
             out.as_mut_ptr(),

@@ -6,10 +6,19 @@ use crate::ffi;
 use crate::iterators::{Channel, Frame, Frames};
 use crate::refusal::Refusal;
 use crate::value::Sample;
+use std::fmt;
 
 /// The octets of a file. Any octets will do: what is no MFER file is refused when it is asked.
-#[derive(Clone, Copy, Debug)]
+#[derive(Clone, Copy)]
 pub struct File<'a>(&'a [u8]);
+
+/// Its length: the octets can be many.
+impl fmt::Debug for File<'_> {
+    fn fmt(&self, f: &mut fmt::Formatter<'_>) -> fmt::Result {
+        let octets = self.0.len();
+        f.debug_struct("File").field("octets", &octets).finish()
+    }
+}
 
 impl<'a> File<'a> {
     /// The most octets a file may have.
@@ -114,19 +123,32 @@ impl<'a> File<'a> {
         Ok(out)
     }
 
-    /// The frames in order, if the file is accepted.
+    /// The frames in order, if the file is accepted: the way to read all of a file. The file is
+    /// checked here, and gone through once more in all steps together.
     pub fn frames(&self) -> Result<Frames<'a>, Refusal> {
-        Ok(Frames::new(*self, self.check()?))
+        Frames::open(*self)
     }
 
-    /// A frame.
+    /// A frame. To reach it the file is checked, and gone through as far as the frame.
+    ///
+    /// ```
+    /// use mfer::{File, Refusal};
+    ///
+    /// let file = File::new(&[0x1E, 2, 0, 5, 0x1E, 4, 0, 6, 0, 7]);
+    /// assert_eq!(file.frame(1)?.sequences(), 2);
+    /// assert_eq!(file.frame(2).unwrap_err().number, Refusal::NO_FRAME);
+    /// # Ok::<(), Refusal>(())
+    /// ```
     pub fn frame(&self, frame: u32) -> Result<Frame<'a>, Refusal> {
-        Ok(Frame::new(*self, frame, self.attributes(frame, 0)?))
+        let missing = Refusal {
+            number: Refusal::NO_FRAME,
+            place: 0,
+        };
+        self.frames()?.nth(frame as usize).unwrap_or(Err(missing))
     }
 
-    /// A channel in a frame.
+    /// A channel in a frame, which is reached as by [`File::frame`].
     pub fn channel(&self, frame: u32, channel: u32) -> Result<Channel<'a>, Refusal> {
-        let attributes = self.attributes(frame, channel)?;
-        Ok(Channel::new(*self, frame, channel, attributes))
+        self.frame(frame)?.channel(channel)
     }
 }

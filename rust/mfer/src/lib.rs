@@ -28,8 +28,10 @@
 //!
 //! # What a question costs
 //!
-//! Each question goes through the file's items once, whatever it asks for, and steps over the
-//! waveforms. Where many frames are asked for many things, [`Recording`] asks each frame alone.
+//! The loop above goes through the file's items twice, once to check the file and once from frame to
+//! frame, and reads each sample once. A single question, as [`File::attributes`] or [`File::sample`],
+//! goes through all items, whatever it asks for, and steps over the waveforms: where many things are
+//! asked, [`File::frames`] is the way.
 #![deny(unsafe_code)]
 #![warn(missing_docs)]
 
@@ -38,16 +40,15 @@ pub mod ffi;
 mod attributes;
 mod file;
 mod iterators;
-mod recording;
 mod refusal;
 mod value;
 #[cfg(test)]
 mod vocabulary;
+mod walk;
 
 pub use attributes::{Attributes, DataType, Scale};
 pub use file::File;
-pub use iterators::{Bits, Channel, Channels, Frame, Frames, Values};
-pub use recording::Recording;
+pub use iterators::{Bits, ByteOrder, Channel, Channels, Frame, Frames, Values};
 pub use refusal::Refusal;
 pub use value::{Sample, Value};
 

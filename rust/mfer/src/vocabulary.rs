@@ -1,8 +1,8 @@
 //! One vocabulary: refusals and kinds of values have the same names, numbers and words in this crate,
 //! in the header, in the definitions and in Rattle, and the same names in the second program. The
-//! header has this crate's version.
+//! header has this crate's version, and arrays of the same sizes.
 
-use crate::ffi::Sampled;
+use crate::ffi::{self, Sampled};
 use crate::refusal::REFUSALS;
 use crate::value::{Sample, Value};
 
@@ -135,5 +135,20 @@ fn the_header_has_this_version() {
     for (part, version) in parts {
         let line = format!("#define MFER_VERSION{part} {version}\n");
         assert!(HEADER.contains(&line), "{line}");
+    }
+}
+
+#[test]
+fn the_header_has_these_sizes() {
+    let sizes = [
+        ("MFER_NUMBERS", ffi::NUMBERS),
+        ("MFER_WALK", ffi::WALK),
+        ("MFER_FRAME_NUMBERS", ffi::FRAME_NUMBERS),
+    ];
+    for (name, size) in sizes {
+        let begins = format!("#define {name} ");
+        let line = HEADER.lines().find_map(|line| line.strip_prefix(&begins));
+        let number = line.and_then(|line| line.split(' ').next());
+        assert_eq!(number, Some(size.to_string().as_str()), "{name}");
     }
 }

@@ -1,6 +1,9 @@
-//! What the wrapper adds to the library: iterators, words, buffers that grow, frames cut out.
+//! What the wrapper adds to the library: iterators, words, buffers that grow.
 
-use mfer::{Attributes, DataType, File, Recording, Refusal, Scale, Value};
+use mfer::{
+    Attributes, Bits, ByteOrder, Channel, Channels, DataType, File, Frame, Frames, Refusal, Scale,
+    Value, Values,
+};
 
 /// Two channels of types 0 and 3 with blocks of 1 and 2, and as many sequences as fit.
 fn two_channels(sequences: usize) -> Vec<u8> {
@@ -50,37 +53,146 @@ fn frames_and_their_starts() {
     assert_eq!(starts, [(0, -2, 2), (1, 0, 1), (2, 1, 0)]);
 }
 
-#[test]
-fn a_recording_has_the_same_frames() {
-    // 300 frames, each with a channel setting of its own.
+/// 300 frames of two channels, each with settings of its own.
+fn many_frames() -> Vec<u8> {
     let mut octets = vec![0x01, 1, 1, 0x05, 1, 2];
     for number in 0..300_u32 {
         let length = 2 * (number as u8 % 100) + 2;
         octets.extend([0x3F, 1, 3, 0x09, 1, number as u8, 0x1E, 0x81, length]);
         octets.extend((0..length).map(|octet| octet.wrapping_mul(number as u8)));
     }
+    octets
+}
+
+#[test]
+fn frames_tell_what_the_questions_tell() {
+    let octets = many_frames();
     let file = File::new(&octets);
-    let recording = Recording::of(&file).unwrap();
-    assert_eq!(recording.len(), 300);
-    assert!(!recording.is_empty());
-    for (number, frame) in file.frames().unwrap().enumerate() {
-        let alone = recording.frame(number).unwrap();
-        assert_eq!(alone.check(), Ok(1));
-        for channel in frame.unwrap().channels() {
+    let mut frames = file.frames().unwrap();
+    for number in 0..300 {
+        assert_eq!(frames.len(), 300 - number as usize);
+        let frame = frames.next().unwrap().unwrap();
+        assert_eq!(frame.number(), number);
+        assert_eq!(frame.byte_order(), ByteOrder::Little);
+        assert_eq!(frame.sequence_octets(), 4);
+        let waveform = frame.waveform();
+        assert_eq!(waveform.len(), 2 * (number as usize % 256 % 100) + 2);
+        assert_eq!(octets[waveform.start - 3], 0x1E);
+        assert_eq!(frame.channels().len(), 2);
+        for (channel, asked) in frame.channels().zip(0..) {
             let channel = channel.unwrap();
-            let same = alone.channel(0, channel.number()).unwrap();
-            assert_eq!(same.attributes(), channel.attributes());
-            assert!(same.values().eq(channel.values()));
+            assert_eq!((channel.frame(), channel.number()), (number, asked));
+            assert_eq!(channel.below(), 2 * u64::from(asked));
+            let attributes = file.attributes(number, asked).unwrap();
+            assert_eq!(*channel.attributes(), attributes);
+            assert_eq!(attributes.start, frame.start());
+            assert_eq!(attributes.sequences, frame.sequences());
+            let mut bits = [0; 100];
+            let count = file.samples(number, asked, 0, &mut bits).unwrap_or(0);
+            let read: Vec<u64> = channel.bits().map(Result::unwrap).collect();
+            assert_eq!(read, bits[..count]);
         }
     }
-    assert!(recording.frame(300).is_none());
-    // The lead codes come again after 256 frames.
-    assert_eq!(recording.groups(0).unwrap().len(), 2 * 42);
-    assert_ne!(recording.groups(0), recording.groups(1));
-    assert_eq!(recording.groups(0), recording.groups(256));
-    assert!(recording.groups(300).is_none());
-    assert_eq!(Ok(recording.into_octets()), file.canonical_vec());
-    assert!(Recording::of(&File::new(&[])).unwrap().is_empty());
+    assert_eq!(frames.len(), 0);
+    assert!(frames.next().is_none());
+    assert!(frames.next().is_none());
+}
+
+#[test]
+fn frames_and_channels_can_be_kept() {
+    let octets = many_frames();
+    let file = File::new(&octets);
+    let kept: Vec<Frame> = file.frames().unwrap().map(Result::unwrap).collect();
+    let channels = kept.iter().map(|frame| frame.channel(1).unwrap());
+    let channels: Vec<Channel> = channels.collect();
+    drop(kept);
+    for (channel, number) in channels.iter().zip(0..) {
+        assert_eq!(*channel.attributes(), file.attributes(number, 1).unwrap());
+        let again = file.channel(number, 1).unwrap();
+        assert!(channel.values().eq(again.values()));
+    }
+    // A clone goes on by itself.
+    let mut frames = file.frames().unwrap();
+    let held = frames.next().unwrap().unwrap();
+    let clone = frames.clone();
+    assert_eq!(frames.by_ref().count(), 299);
+    let starts = |frames: Frames| {
+        frames
+            .map(|frame| frame.unwrap().start())
+            .collect::<Vec<_>>()
+    };
+    assert_eq!(starts(clone), starts(file.frames().unwrap())[1..]);
+    assert_eq!(held.channel(1).unwrap().attributes().lead, 0);
+    assert_eq!(
+        held.channel(2).err().map(|refusal| refusal.number),
+        Some(21)
+    );
+}
+
+/// The questions for a frame and a channel by their numbers refuse as the other questions do.
+#[test]
+fn frames_and_channels_that_are_not_there() {
+    let octets = two_channels(2);
+    let file = File::new(&octets);
+    for (frame, channel) in [(0, 1), (0, 2), (0, u32::MAX), (1, 0), (u32::MAX, u32::MAX)] {
+        let asked = file.channel(frame, channel);
+        let attributes = asked.map(|channel| *channel.attributes());
+        assert_eq!(attributes, file.attributes(frame, channel));
+    }
+    let refusal = file.frame(1).unwrap_err();
+    assert_eq!((refusal.number, refusal.place), (Refusal::NO_FRAME, 0));
+    let channel = file.channel(0, 1).unwrap();
+    let mut out = [7; 4];
+    assert_eq!(channel.samples(1, &mut out), Ok(3));
+    assert_eq!(out, [1, 1, 2, 7]);
+    assert_eq!(channel.samples(0, &mut []), Ok(0));
+    let refusal = channel.samples(4, &mut out).unwrap_err();
+    assert_eq!((refusal.number, out), (Refusal::NO_SAMPLE, [1, 1, 2, 7]));
+}
+
+/// As many frames as a file may have, of as many channels: the file is not gone through for each.
+#[test]
+fn the_most_frames_and_channels_are_read_at_once() {
+    let mut octets = vec![0x05, 2, 1, 0, 0x0A, 1, 3];
+    octets.extend([0x1E, 0].repeat(4096));
+    let mut channels = 0;
+    for frame in File::new(&octets).frames().unwrap() {
+        for channel in frame.unwrap().channels() {
+            let channel = channel.unwrap();
+            assert_eq!(channel.below(), u64::from(channel.number()));
+            assert_eq!(channel.values().len(), 0);
+            channels += 1;
+        }
+    }
+    assert_eq!(channels, 4096 * 256);
+}
+
+#[test]
+fn threads_can_share_what_is_read() {
+    fn shared<T: Send + Sync>() {}
+    shared::<File>();
+    shared::<Frames>();
+    shared::<Frame>();
+    shared::<Channels>();
+    shared::<Channel>();
+    shared::<Bits>();
+    shared::<Values>();
+    let octets = two_channels(1000);
+    let frame = File::new(&octets).frame(0).unwrap();
+    std::thread::scope(|scope| {
+        for channel in frame.channels() {
+            scope.spawn(move || assert!(channel.unwrap().values().all(|value| value.is_ok())));
+        }
+    });
+}
+
+#[test]
+fn what_is_debugged_is_short() {
+    let octets = two_channels(1000);
+    let frame = File::new(&octets).frame(0).unwrap();
+    let says = format!("{frame:?}");
+    assert!(says.starts_with("Frame { file: File { octets: 4018 }, walk: Walk { .. }, number: 0"));
+    assert!(says.len() < 300, "{says}");
 }
 
 #[test]
@@ -217,7 +329,6 @@ fn a_refused_file_answers_its_refusal_to_every_question() {
     assert_eq!(file.frames().err(), Some(refusal));
     assert_eq!(file.frame(0).err(), Some(refusal));
     assert_eq!(file.channel(0, 0).err(), Some(refusal));
-    assert_eq!(Recording::of(&file).err(), Some(refusal));
 }
 
 /// The header promises it.
@@ -231,6 +342,7 @@ fn a_call_needs_less_than_256_kib_of_stack() {
         assert!(file.sample(0, 1, 1999).is_ok());
         assert_eq!(file.samples(0, 1, 0, &mut [0; 10]), Ok(10));
         assert!(file.canonical_vec().is_ok());
+        assert_eq!(file.channel(0, 1).unwrap().bits().count(), 2000);
     };
     let thread = std::thread::Builder::new().stack_size(256 * 1024);
     thread.spawn(questions).unwrap().join().unwrap();

@@ -1,5 +1,5 @@
 //! The questions a file can be asked: the check with its frame count, the attributes of a channel
-//! in a frame, the place and value of a sample, and samples in bulk.
+//! in a frame, the place and value of a sample, samples in bulk, and all frames in order.
 
 use crate::items::bits;
 use crate::scan::{scan, Frame};
@@ -99,20 +99,7 @@ pub fn check(octets: &[u8]) -> Result<u32, Refusal> {
 
 /// The attributes of a channel in a frame.
 pub fn attributes(octets: &[u8], frame: u32, channel: u32) -> Result<Attributes, Refusal> {
-    let Series { frame, record, .. } = series(octets, frame, channel)?;
-    Ok(Attributes {
-        start: frame.start,
-        channels: frame.channels,
-        sequences: frame.sequences,
-        block: record.block,
-        class: record.class,
-        lead: record.lead,
-        data_type: record.data_type,
-        interval: record.interval,
-        resolution: record.resolution,
-        offset: record.offset.bits,
-        null: record.null(),
-    })
+    Ok(series(octets, frame, channel)?.attributes())
 }
 
 /// The place and value of a sample.
@@ -142,30 +129,95 @@ pub fn samples(
     first: u64,
     out: &mut [u64],
 ) -> Result<usize, Refusal> {
-    let series = series(octets, frame, channel)?;
-    if first >= series.samples() {
-        return Err(Refusal::without_place(Refusal::NO_SAMPLE));
-    }
-    Ok(match (series.record.width(), series.frame.little) {
-        (1, _) => series.gather(first, out, |[octet]| octet.into()),
-        (2, false) => series.gather(first, out, |octets| u16::from_be_bytes(octets).into()),
-        (2, true) => series.gather(first, out, |octets| u16::from_le_bytes(octets).into()),
-        (4, false) => series.gather(first, out, |octets| u32::from_be_bytes(octets).into()),
-        (4, true) => series.gather(first, out, |octets| u32::from_le_bytes(octets).into()),
-        (_, false) => series.gather(first, out, u64::from_be_bytes),
-        (_, true) => series.gather(first, out, u64::from_le_bytes),
+    series(octets, frame, channel)?.read(first, out)
+}
+
+/// What is told of a frame besides its channels.
+#[derive(Clone, Copy, PartialEq, Eq, Debug)]
+pub struct Met {
+    pub start: i32,
+    pub sequences: u32,
+    pub little: bool,
+    /// Place and length of the waveform, its surplus included.
+    pub place: u64,
+    pub length: u64,
+    /// Octets of one sequence over all channels.
+    pub sequence_octets: u64,
+}
+
+/// Checks the file and counts its frames. Each is shown to `visit` with its channels; it may be shown
+/// before a later item refuses the file.
+pub fn frames(octets: &[u8], mut visit: impl FnMut(Met, &[Series])) -> Result<u32, Refusal> {
+    scan(octets, |standing, frame| {
+        let mut lower = 0;
+        let series = standing.records(frame.channels).map(|record| {
+            let series = Series {
+                frame: *frame,
+                record: *record,
+                lower,
+            };
+            lower += record.block_octets();
+            series
+        });
+        let series: Vec<Series> = series.collect();
+        let met = Met {
+            start: frame.start,
+            sequences: frame.sequences,
+            little: frame.little,
+            place: frame.place as u64,
+            length: frame.length as u64,
+            sequence_octets: frame.sequence_octets,
+        };
+        visit(met, &series);
     })
 }
 
 /// The samples of one channel in one frame, and where they lie.
-struct Series<'a> {
+pub struct Series<'a> {
     frame: Frame<'a>,
     record: Record,
-    /// Block octets of all lower channels.
     lower: u64,
 }
 
 impl Series<'_> {
+    pub fn attributes(&self) -> Attributes {
+        let Series { frame, record, .. } = self;
+        Attributes {
+            start: frame.start,
+            channels: frame.channels,
+            sequences: frame.sequences,
+            block: record.block,
+            class: record.class,
+            lead: record.lead,
+            data_type: record.data_type,
+            interval: record.interval,
+            resolution: record.resolution,
+            offset: record.offset.bits,
+            null: record.null(),
+        }
+    }
+
+    /// Block octets of all lower channels.
+    pub fn lower(&self) -> u64 {
+        self.lower
+    }
+
+    /// Fills `out` as [`samples`] does.
+    pub fn read(&self, first: u64, out: &mut [u64]) -> Result<usize, Refusal> {
+        if first >= self.samples() {
+            return Err(Refusal::without_place(Refusal::NO_SAMPLE));
+        }
+        Ok(match (self.record.width(), self.frame.little) {
+            (1, _) => self.gather(first, out, |[octet]| octet.into()),
+            (2, false) => self.gather(first, out, |octets| u16::from_be_bytes(octets).into()),
+            (2, true) => self.gather(first, out, |octets| u16::from_le_bytes(octets).into()),
+            (4, false) => self.gather(first, out, |octets| u32::from_be_bytes(octets).into()),
+            (4, true) => self.gather(first, out, |octets| u32::from_le_bytes(octets).into()),
+            (_, false) => self.gather(first, out, u64::from_be_bytes),
+            (_, true) => self.gather(first, out, u64::from_le_bytes),
+        })
+    }
+
     fn samples(&self) -> u64 {
         u64::from(self.frame.sequences) * u64::from(self.record.block)
     }

@@ -19,6 +19,8 @@ pub(crate) struct Frame<'a> {
     pub sequence_octets: u64,
     /// Offset of the waveform's first octet in the file.
     pub place: usize,
+    /// Octets of the waveform, its surplus among them.
+    pub length: usize,
     /// The waveform without its surplus.
     pub waveform: &'a [u8],
 }
@@ -170,6 +172,7 @@ impl Standing {
             little: self.little,
             sequence_octets,
             place: item.value,
+            length: item.end - item.value,
             waveform: &octets[item.value..item.value + used as usize],
         };
         self.frames += 1;
