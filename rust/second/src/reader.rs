@@ -1,5 +1,5 @@
 //! The questions a file can be asked: the check with its frame count, the attributes of a channel
-//! in a frame, the place and value of a sample, and samples in bulk.
+//! in a frame, the place and value of a sample, samples in bulk, and every channel in turn.
 
 use crate::items::bits;
 use crate::scan::{scan, Frame};
@@ -99,20 +99,7 @@ pub fn check(octets: &[u8]) -> Result<u32, Refusal> {
 
 /// The attributes of a channel in a frame.
 pub fn attributes(octets: &[u8], frame: u32, channel: u32) -> Result<Attributes, Refusal> {
-    let Series { frame, record, .. } = series(octets, frame, channel)?;
-    Ok(Attributes {
-        start: frame.start,
-        channels: frame.channels,
-        sequences: frame.sequences,
-        block: record.block,
-        class: record.class,
-        lead: record.lead,
-        data_type: record.data_type,
-        interval: record.interval,
-        resolution: record.resolution,
-        offset: record.offset.bits,
-        null: record.null(),
-    })
+    Ok(series(octets, frame, channel)?.attributes())
 }
 
 /// The place and value of a sample.
@@ -146,14 +133,32 @@ pub fn samples(
     if first >= series.samples() {
         return Err(Refusal::without_place(Refusal::NO_SAMPLE));
     }
-    Ok(match (series.record.width(), series.frame.little) {
-        (1, _) => series.gather(first, out, |[octet]| octet.into()),
-        (2, false) => series.gather(first, out, |octets| u16::from_be_bytes(octets).into()),
-        (2, true) => series.gather(first, out, |octets| u16::from_le_bytes(octets).into()),
-        (4, false) => series.gather(first, out, |octets| u32::from_be_bytes(octets).into()),
-        (4, true) => series.gather(first, out, |octets| u32::from_le_bytes(octets).into()),
-        (_, false) => series.gather(first, out, u64::from_be_bytes),
-        (_, true) => series.gather(first, out, u64::from_le_bytes),
+    Ok(series.read(first, out))
+}
+
+/// Shows `visit` every channel of every frame in turn, in one pass: its attributes and the bits of its
+/// samples, which `out` holds meanwhile, as many as fit. Answers the number of frames. A channel may be
+/// shown before a later item refuses the file.
+pub fn each_channel(
+    octets: &[u8],
+    out: &mut [u64],
+    mut visit: impl FnMut(&Attributes, &[u64]),
+) -> Result<u32, Refusal> {
+    scan(octets, |standing, frame| {
+        let mut lower = 0;
+        for record in standing.records(frame.channels) {
+            let series = Series {
+                frame: *frame,
+                record: *record,
+                lower,
+            };
+            let filled = match series.samples() {
+                0 => 0,
+                _ => series.read(0, out),
+            };
+            visit(&series.attributes(), &out[..filled]);
+            lower += record.block_octets();
+        }
     })
 }
 
@@ -166,6 +171,23 @@ struct Series<'a> {
 }
 
 impl Series<'_> {
+    fn attributes(&self) -> Attributes {
+        let Series { frame, record, .. } = self;
+        Attributes {
+            start: frame.start,
+            channels: frame.channels,
+            sequences: frame.sequences,
+            block: record.block,
+            class: record.class,
+            lead: record.lead,
+            data_type: record.data_type,
+            interval: record.interval,
+            resolution: record.resolution,
+            offset: record.offset.bits,
+            null: record.null(),
+        }
+    }
+
     fn samples(&self) -> u64 {
         u64::from(self.frame.sequences) * u64::from(self.record.block)
     }
@@ -178,7 +200,21 @@ impl Series<'_> {
         (sequence + self.lower + in_block) as usize
     }
 
-    /// Copies samples from `first` on, which is below their number, and answers how many.
+    /// The bits of samples from `first` on, which is below their number, at the front of `out`; answers
+    /// how many.
+    fn read(&self, first: u64, out: &mut [u64]) -> usize {
+        match (self.record.width(), self.frame.little) {
+            (1, _) => self.gather(first, out, |[octet]| octet.into()),
+            (2, false) => self.gather(first, out, |octets| u16::from_be_bytes(octets).into()),
+            (2, true) => self.gather(first, out, |octets| u16::from_le_bytes(octets).into()),
+            (4, false) => self.gather(first, out, |octets| u32::from_be_bytes(octets).into()),
+            (4, true) => self.gather(first, out, |octets| u32::from_le_bytes(octets).into()),
+            (_, false) => self.gather(first, out, u64::from_be_bytes),
+            (_, true) => self.gather(first, out, u64::from_le_bytes),
+        }
+    }
+
+    /// The same of samples of `W` octets.
     #[inline]
     fn gather<const W: usize>(
         &self,
