@@ -59,8 +59,8 @@ pub fn set_once_and_root(channels: u32, sequences: usize) -> Vec<u8> {
     })
 }
 
-/// So many sequences of each of as many frames as there may be come to the octets of a big frame, or
-/// to a few more.
+/// The fewest sequences of a frame with which as many frames as there may be come to the octets of a
+/// big frame.
 pub fn sequences(channels: u32) -> usize {
     WAVEFORM.div_ceil(FRAMES as usize * 2 * channels as usize)
 }

@@ -1,5 +1,5 @@
-//! Holds the proved library to the second program and to `memcpy`, in one run: times and counted
-//! instructions.
+//! Holds the proved library to the second program, to `memcpy` and to a loop in C, in one run: times and
+//! counted instructions.
 //!
 //! Two programs take turns, so that what slows the machine slows both. A ratio is the median over all
 //! rounds of the proved library's time to the other's in the same round.
@@ -428,6 +428,10 @@ fn values(course: &mut Course) {
     const COUNT: usize = files::WAVEFORM / (2 * CHANNELS);
     let file = files::eight_channels();
     let waveform = &file[file.len() - files::WAVEFORM..];
+    let (mut kinds, mut wholes, mut widened) = (vec![1; COUNT], vec![0; COUNT], vec![0; COUNT]);
+    native::values(&file, 0, 1, &mut kinds, &mut wholes);
+    native::widened(&waveform[2..], 2 * CHANNELS, &mut widened);
+    assert!(wholes == widened && kinds.iter().all(|kind| *kind == 0));
     course.with_buffers(
         row,
         || (vec![0u8; COUNT], vec![0i64; COUNT]),
