@@ -356,25 +356,24 @@ fn samples(course: &mut Course) {
 
 /// All samples of all channels of as many frames as there may be.
 fn walks(course: &mut Course) {
-    let files: [(_, fn(u32, usize) -> Vec<u8>, u32); 3] = [
-        ("walk: 4,096 frames of 12 channels", files::set_once, 12),
-        (
-            "walk: 4,096 frames of 256 channels",
-            files::set_once,
-            files::CHANNELS,
-        ),
+    let files = [
+        ("walk: 4,096 frames of 12 channels", 12, false),
+        ("walk: 4,096 frames of 256 channels", files::CHANNELS, false),
         (
             "walk: the same after root definitions",
-            files::set_once_and_root,
             files::CHANNELS,
+            true,
         ),
     ];
-    for (what, build, channels) in files {
+    for (what, channels, after_root) in files {
         let Some(row) = course.row(what, Against::Second, Some(SECOND)) else {
             continue;
         };
         let sequences = files::sequences(channels);
-        let file = build(channels, sequences);
+        let file = match after_root {
+            true => files::set_once_and_root(channels, sequences),
+            false => files::set_once(channels, sequences),
+        };
         let sum = parsed(&file, &mut vec![0; sequences]);
         course.with_buffers(
             row,
