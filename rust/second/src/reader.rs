@@ -202,6 +202,7 @@ impl Series<'_> {
 
     /// The bits of samples from `first` on, which is below their number, at the front of `out`; answers
     /// how many.
+    #[inline]
     fn read(&self, first: u64, out: &mut [u64]) -> usize {
         match (self.record.width(), self.frame.little) {
             (1, _) => self.gather(first, out, |[octet]| octet.into()),
