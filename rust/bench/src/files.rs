@@ -46,6 +46,46 @@ pub fn many_frames() -> Vec<u8> {
     file.expect("an accepted file")
 }
 
+/// As many frames as there may be, of channels that groups set once in all eight attributes, with so
+/// many sequences of one sample of two octets.
+pub fn set_once(channels: u32, sequences: usize) -> Vec<u8> {
+    set_channels(channels, sequences, |_| Vec::new())
+}
+
+/// The same, with a root definition before each frame.
+pub fn set_once_and_root(channels: u32, sequences: usize) -> Vec<u8> {
+    set_channels(channels, sequences, |frame| {
+        vec![0x08, 1, 1 + (frame % 2) as u8]
+    })
+}
+
+/// The fewest sequences of a frame with which as many frames as there may be come to the octets of a
+/// big frame.
+pub fn sequences(channels: u32) -> usize {
+    WAVEFORM.div_ceil(FRAMES as usize * 2 * channels as usize)
+}
+
+fn set_channels(channels: u32, sequences: usize, before: impl Fn(u32) -> Vec<u8>) -> Vec<u8> {
+    let mut file = vec![0x05, 2];
+    file.extend((channels as u16).to_be_bytes());
+    for channel in 0..channels {
+        group(&mut file, channel, &ATTRIBUTES);
+    }
+    for frame in 0..FRAMES {
+        file.extend(before(frame));
+        waveform(&mut file, 2 * channels as usize * sequences);
+    }
+    file
+}
+
+/// One frame of eight channels of two octets, big-endian, with blocks of one sample.
+#[cfg(feature = "values")]
+pub fn eight_channels() -> Vec<u8> {
+    let mut file = vec![0x05, 1, 8];
+    waveform(&mut file, WAVEFORM);
+    file
+}
+
 /// Items that are stepped over, of a few octets each.
 pub fn unknown_items(count: usize) -> Vec<u8> {
     let items: [&[u8]; 4] = [
@@ -113,14 +153,20 @@ pub fn count_and_group() -> Vec<u8> {
 pub fn wide_frames() -> Vec<u8> {
     let mut file = vec![0x05, 2, 1, 0];
     for channel in 0..CHANNELS {
-        let number = [0x80 | (channel >> 7) as u8, (channel & 0x7F) as u8];
-        file.extend([0x3F, number[0], number[1], 3, 0x0A, 1, 3]);
+        group(&mut file, channel, &[0x0A, 1, 3]);
     }
     for frame in 0..FRAMES {
         file.extend([0x04, 1, 1 + (frame % 2) as u8]);
         waveform(&mut file, 2 * CHANNELS as usize);
     }
     file
+}
+
+/// A group of a channel, whose number takes two octets.
+fn group(file: &mut Vec<u8>, channel: u32, items: &[u8]) {
+    let number = [0x80 | (channel >> 7) as u8, (channel & 0x7F) as u8];
+    file.extend([0x3F, number[0], number[1], items.len() as u8]);
+    file.extend(items);
 }
 
 fn repeated(items: &[&[u8]], count: usize) -> Vec<u8> {

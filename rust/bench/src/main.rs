@@ -1,17 +1,19 @@
-//! Holds the proved library to the second program and to `memcpy`, in one run: times and counted
-//! instructions.
+//! Holds the proved library to the second program, to `memcpy` and to a loop in C, in one run: times and
+//! counted instructions.
 //!
 //! Two programs take turns, so that what slows the machine slows both. A ratio is the median over all
 //! rounds of the proved library's time to the other's in the same round.
-#![forbid(unsafe_code)]
+#![deny(unsafe_code)]
 
 mod count;
 mod files;
+mod native;
 mod race;
 
 use count::Once;
 use files::Order;
 use mfer::ffi;
+use native::Walk;
 use race::{Against, Course};
 use second::{reader, writer};
 use std::env;
@@ -28,15 +30,23 @@ const LITTLE_ENDIAN: f64 = 1.5;
 const STEPPED: f64 = 10.0;
 /// A waveform costs at most so many nanoseconds a channel.
 const NANOSECONDS: f64 = 10.0;
+/// The canonical form of many short frames, of one channel and of twelve: at most so many times the
+/// second program's time and instructions. The goal is `SECOND`.
+const SHORT_OF_ONE: f64 = 5.0;
+const SHORT_OF_TWELVE: f64 = 2.0;
+/// Values cost at most so many times a plain loop in C.
+#[cfg(feature = "values")]
+const LOOP: f64 = 2.0;
 
 /// Builds a file, only where its row is run.
 type Build = fn() -> Vec<u8>;
 
 const USAGE: &str = "\
-usage: bench [--rounds N] [--fresh] [--no-count]
+usage: bench [--rounds N] [--fresh] [--no-count] [--only WORDS]
   --rounds N  turns of each pair (default 41)
   --fresh     a new zeroed output buffer for every timing, instead of one that was written before
   --no-count  times alone; without it, instructions are counted where valgrind is there
+  --only WORDS  rows alone whose names begin with them
 or: bench --once ROW proved|other N
   N calls of one side of one row, as they are counted; the table's rows are numbered from 1";
 
@@ -54,6 +64,10 @@ fn main() -> ExitCode {
             "--rounds" => match words.next().and_then(|word| word.parse().ok()) {
                 Some(rounds) if rounds > 0 => course.rounds = rounds,
                 _ => return usage(),
+            },
+            "--only" => match words.next() {
+                Some(words) => course.only = words,
+                None => return usage(),
             },
             "--once" => match Once::of(&mut words) {
                 Some(once) => course.once = Some(once),
@@ -110,7 +124,11 @@ fn run(course: &mut Course) {
     checks(course);
     hostile_checks(course);
     canonicals(course);
+    short_canonicals(course);
     samples(course);
+    walks(course);
+    #[cfg(feature = "values")]
+    values(course);
 }
 
 fn checks(course: &mut Course) {
@@ -245,6 +263,34 @@ fn canonicals(course: &mut Course) {
     }
 }
 
+/// Canonical files of as many frames as there may be, of one sequence.
+fn short_canonicals(course: &mut Course) {
+    for (what, channels, bar) in [
+        ("canonical: 4,096 frames of 1 channel", 1, SHORT_OF_ONE),
+        (
+            "canonical: 4,096 frames of 12 channels",
+            12,
+            SHORT_OF_TWELVE,
+        ),
+    ] {
+        let Some(row) = course.row(what, Against::Second, Some(bar)) else {
+            continue;
+        };
+        let file = files::set_once(channels, 1);
+        let written = mfer::File::new(&file).canonical_vec();
+        let length = written.expect("an accepted file").len();
+        course.with_buffers(
+            row,
+            || vec![0; length],
+            |out| {
+                let filled = ffi::canonical(black_box(&file), out);
+                assert_eq!((filled.number, filled.count), (0, length as u64));
+            },
+            |out| assert_eq!(writer::canonical(black_box(&file), out), Ok(length)),
+        );
+    }
+}
+
 fn samples(course: &mut Course) {
     let files: [(_, Build, u32); 4] = [
         (
@@ -306,4 +352,100 @@ fn samples(course: &mut Course) {
             },
         );
     }
+}
+
+/// All samples of all channels of as many frames as there may be.
+fn walks(course: &mut Course) {
+    let files = [
+        ("walk: 4,096 frames of 12 channels", 12, false),
+        ("walk: 4,096 frames of 256 channels", files::CHANNELS, false),
+        (
+            "walk: the same after root definitions",
+            files::CHANNELS,
+            true,
+        ),
+    ];
+    for (what, channels, after_root) in files {
+        let Some(row) = course.row(what, Against::Second, Some(SECOND)) else {
+            continue;
+        };
+        let sequences = files::sequences(channels);
+        let file = match after_root {
+            true => files::set_once_and_root(channels, sequences),
+            false => files::set_once(channels, sequences),
+        };
+        let sum = parsed(&file, &mut vec![0; sequences]);
+        course.with_buffers(
+            row,
+            || vec![0; sequences],
+            |out| assert_eq!(walked(black_box(&file), out), sum),
+            |out| assert_eq!(parsed(black_box(&file), out), sum),
+        );
+    }
+}
+
+/// The sum of all samples of an accepted file, by the library's walk; each channel's attributes are
+/// asked for too.
+fn walked(file: &[u8], out: &mut [u64]) -> u64 {
+    let mut walk = Walk::open(file).expect("an accepted file");
+    let mut sum = 0;
+    while let Some(channels) = walk.next() {
+        for channel in 0..channels {
+            black_box(walk.channel(channel));
+            let count = walk.samples(channel, out);
+            sum = summed(sum, &out[..count]);
+        }
+    }
+    sum
+}
+
+/// The same by the second program.
+fn parsed(file: &[u8], out: &mut [u64]) -> u64 {
+    let mut sum = 0;
+    let frames = reader::each_channel(file, out, |attributes, bits| {
+        black_box(attributes);
+        sum = summed(sum, bits);
+    });
+    assert!(frames.is_ok());
+    sum
+}
+
+#[inline(never)]
+fn summed(sum: u64, bits: &[u64]) -> u64 {
+    bits.iter().fold(sum, |sum, bits| sum.wrapping_add(*bits))
+}
+
+/// The values of eight channels, each sample of which lies between those of the others, beside a loop
+/// that knows where they lie and what they are.
+#[cfg(feature = "values")]
+fn values(course: &mut Course) {
+    let what = "values: 8 channels, blocks of 1";
+    let Some(row) = course.row(what, Against::Loop, Some(LOOP)) else {
+        return;
+    };
+    const CHANNELS: usize = 8;
+    const COUNT: usize = files::WAVEFORM / (2 * CHANNELS);
+    let file = files::eight_channels();
+    let waveform = &file[file.len() - files::WAVEFORM..];
+    let (mut kinds, mut wholes, mut widened) = (vec![1; COUNT], vec![0; COUNT], vec![0; COUNT]);
+    native::values(&file, 0, 1, &mut kinds, &mut wholes);
+    native::widened(&waveform[2..], 2 * CHANNELS, &mut widened);
+    assert!(wholes == widened && kinds.iter().all(|kind| *kind == 0));
+    course.with_buffers(
+        row,
+        || (vec![0u8; COUNT], vec![0i64; COUNT]),
+        |(kinds, wholes)| {
+            for channel in 0..CHANNELS as u32 {
+                let count = native::values(black_box(&file), 0, channel, kinds, wholes);
+                assert_eq!(count, COUNT);
+                black_box((&kinds, &wholes));
+            }
+        },
+        |(_, wholes)| {
+            for channel in 0..CHANNELS {
+                native::widened(&black_box(waveform)[2 * channel..], 2 * CHANNELS, wholes);
+                black_box(&wholes);
+            }
+        },
+    );
 }

@@ -1,9 +1,10 @@
 //! Two programs that take turns.
 
 use crate::count::{self, Once};
+use crate::native::processor_time;
 use std::fmt;
 use std::hint::black_box;
-use std::time::{Duration, Instant};
+use std::time::Duration;
 
 /// A timing is of so many calls that it is at least so long.
 const LEAST: Duration = Duration::from_millis(2);
@@ -20,6 +21,8 @@ pub struct Course {
     pub counted: bool,
     /// One side of one row instead of the table.
     pub once: Option<Once>,
+    /// Only rows whose names begin so.
+    pub only: String,
     pub rows: u32,
     pub bars: u32,
     pub missed: u32,
@@ -37,6 +40,7 @@ impl Course {
         };
         match &self.once {
             Some(once) if once.row != row.number || !against.is_counted() => None,
+            None if !what.starts_with(&self.only) => None,
             _ => Some(row),
         }
     }
@@ -151,12 +155,13 @@ fn calls<T>(run: &mut impl FnMut() -> T) -> u32 {
     calls
 }
 
+/// The processor's time, which does not run while another program does.
 fn time<T>(calls: u32, run: &mut impl FnMut() -> T) -> Duration {
-    let started = Instant::now();
+    let started = processor_time();
     for _ in 0..calls {
         black_box(run());
     }
-    started.elapsed()
+    processor_time() - started
 }
 
 fn median(mut numbers: Vec<f64>) -> f64 {
@@ -189,6 +194,9 @@ pub enum Against {
     /// As many items that are stepped over.
     Stepped,
     Nanosecond,
+    /// A plain loop in C.
+    #[cfg(feature = "values")]
+    Loop,
 }
 
 impl Against {
@@ -199,6 +207,8 @@ impl Against {
             Against::Itself => "itself",
             Against::Stepped => "stepped",
             Against::Nanosecond => "1 ns",
+            #[cfg(feature = "values")]
+            Against::Loop => "loop",
         }
     }
 

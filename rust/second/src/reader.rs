@@ -1,8 +1,9 @@
 //! The questions a file can be asked: the check with its frame count, the attributes of a channel
-//! in a frame, the place and value of a sample, samples in bulk, and all frames in order.
+//! in a frame, the place and value of a sample, samples in bulk, all frames in order, and every channel
+//! in turn.
 
 use crate::items::bits;
-use crate::scan::{scan, Frame};
+use crate::scan::{scan, Frame, Standing};
 use crate::settings::Record;
 
 /// Why there is no answer, and the offset of the item's tag (0 for 15 and from 20 up).
@@ -149,17 +150,7 @@ pub struct Met {
 /// before a later item refuses the file.
 pub fn frames(octets: &[u8], mut visit: impl FnMut(Met, &[Series])) -> Result<u32, Refusal> {
     scan(octets, |standing, frame| {
-        let mut lower = 0;
-        let series = standing.records(frame.channels).map(|record| {
-            let series = Series {
-                frame: *frame,
-                record: *record,
-                lower,
-            };
-            lower += record.block_octets();
-            series
-        });
-        let series: Vec<Series> = series.collect();
+        let series: Vec<Series> = channels(standing, frame).collect();
         let met = Met {
             start: frame.start,
             sequences: frame.sequences,
@@ -169,6 +160,40 @@ pub fn frames(octets: &[u8], mut visit: impl FnMut(Met, &[Series])) -> Result<u3
             sequence_octets: frame.sequence_octets,
         };
         visit(met, &series);
+    })
+}
+
+/// Shows `visit` every channel of every frame in turn, in one pass: its attributes and the bits of its
+/// samples, which `out` holds meanwhile, as many as fit. Answers the number of frames. A channel may be
+/// shown before a later item refuses the file.
+pub fn each_channel(
+    octets: &[u8],
+    out: &mut [u64],
+    mut visit: impl FnMut(&Attributes, &[u64]),
+) -> Result<u32, Refusal> {
+    scan(octets, |standing, frame| {
+        for series in channels(standing, frame) {
+            let filled = match series.samples() {
+                0 => 0,
+                _ => series.fill(0, out),
+            };
+            visit(&series.attributes(), &out[..filled]);
+        }
+    })
+}
+
+/// The channels of a frame in order.
+#[inline]
+fn channels<'a>(standing: &'a Standing, frame: &'a Frame) -> impl Iterator<Item = Series<'a>> {
+    let mut lower = 0;
+    standing.records(frame.channels).map(move |record| {
+        let series = Series {
+            frame: *frame,
+            record: *record,
+            lower,
+        };
+        lower += record.block_octets();
+        series
     })
 }
 
@@ -207,15 +232,7 @@ impl Series<'_> {
         if first >= self.samples() {
             return Err(Refusal::without_place(Refusal::NO_SAMPLE));
         }
-        Ok(match (self.record.width(), self.frame.little) {
-            (1, _) => self.gather(first, out, |[octet]| octet.into()),
-            (2, false) => self.gather(first, out, |octets| u16::from_be_bytes(octets).into()),
-            (2, true) => self.gather(first, out, |octets| u16::from_le_bytes(octets).into()),
-            (4, false) => self.gather(first, out, |octets| u32::from_be_bytes(octets).into()),
-            (4, true) => self.gather(first, out, |octets| u32::from_le_bytes(octets).into()),
-            (_, false) => self.gather(first, out, u64::from_be_bytes),
-            (_, true) => self.gather(first, out, u64::from_le_bytes),
-        })
+        Ok(self.fill(first, out))
     }
 
     fn samples(&self) -> u64 {
@@ -230,7 +247,22 @@ impl Series<'_> {
         (sequence + self.lower + in_block) as usize
     }
 
-    /// Copies samples from `first` on, which is below their number, and answers how many.
+    /// The bits of samples from `first` on, which is below their number, at the front of `out`; answers
+    /// how many.
+    #[inline]
+    fn fill(&self, first: u64, out: &mut [u64]) -> usize {
+        match (self.record.width(), self.frame.little) {
+            (1, _) => self.gather(first, out, |[octet]| octet.into()),
+            (2, false) => self.gather(first, out, |octets| u16::from_be_bytes(octets).into()),
+            (2, true) => self.gather(first, out, |octets| u16::from_le_bytes(octets).into()),
+            (4, false) => self.gather(first, out, |octets| u32::from_be_bytes(octets).into()),
+            (4, true) => self.gather(first, out, |octets| u32::from_le_bytes(octets).into()),
+            (_, false) => self.gather(first, out, u64::from_be_bytes),
+            (_, true) => self.gather(first, out, u64::from_le_bytes),
+        }
+    }
+
+    /// The same of samples of `W` octets.
     #[inline]
     fn gather<const W: usize>(
         &self,

@@ -4,7 +4,7 @@ mod common;
 
 use common::canonical;
 use second::generator::{faulty_file, file, good_file};
-use second::reader::{attributes, check, sample, samples, Refusal, Value};
+use second::reader::{attributes, check, each_channel, sample, samples, Refusal, Value};
 use second::shrink::hex;
 use second::writer;
 use std::collections::BTreeSet;
@@ -172,6 +172,32 @@ fn bulk_reading_agrees_with_single_samples() {
                 assert_eq!(three[..filled], bits[first..first + filled]);
             }
         }
+    }
+}
+
+#[test]
+fn one_pass_over_all_channels_agrees_with_questions() {
+    for seed in 0..2000 {
+        let file = file(seed);
+        if file.len() > 1000 {
+            continue;
+        }
+        let mut shown = Vec::new();
+        let mut buffer = [0; 1000];
+        let frames = each_channel(&file, &mut buffer, |read, bits| {
+            shown.push((*read, bits.to_vec()));
+        });
+        assert_eq!(frames, check(&file));
+        let mut shown = shown.into_iter();
+        for frame in 0..frames.unwrap_or(0) {
+            let channels = attributes(&file, frame, 0).unwrap().channels;
+            for channel in 0..channels {
+                let read = attributes(&file, frame, channel).unwrap();
+                let bits = all_samples(&file, frame, channel);
+                assert_eq!(shown.next(), Some((read, bits)), "seed {seed}");
+            }
+        }
+        assert!(frames.is_err() || shown.next().is_none(), "seed {seed}");
     }
 }
 
