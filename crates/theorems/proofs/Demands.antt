@@ -17,12 +17,12 @@ use Rattle.standing.specs.Standing.{octetsLimit}
 use Rattle.verdict.specs.Verdict.{accepted, refused, verdict, checkOf}
 use Rattle.reader.specs.Answer.{attributesIn, attributesOf, sampleIn, sampleOf, seenOf, foundPlace, placedOf}
 use Rattle.view.specs.View.{viewOf}
-use Rattle.bulk.specs.Samples.{readOf}
+use Rattle.bulk.specs.Samples.{readOf, valuesOf}
 use Rattle.canonical.specs.Canonical.{canonical}
 use Rattle.canonical.specs.Write.{recordingOf, Wrote}
 use Rattle.mfer.specs.Answers.{outputs, CanonicalOut}
 use Rattle.reader.proofs.Ordered.{endOf}
-use Rattle.theorems.proofs.Questions.{frameNumber, ByChannel, BySample, check-accepted, check-refused, accepted-or-refused, limit-exactly, limit-place, attributes-answered, channel-answered, sample-answered, place-answered, bitsRead, samples-answered, same-place}
+use Rattle.theorems.proofs.Questions.{frameNumber, ByChannel, BySample, check-accepted, check-refused, accepted-or-refused, limit-exactly, limit-place, attributes-answered, channel-answered, sample-answered, place-answered, bitsRead, valuesRead, samples-answered, values-answered, same-place}
 use Rattle.theorems.proofs.Places.{Name, Exists, NamedSample, Belongs, InWaveform, Owned, sample-exists, sample-inside, samples-apart, octet-owned}
 use Rattle.theorems.proofs.Waveforms.{PartOfFile, waveform-part, waveforms-apart}
 use Rattle.theorems.proofs.EntryPoints.{AnsweredBy, HandedOut, BuffersKept, refused-answers, handed-out, buffers-kept}
@@ -53,6 +53,7 @@ pub record DemandOne (s : List ℕ) : Type 0 where
   pub sample : (fs : List Frame) → verdict s ≡ accepted fs → (i c n : ℕ) → BySample (sampleOf s i c n) (sampleIn c n) fs i c n
   pub place : (fs : List Frame) → verdict s ≡ accepted fs → (i c n : ℕ) → BySample (placedOf s i c n) (λ f. foundPlace (placeOf c n f) (viewOf c f)) fs i c n
   pub samples : (fs : List Frame) → verdict s ≡ accepted fs → (i c n room : ℕ) → BySample (readOf s i c n room) (bitsRead c n room) fs i c n
+  pub values : (fs : List Frame) → verdict s ≡ accepted fs → (i c n room : ℕ) → BySample (valuesOf s i c n room) (valuesRead c n room) fs i c n
   pub written : (fs : List Frame) → verdict s ≡ accepted fs → (d : List ℕ) → Writes s d fs
   -- Each function for C hands a refusal out exactly when its question answers it, and all its other outputs are then 0.
   pub handed : HandedOut s
@@ -73,6 +74,7 @@ demand-one s =
       sample = sample-answered s;
       place = place-answered s;
       samples = samples-answered s;
+      values = values-answered s;
       written = λ fs e d. writes s d fs e;
       handed = handed-out s;
       kept = buffers-kept s;
