@@ -45,8 +45,8 @@
  *
  * Every function goes through the items of the file, whatever it asks for: the time grows with the
  * number of items and not with the length of the waveforms, which are stepped over. mfer_canonical
- * goes through them twice and copies the samples. To read many samples, ask mfer_samples once, not
- * mfer_sample many times.
+ * goes through them twice and copies the samples. To read many samples, ask mfer_samples or
+ * mfer_values once, not mfer_sample many times.
  *
  * WHAT IS PROVED
  *
@@ -90,11 +90,22 @@
  *
  * and the same in bulk, 1,000 samples at a time:
  *
- *     uint64_t bits[1000], first = 0, count, place;
- *     while (mfer_samples(file, file_len, 0, 0, first, bits, 1000, &count, &place) == MFER_OK) {
- *         use(bits, count);
- *         first += count;
+ *     int use_first(const uint8_t *file, size_t file_len)
+ *     {
+ *         uint8_t kinds[1000];
+ *         int64_t wholes[1000];
+ *         uint64_t first = 0, count, place;
+ *         uint32_t refusal;
+ *         do {
+ *             refusal = mfer_values(file, file_len, 0, 0, first, kinds, 1000, wholes, 1000, &count, &place);
+ *             use(kinds, wholes, count);
+ *             first += count;
+ *         } while (count != 0);
+ *         return refusal == MFER_OK || refusal == MFER_NO_SAMPLE ? 0 : 1;
  *     }
+ *
+ * The last call has a count of 0: past the last sample it is MFER_NO_SAMPLE, and any other refusal is
+ * the file's, or says that it has no such frame or channel.
  */
 #ifndef MFER_H
 #define MFER_H
@@ -256,7 +267,7 @@ uint32_t mfer_sample(const uint8_t *file, size_t file_len, uint32_t frame, uint3
  * fit in the buffer of `out_len` numbers at `out`. The bits are those of mfer_sample; they carry no
  * sign up and nulls are not marked. What is past *count in the buffer keeps what it held.
  *
- * *count   how many were written; 0 only where out_len is 0
+ * *count   how many were written; with an answer 0 only where out_len is 0
  *
  * Refusals: 1 to 15, MFER_NO_FRAME, MFER_NO_CHANNEL, and MFER_NO_SAMPLE where there is no sample
  * `first`.
@@ -264,6 +275,22 @@ uint32_t mfer_sample(const uint8_t *file, size_t file_len, uint32_t frame, uint3
 uint32_t mfer_samples(const uint8_t *file, size_t file_len, uint32_t frame, uint32_t channel,
                       uint64_t first, uint64_t *out, size_t out_len, uint64_t *count,
                       uint64_t *place);
+
+/*
+ * The values of consecutive samples of a channel, from sample `first` on, each as mfer_sample tells
+ * it: its kind (MFER_WHOLE and so on) in the buffer of `kinds_len` octets at `kinds`, and its number
+ * where it is whole, else 0, in the buffer of `wholes_len` numbers at `wholes`. As many as there are
+ * or as fit in the shorter buffer. What is past *count in a buffer keeps what it held. The bits of a
+ * value that is no whole number are told by mfer_samples.
+ *
+ * *count   how many were written to each buffer; with an answer 0 only where kinds_len or wholes_len is 0
+ *
+ * Refusals: 1 to 15, MFER_NO_FRAME, MFER_NO_CHANNEL, and MFER_NO_SAMPLE where there is no sample
+ * `first`.
+ */
+uint32_t mfer_values(const uint8_t *file, size_t file_len, uint32_t frame, uint32_t channel,
+                     uint64_t first, uint8_t *kinds, size_t kinds_len, int64_t *wholes,
+                     size_t wholes_len, uint64_t *count, uint64_t *place);
 
 /*
  * Writes the canonical file, which has the same recording in one fixed form: big-endian, every

@@ -32,38 +32,36 @@ if compile cxx "$cxx" -std=c++11 -x c++ tests/interface.c; then
     add last_line "$work/cxx"
 fi
 
-# The examples in the header's first comment, on document 01's P2 and P6: the first is a function, the second the body of one.
+# The examples in the header's first comment, on document 01's P2 and P6: two functions.
 comment() {
     sed -n "$1" include/mfer.h | sed 's/^ \* \{0,5\}//'
 }
 {
     comment '/^ \*     #include <inttypes.h>$/,/^ \*     }$/p'
     cat <<'BETWEEN'
-static void use(const uint64_t *bits, uint64_t count)
+int use_first(const uint8_t *file, size_t file_len);
+static void use(const uint8_t *kinds, const int64_t *wholes, uint64_t count)
 {
     uint64_t i;
     for (i = 0; i < count; i++)
-        printf("bits %" PRIu64 "\n", bits[i]);
+        printf("%s %" PRId64 "\n", mfer_kind_name(kinds[i]), wholes[i]);
 }
-static void print_bulk(const uint8_t *file, size_t file_len)
-{
 BETWEEN
-    comment '/^ \*     uint64_t bits\[1000\]/,/^ \*     }$/p'
+    comment '/^ \*     int use_first/,/^ \*     }$/p'
     cat <<'MAIN'
-}
 int main(void)
 {
     static const uint8_t p2[] = {0x01, 0x01, 0x01, 0x04, 0x01, 0x02, 0x05, 0x01, 0x02, 0x3F, 0x01, 0x03,
                                  0x04, 0x01, 0x01, 0x1E, 0x06, 0x01, 0x00, 0x02, 0x00, 0xFF, 0xFF};
     static const uint8_t p6[] = {0x05, 0x01, 0x02, 0x3F, 0x02, 0x00};
-    print_bulk(p2, sizeof p2);
-    return print_first(p2, sizeof p2) != 0 || print_first(p6, sizeof p6) != 1;
+    return use_first(p2, sizeof p2) != 0 || use_first(p6, sizeof p6) != 1 || print_first(p2, sizeof p2) != 0 ||
+           print_first(p6, sizeof p6) != 1;
 }
 MAIN
 } > "$work/example.c"
 if compile example "$cc" -std=c99 "$work/example.c"; then
     says=$("$work/example" 2>"$work/refusal") &&
-        [ "$says" = "$(printf 'bits 1\nbits 2\n1\n2')" ] &&
+        [ "$says" = "$(printf 'whole 1\nwhole 2\n1\n2')" ] &&
         [ "$(cat "$work/refusal")" = 'refused 8 at 3: channel number not below the channel count' ]
     count "the header's examples" $?
 fi

@@ -45,6 +45,20 @@ extern "C" {
         place: *mut u64,
     ) -> u32;
 
+    fn mfer_values(
+        file: *const u8,
+        file_len: usize,
+        frame: u32,
+        channel: u32,
+        first: u64,
+        kinds: *mut u8,
+        kinds_len: usize,
+        wholes: *mut i64,
+        wholes_len: usize,
+        count: *mut u64,
+        place: *mut u64,
+    ) -> u32;
+
     fn mfer_canonical(
         file: *const u8,
         file_len: usize,
@@ -163,7 +177,7 @@ pub fn sample(file: &[u8], frame: u32, channel: u32, number: u64) -> Sampled {
     }
 }
 
-/// What `mfer_samples` and `mfer_canonical` answer, but for the buffer.
+/// What `mfer_samples`, `mfer_values` and `mfer_canonical` answer, but for the buffers.
 #[derive(Clone, Copy, PartialEq, Eq, Debug)]
 pub struct Filled {
     /// The refusal's number, 0 for none.
@@ -187,6 +201,39 @@ pub fn samples(file: &[u8], frame: u32, channel: u32, first: u64, out: &mut [u64
             first,
             out.as_mut_ptr(),
             out.len(),
+            &mut count,
+            &mut place,
+        )
+    };
+    Filled {
+        number,
+        count,
+        place,
+    }
+}
+
+/// Asks `mfer_values`.
+pub fn values(
+    file: &[u8],
+    frame: u32,
+    channel: u32,
+    first: u64,
+    kinds: &mut [u8],
+    wholes: &mut [i64],
+) -> Filled {
+    let (mut count, mut place) = (UNSET, UNSET);
+    // SAFETY: see the module's first lines.
+    let number = unsafe {
+        mfer_values(
+            file.as_ptr(),
+            file.len(),
+            frame,
+            channel,
+            first,
+            kinds.as_mut_ptr(),
+            kinds.len(),
+            wholes.as_mut_ptr(),
+            wholes.len(),
             &mut count,
             &mut place,
         )
