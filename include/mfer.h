@@ -55,16 +55,17 @@
  *
  * A walk over a whole file goes through its items twice, once in mfer_walk_open and once in all calls
  * of mfer_walk_next together, each of which goes from one frame to the next. It looks at each channel
- * of each frame once. mfer_walk_channel and mfer_walk_samples go through no items: the first takes the
- * same short time in any file, and the second the time to copy the samples that it reads.
+ * of each frame once. mfer_walk_channel, mfer_walk_samples and mfer_walk_values go through no items: the
+ * first takes the same short time in any file, and the others the time to copy the samples that they
+ * read.
  *
  * Every other function goes through all items of the file, whatever it asks for: the time grows with
  * the number of items and not with the length of the waveforms, which are stepped over.
  * mfer_canonical goes through them twice and copies the samples. So these functions are for single
  * questions: a loop that asks them for every channel of every frame goes through the file as often as
  * there are channels in all its frames, a million times where there are 4,096 frames of 256 channels.
- * Walk instead. To read many samples of one channel, ask mfer_samples once, not mfer_sample many
- * times.
+ * Walk instead. To read many samples of one channel, ask mfer_samples or mfer_values once, not
+ * mfer_sample many times.
  *
  * WHAT IS PROVED
  *
@@ -283,7 +284,7 @@ uint32_t mfer_sample(const uint8_t *file, size_t file_len, uint32_t frame, uint3
  * fit in the buffer of `out_len` numbers at `out`. The bits are those of mfer_sample; they carry no
  * sign up and nulls are not marked. What is past *count in the buffer keeps what it held.
  *
- * *count   how many were written; 0 only where out_len is 0
+ * *count   how many were written; with an answer 0 only where out_len is 0
  *
  * Refusals: 1 to 15, MFER_NO_FRAME, MFER_NO_CHANNEL, and MFER_NO_SAMPLE where there is no sample
  * `first`.
@@ -293,11 +294,27 @@ uint32_t mfer_samples(const uint8_t *file, size_t file_len, uint32_t frame, uint
                       uint64_t *place);
 
 /*
+ * The values of consecutive samples of a channel, from sample `first` on, each as mfer_sample tells
+ * it: its kind (MFER_WHOLE and so on) in the buffer of `kinds_len` octets at `kinds`, and its number
+ * where it is whole, else 0, in the buffer of `wholes_len` numbers at `wholes`. As many as there are
+ * or as fit in the shorter buffer. What is past *count in a buffer keeps what it held. The bits of a
+ * value that is no whole number are told by mfer_samples.
+ *
+ * *count   how many were written to each buffer; with an answer 0 only where kinds_len or wholes_len is 0
+ *
+ * Refusals: 1 to 15, MFER_NO_FRAME, MFER_NO_CHANNEL, and MFER_NO_SAMPLE where there is no sample
+ * `first`.
+ */
+uint32_t mfer_values(const uint8_t *file, size_t file_len, uint32_t frame, uint32_t channel,
+                     uint64_t first, uint8_t *kinds, size_t kinds_len, int64_t *wholes,
+                     size_t wholes_len, uint64_t *count, uint64_t *place);
+
+/*
  * A walk: the frames of a file one after another, each with its channels and samples.
  *
  * mfer_walk_open checks the file and begins the walk, mfer_walk_next goes to the next frame,
- * mfer_walk_channel and mfer_walk_samples tell of the channels of the frame that the walk is at. The
- * walk is kept in an array of the caller's, `uint64_t walk[MFER_WALK]`, 33,280 octets: nothing has to
+ * mfer_walk_channel, mfer_walk_samples and mfer_walk_values tell of the channels of the frame that the
+ * walk is at. The walk is kept in an array of the caller's, `uint64_t walk[MFER_WALK]`, 33,280 octets: nothing has to
  * be set in it before it is opened, and nothing freed afterwards. It holds numbers and no pointers. A
  * copy of it is a walk of its own that goes on from the same frame, and it may be opened again, for
  * the same file or another.
@@ -375,6 +392,16 @@ uint32_t mfer_walk_channel(const uint64_t walk[MFER_WALK], uint32_t channel,
 uint32_t mfer_walk_samples(const uint8_t *file, size_t file_len, const uint64_t walk[MFER_WALK],
                            uint32_t channel, uint64_t first, uint64_t *out, size_t out_len,
                            uint64_t *count, uint64_t *place);
+
+/*
+ * The values of consecutive samples of a channel in the frame that the walk is at, from sample `first`
+ * on: the buffers and *count are as in mfer_values.
+ *
+ * Refusals: as in mfer_walk_samples.
+ */
+uint32_t mfer_walk_values(const uint8_t *file, size_t file_len, const uint64_t walk[MFER_WALK],
+                          uint32_t channel, uint64_t first, uint8_t *kinds, size_t kinds_len,
+                          int64_t *wholes, size_t wholes_len, uint64_t *count, uint64_t *place);
 
 /*
  * The length of the canonical file, which mfer_canonical writes: the octets that its buffer has to

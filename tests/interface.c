@@ -70,6 +70,30 @@ static void expect_check(const uint8_t *file, size_t file_len, uint32_t number, 
     EXPECT(place_out == place);
 }
 
+/* Both buffers of the values keep what they held, and buffers of no length may be null. */
+static void expect_values_refusal(const uint8_t *file, size_t file_len, uint32_t frame,
+                                  uint32_t channel, uint64_t number, uint32_t refusal,
+                                  uint64_t place)
+{
+    uint64_t place_out = UNSET, count = UNSET;
+    uint8_t kinds[3];
+    int64_t wholes[3];
+    size_t i;
+
+    memset(kinds, 0xA5, sizeof kinds);
+    memset(wholes, 0xA5, sizeof wholes);
+    EXPECT(mfer_values(file, file_len, frame, channel, number, kinds, SIZE(kinds), wholes,
+                       SIZE(wholes), &count, &place_out) == refusal);
+    EXPECT(place_out == place && count == 0);
+    for (i = 0; i < SIZE(kinds); i++)
+        EXPECT(kinds[i] == 0xA5 && (uint64_t)wholes[i] == UNSET);
+
+    place_out = count = UNSET;
+    EXPECT(mfer_values(file, file_len, frame, channel, number, NULL, 0, NULL, 0, &count,
+                       &place_out) == refusal);
+    EXPECT(place_out == place && count == 0);
+}
+
 /* Every question on a file answers this refusal, all other outputs 0 and the buffers as they were. */
 static void expect_refusal(const uint8_t *file, size_t file_len, uint32_t frame, uint32_t channel,
                            uint64_t number, uint32_t refusal, uint64_t place)
@@ -108,6 +132,7 @@ static void expect_refusal(const uint8_t *file, size_t file_len, uint32_t frame,
     EXPECT(mfer_samples(file, file_len, frame, channel, number, NULL, 0, &count, &place_out) ==
            refusal);
     EXPECT(place_out == place && count == 0);
+    expect_values_refusal(file, file_len, frame, channel, number, refusal, place);
 }
 
 /* The file is refused when a walk is opened, and the walk keeps all it held. */
@@ -328,6 +353,51 @@ static void samples_in_bulk(void)
     EXPECT(count == 1 && out[0] == 0x7FC00001u && out[1] == UNSET);
     count = UNSET;
     EXPECT(mfer_samples(P2, sizeof P2, 0, 1, 0, NULL, 0, &count, &place) == MFER_OK);
+    EXPECT(count == 0 && place == 0);
+}
+
+static void values_in_bulk(void)
+{
+    /* Signed 16 bits, null 8000h: 700 samples, from -350 on, one of them null. */
+    static uint8_t file[8 + 1400];
+    static const uint8_t head[8] = {0x12, 2, 0x80, 0x00, 0x1E, 0x82, 0x05, 0x78};
+    static uint8_t kinds[800];
+    static int64_t wholes[800];
+    uint64_t count = UNSET, place = UNSET, bits;
+    uint32_t kind;
+    int64_t whole;
+    size_t i;
+
+    memcpy(file, head, sizeof head);
+    for (i = 0; i < 700; i++) {
+        int sample = i == 300 ? -32768 : (int)i - 350;
+        file[8 + 2 * i] = (uint8_t)((unsigned)sample >> 8);
+        file[9 + 2 * i] = (uint8_t)sample;
+    }
+    memset(kinds, 0xA5, sizeof kinds);
+    memset(wholes, 0xA5, sizeof wholes);
+    EXPECT(mfer_values(file, sizeof file, 0, 0, 0, kinds, SIZE(kinds), wholes, SIZE(wholes), &count,
+                       &place) == MFER_OK);
+    EXPECT(count == 700 && place == 0);
+    for (i = 0; i < 700; i++) {
+        EXPECT(mfer_sample(file, sizeof file, 0, 0, i, &place, &kind, &whole, &bits) == MFER_OK);
+        EXPECT(kinds[i] == kind && wholes[i] == whole);
+    }
+    EXPECT(kinds[300] == MFER_NULL && wholes[299] == -51 && wholes[699] == 349);
+    EXPECT(kinds[700] == 0xA5 && (uint64_t)wholes[700] == UNSET);
+
+    /* The shorter buffer decides. */
+    memset(kinds, 0xA5, sizeof kinds);
+    memset(wholes, 0xA5, sizeof wholes);
+    EXPECT(mfer_values(FLOATS, sizeof FLOATS, 0, 0, 0, kinds, 3, wholes, 2, &count, &place) == MFER_OK);
+    EXPECT(count == 2 && place == 0);
+    EXPECT(kinds[0] == MFER_NULL && kinds[1] == MFER_NOT_NUMBER && kinds[2] == 0xA5);
+    EXPECT(wholes[0] == 0 && wholes[1] == 0 && (uint64_t)wholes[2] == UNSET);
+    EXPECT(mfer_values(FLOATS, sizeof FLOATS, 0, 0, 2, kinds, 3, wholes, 2, &count, &place) == MFER_OK);
+    EXPECT(count == 1 && kinds[0] == MFER_SINGLE && kinds[1] == MFER_NOT_NUMBER);
+    EXPECT(mfer_values(FLOATS, sizeof FLOATS, 1, 0, 0, kinds, 3, wholes, 2, &count, &place) == MFER_OK);
+    EXPECT(count == 1 && kinds[0] == MFER_DOUBLE);
+    EXPECT(mfer_values(P2, sizeof P2, 0, 1, 0, kinds, 3, NULL, 0, &count, &place) == MFER_OK);
     EXPECT(count == 0 && place == 0);
 }
 
@@ -847,6 +917,7 @@ int main(int argc, char **argv)
     run("attributes", attributes);
     run("one_sample", one_sample);
     run("samples_in_bulk", samples_in_bulk);
+    run("values_in_bulk", values_in_bulk);
     run("walk_tells_the_same", walk_tells_the_same);
     run("walk_numbers", walk_numbers);
     run("walk_over_the_most_frames", walk_over_the_most_frames);

@@ -301,7 +301,7 @@ pub fn samples(s: &[u8], frame: u32, channel: u32, first: u64, out: &mut [u64]) 
 }
 
 // How many samples are told at a time.
-const PIECE: usize = 64;
+const PIECE: usize = 256;
 
 // The kinds and the whole numbers of n samples whose bits stand at the front of a slice, from `at` on in the buffers.
 fn tell(bits: &[u64], n: usize, m: Meaning, kinds: &mut [u8], wholes: &mut [i64], at: usize)

@@ -25,7 +25,7 @@ unfoldable pub handedOut : {A B : Type 0} → (A → ℕ) → (A → B) → B �
 handedOut place values zeros (answered a) = outputs 0 (place a) (values a)
 handedOut place values zeros (refusedAs number at) = outputs number at zeros
 
--- ---- mfer_check, mfer_samples, mfer_canonical_length, mfer_canonical
+-- ---- mfer_check, mfer_samples, mfer_values, mfer_canonical_length, mfer_canonical
 
 -- A count, and no place.
 abbrev pub countOut : Answer ℕ → Outputs ℕ

@@ -5,12 +5,13 @@
 // Read first: specs/Answers.antt; each function is thin over the crate that has its meaning.
 ghost use mathlib.Core.Path.{_≡_};
 ghost use Rattle.values.specs.Sample.{valueSays};
-ghost use Rattle.heads.specs.Answer.{leftBy};
+ghost use Rattle.heads.specs.Answer.{mapAnswer, leftBy};
 ghost use Rattle.verdict.specs.Verdict.{checkOf};
 ghost use Rattle.reader.specs.Answer.{attributesOf, sampleOf};
-ghost use Rattle.bulk.specs.Samples.{readOf, countRead};
+ghost use Rattle.bulk.specs.Samples.{readOf, valuesOf, kindsIn, wholesIn, countRead};
 ghost use Rattle.canonical.specs.Write.{canonicalLengthOf};
 ghost use Rattle.mfer.specs.Answers.{outputs, countOut, CanonicalOut, numbersOf, bitPairOf, attributesValues, attributesOut, sampleValues, sampleOut};
+ghost use Prim.Native.Nat.{min};
 ghost use lib.ListN.{length};
 
 mod walks;
@@ -191,6 +192,38 @@ pub extern "C" fn mfer_samples(
     ensures { λ _. ⌜ now (out .exit) ≡ leftBy (readOf (now (file .entry)) frame channel first (length (now (out .entry)))) (now (out .entry)) ⌝ }
 {
     match bulk::samples(file, frame, channel, first, out) {
+        Read::Samples(n) => {
+            *count = n as u64;
+            *place = 0;
+            0
+        }
+        Read::Refused(x) => {
+            *count = 0;
+            *place = x.place as u64;
+            x.number as u32
+        }
+    }
+}
+
+// The values of a channel's samples from number `first` on, at the fronts of `kinds` and `wholes`: each sample's kind, as `mfer_sample` numbers
+// them, and its number where it is whole, else 0; as many as fit in both or there are, and how many. The rest of both, and at a refusal all of them,
+// keeps what it held.
+#[no_mangle]
+pub extern "C" fn mfer_values(
+    file: &[u8],
+    frame: u32,
+    channel: u32,
+    first: u64,
+    kinds: &mut [u8],
+    wholes: &mut [i64],
+    count: &mut u64,
+    place: &mut u64,
+) -> u32
+    ensures { λ r. ⌜ outputs r (now (place .exit)) (now (count .exit)) ≡ countOut (mapAnswer length (valuesOf (now (file .entry)) frame channel first (min (length (now (kinds .entry))) (length (now (wholes .entry)))))) ⌝ }
+    ensures { λ _. ⌜ now (kinds .exit) ≡ leftBy (kindsIn (valuesOf (now (file .entry)) frame channel first (min (length (now (kinds .entry))) (length (now (wholes .entry)))))) (now (kinds .entry)) ⌝ }
+    ensures { λ _. ⌜ now (wholes .exit) ≡ leftBy (wholesIn (valuesOf (now (file .entry)) frame channel first (min (length (now (kinds .entry))) (length (now (wholes .entry)))))) (now (wholes .entry)) ⌝ }
+{
+    match bulk::values(file, frame, channel, first, kinds, wholes) {
         Read::Samples(n) => {
             *count = n as u64;
             *place = 0;

@@ -17,7 +17,7 @@ use Rattle.standing.specs.Standing.{octetsLimit}
 use Rattle.verdict.specs.Verdict.{accepted, refused, verdict, checkOf}
 use Rattle.reader.specs.Answer.{attributesIn, attributesOf, sampleIn, sampleOf, seenOf, foundPlace, placedOf}
 use Rattle.view.specs.View.{viewOf}
-use Rattle.bulk.specs.Samples.{readOf}
+use Rattle.bulk.specs.Samples.{readOf, valuesOf}
 use Rattle.canonical.specs.Canonical.{canonical}
 use Rattle.canonical.specs.Write.{recordingOf, writtenOf, canonicalLengthOf, Wrote}
 use Rattle.mfer.specs.Answers.{outputs, CanonicalOut}
@@ -25,7 +25,7 @@ use Rattle.reader.proofs.Ordered.{endOf}
 use Rattle.reader.proofs.Checks.{check-accepted, check-refused}
 use Rattle.canonical.proofs.Room.{Writes}
 use Rattle.canonical.proofs.Lengths.{ByLength, by-length}
-use Rattle.theorems.proofs.Questions.{frameNumber, ByChannel, BySample, accepted-or-refused, limit-exactly, limit-place, attributes-answered, channel-answered, sample-answered, place-answered, bitsRead, samples-answered, same-place}
+use Rattle.theorems.proofs.Questions.{frameNumber, ByChannel, BySample, accepted-or-refused, limit-exactly, limit-place, attributes-answered, channel-answered, sample-answered, place-answered, bitsRead, valuesRead, samples-answered, values-answered, same-place}
 use Rattle.theorems.proofs.Places.{Name, Exists, NamedSample, Belongs, InWaveform, Owned, sample-exists, sample-inside, samples-apart, octet-owned}
 use Rattle.theorems.proofs.Waveforms.{PartOfFile, waveform-part, waveforms-apart}
 use Rattle.theorems.proofs.EntryPoints.{AnsweredBy, HandedOut, BuffersKept, refused-answers, handed-out, buffers-kept}
@@ -56,6 +56,7 @@ pub record DemandOne (s : List ℕ) : Type 0 where
   pub sample : (fs : List Frame) → verdict s ≡ accepted fs → (i c n : ℕ) → BySample (sampleOf s i c n) (sampleIn c n) fs i c n
   pub place : (fs : List Frame) → verdict s ≡ accepted fs → (i c n : ℕ) → BySample (placedOf s i c n) (λ f. foundPlace (placeOf c n f) (viewOf c f)) fs i c n
   pub samples : (fs : List Frame) → verdict s ≡ accepted fs → (i c n room : ℕ) → BySample (readOf s i c n room) (bitsRead c n room) fs i c n
+  pub values : (fs : List Frame) → verdict s ≡ accepted fs → (i c n room : ℕ) → BySample (valuesOf s i c n room) (valuesRead c n room) fs i c n
   pub written : (fs : List Frame) → verdict s ≡ accepted fs → (d : List ℕ) → Writes (writtenOf s d) (length d) fs
   pub measured : (fs : List Frame) → verdict s ≡ accepted fs → Writes (canonicalLengthOf s) octetsLimit fs
   -- Where the length is answered, the writer answers it in a buffer of at least so many octets, and 23 in a shorter one.
@@ -79,6 +80,7 @@ demand-one s =
       sample = sample-answered s;
       place = place-answered s;
       samples = samples-answered s;
+      values = values-answered s;
       written = λ fs e d. writer-answers s d fs e;
       measured = length-answers s;
       byLength = by-length s;

@@ -2,14 +2,15 @@
 --     AnsweredBy, refused-answers    on a refused file every question, the writer and the length answer that file's refusal
 --     handed-exactly     a function for C hands a refusal out exactly when its question answers it
 --     HandedOut, handed-out    so each of the six
---     refusal-keeps, counted-refusal    a refusal changes no octet of a buffer
+--     refusal-keeps, plain-keeps, counted-refusal    a refusal changes no octet of a buffer
 --     BuffersKept, buffers-kept         so for each function that has one
 -- Assumes nothing.
 use Prim.Native.Nat.{ℕ, _<_}
 use mathlib.Core.Path.{_≡_, refl, sym, ap, _∙_}
 use mathlib.Core.Logic.{_↔_}
-use mathlib.Core.List.{List}
+use mathlib.Core.List.{List, map}
 use native.Mathlib.Omega.{arith}
+use lib.IntN.{ℤ}
 use lib.ListN.{length}
 use Rattle.heads.specs.declared.Refusal.{Refusal}
 use Rattle.heads.specs.Answer.{Answer, answered, refusedAs, refusedBy, mapAnswer, leftBy}
@@ -18,7 +19,7 @@ use Rattle.verdict.specs.Verdict.{Verdict, refused, verdict, checkedAs, checkOf
 use Rattle.reader.specs.Answer.{attributesOf, sampleOf, seenOf, placedOf}
 use Rattle.reader.proofs.Order.{asked-refused}
 use Rattle.canonical.specs.Write.{outputIn, writtenOf, canonicalLengthOf, leftOf, Wrote}
-use Rattle.bulk.specs.Samples.{readOf, countRead}
+use Rattle.bulk.specs.Samples.{readOf, valuesOf, kindsIn, wholesIn, countRead}
 use Rattle.mfer.specs.Answers.{Outputs, outputs, handedOut, countOut, CanonicalOut, zeroAttributes, attributesOut, zeroSample, sampleOut}
 
 -- ---- a refused file
@@ -31,11 +32,12 @@ pub record AnsweredBy (s : List ℕ) (r : Refusal) : Type 0 where
   pub sample : (i c n : ℕ) → sampleOf s i c n ≡ refusedBy r
   pub place : (i c n : ℕ) → placedOf s i c n ≡ refusedBy r
   pub samples : (i c n room : ℕ) → readOf s i c n room ≡ refusedBy r
+  pub values : (i c n room : ℕ) → valuesOf s i c n room ≡ refusedBy r
   pub measured : canonicalLengthOf s ≡ refusedBy r
   pub written : (d : List ℕ) → writtenOf s d ≡ refusedBy r
 
 pub refused-answers : (s : List ℕ) (r : Refusal) → verdict s ≡ refused r → AnsweredBy s r
-unfolding checkOf checkedAs attributesOf seenOf sampleOf placedOf readOf writtenOf canonicalLengthOf outputIn
+unfolding checkOf checkedAs attributesOf seenOf sampleOf placedOf readOf valuesOf writtenOf canonicalLengthOf outputIn
 refused-answers s r e =
     record {
       check = ap checkedAs e;
@@ -44,6 +46,7 @@ refused-answers s r e =
       sample = λ i c n. asked-refused i c _ e;
       place = λ i c n. asked-refused i c _ e;
       samples = λ i c n room. asked-refused i c _ e;
+      values = λ i c n room. asked-refused i c _ e;
       measured = ap (λ (v : Verdict). mapAnswer length (outputIn octetsLimit v)) e;
       written = λ d. ap (λ (v : Verdict). mapAnswer length (outputIn (length d) v)) e;
     }
@@ -68,6 +71,7 @@ pub record HandedOut (s : List ℕ) : Type 0 where
   pub sample : (i c n : ℕ) → HandedExactly (sampleOut (sampleOf s i c n)) zeroSample (sampleOf s i c n)
   pub samples : (i c n room : ℕ) → HandedExactly (countOut (countRead s i c n room)) 0 (countRead s i c n room)
   pub canonicalLength : HandedExactly (countOut (canonicalLengthOf s)) 0 (canonicalLengthOf s)
+  pub values : (i c n room : ℕ) → HandedExactly (countOut (mapAnswer length (valuesOf s i c n room))) 0 (mapAnswer length (valuesOf s i c n room))
   pub canonical : (d : List ℕ) → HandedExactly (countOut (writtenOf s d)) 0 (writtenOf s d)
 
 pub handed-out : (s : List ℕ) → HandedOut s
@@ -78,19 +82,28 @@ handed-out s =
       sample = λ i c n. handed-exactly _ _ _ (sampleOf s i c n);
       samples = λ i c n room. handed-exactly _ _ _ (countRead s i c n room);
       canonicalLength = handed-exactly _ _ _ (canonicalLengthOf s);
+      values = λ i c n room. handed-exactly _ _ _ (mapAnswer length (valuesOf s i c n room));
       canonical = λ d. handed-exactly _ _ _ (writtenOf s d);
     }
 
 -- ---- buffers
 
 -- A refusal of the length is a refusal of what is written.
-counted-refusal : (x : Answer (List ℕ)) (number place : ℕ) → mapAnswer length x ≡ refusedAs number place → x ≡ refusedAs number place
+counted-refusal : {A : Type 0} (x : Answer (List A)) (number place : ℕ) → mapAnswer length x ≡ refusedAs number place → x ≡ refusedAs number place
 counted-refusal (answered l) number place e = let z : _≡_ {A = ℕ} 0 1 = cc in let y : ⊥ = omega arith in absurd y
 counted-refusal (refusedAs m p) number place e = let a : m ≡ number = cc in let b : p ≡ place = cc in λ i. refusedAs (a i) (b i)
 
-refusal-keeps : (x : Answer (List ℕ)) (d : List ℕ) (number place : ℕ) → mapAnswer length x ≡ refusedAs number place → leftBy x d ≡ d
+refusal-keeps : {A B : Type 0} (f : List A → List B) (x : Answer (List A)) (d : List B) (number place : ℕ) → mapAnswer length x ≡ refusedAs number place → leftBy (mapAnswer f x) d ≡ d
 unfolding leftBy
-refusal-keeps x d number place e = ap (λ (y : Answer (List ℕ)). leftBy y d) (counted-refusal x number place e)
+refusal-keeps {A} f x d number place e = ap (λ (y : Answer (List A)). leftBy (mapAnswer f y) d) (counted-refusal x number place e)
+
+-- What is written is not changed by the function that changes nothing.
+map-same : {A : Type 0} (x : Answer (List A)) → mapAnswer (λ l. l) x ≡ x
+map-same (answered l) = refl
+map-same (refusedAs number place) = refl
+
+plain-keeps : (x : Answer (List ℕ)) (d : List ℕ) (number place : ℕ) → mapAnswer length x ≡ refusedAs number place → leftBy x d ≡ d
+plain-keeps x d number place e = ap (λ (y : Answer (List ℕ)). leftBy y d) (sym (map-same x)) ∙ refusal-keeps (λ l. l) x d number place e
 
 -- A function for C that hands out a number above 0 hands out a refusal.
 handed-refusal : (a : Answer ℕ) → 0 < countOut a .refusal → (number : ℕ) × (place : ℕ) × (a ≡ refusedAs number place)
@@ -98,18 +111,25 @@ unfolding handedOut
 handed-refusal (answered n) h = let z : ⊥ = omega arith in absurd z
 handed-refusal (refusedAs number place) h = (number, place, refl)
 
--- A refusal changes no octet of the output buffer: `write_canonical`, `mfer_canonical`, `bulk::samples`, `mfer_samples`.
+-- A refusal changes no octet of the output buffer: `write_canonical`, `mfer_canonical`, `bulk::samples`, `mfer_samples`, `bulk::values`, `mfer_values`.
 pub record BuffersKept (s d : List ℕ) : Type 0 where
   pub canonical : (number place : ℕ) (left : List ℕ) → Wrote s d (refusedAs number place) left → left ≡ d
   pub canonicalOut : (out : Outputs ℕ) (left : List ℕ) → CanonicalOut s d out left → 0 < out .refusal → left ≡ d
   pub samples : (i c n number place : ℕ) → countRead s i c n (length d) ≡ refusedAs number place → leftBy (readOf s i c n (length d)) d ≡ d
   pub samplesOut : (i c n : ℕ) → 0 < countOut (countRead s i c n (length d)) .refusal → leftBy (readOf s i c n (length d)) d ≡ d
+  pub values : (i c n room number place : ℕ) (w : List ℤ) → mapAnswer length (valuesOf s i c n room) ≡ refusedAs number place → (leftBy (kindsIn (valuesOf s i c n room)) d ≡ d) × (leftBy (wholesIn (valuesOf s i c n room)) w ≡ w)
+  pub valuesOut : (i c n room : ℕ) (w : List ℤ) → 0 < countOut (mapAnswer length (valuesOf s i c n room)) .refusal → (leftBy (kindsIn (valuesOf s i c n room)) d ≡ d) × (leftBy (wholesIn (valuesOf s i c n room)) w ≡ w)
 
 module _ (s d : List ℕ) where
   -- By the writer's answer.
   written-kept : (number place : ℕ) (left : List ℕ) → writtenOf s d ≡ refusedAs number place → left ≡ leftOf s d → left ≡ d
   unfolding writtenOf leftOf
-  written-kept number place left a l = l ∙ refusal-keeps (outputIn (length d) (verdict s)) d number place a
+  written-kept number place left a l = l ∙ plain-keeps (outputIn (length d) (verdict s)) d number place a
+
+  -- Both buffers that values go to.
+  values-kept : (i c n room number place : ℕ) (w : List ℤ) → mapAnswer length (valuesOf s i c n room) ≡ refusedAs number place → (leftBy (kindsIn (valuesOf s i c n room)) d ≡ d) × (leftBy (wholesIn (valuesOf s i c n room)) w ≡ w)
+  values-kept i c n room number place w e =
+      (refusal-keeps (map (λ x. x .kind)) (valuesOf s i c n room) d number place e, refusal-keeps (map (λ x. x .whole)) (valuesOf s i c n room) w number place e)
 
   pub buffers-kept : BuffersKept s d
   unfolding countRead
@@ -117,6 +137,8 @@ module _ (s d : List ℕ) where
       record {
         canonical = λ number place left w. written-kept number place left (sym (w .answers)) (w .leaves);
         canonicalOut = λ out left w h. let r = handed-refusal (writtenOf s d) (rw (w .answers) at h) in written-kept (r .0) (r .1) left (r .2) (w .leaves);
-        samples = λ i c n number place e. refusal-keeps (readOf s i c n (length d)) d number place e;
-        samplesOut = λ i c n h. let r = handed-refusal (countRead s i c n (length d)) h in refusal-keeps (readOf s i c n (length d)) d (r .0) (r .1) (r .2);
+        samples = λ i c n number place e. plain-keeps (readOf s i c n (length d)) d number place e;
+        samplesOut = λ i c n h. let r = handed-refusal (countRead s i c n (length d)) h in plain-keeps (readOf s i c n (length d)) d (r .0) (r .1) (r .2);
+        values = values-kept;
+        valuesOut = λ i c n room w h. let r = handed-refusal (mapAnswer length (valuesOf s i c n room)) h in values-kept i c n room (r .0) (r .1) w (r .2);
       }

@@ -4,7 +4,7 @@
 --     limit-exactly, limit-place    15 comes first
 --     ByChannel, by-channel    on an accepted file a question that names a channel answers 20, 21, or what is asked for
 --     BySample, by-sample      one that names a sample answers 20, 21, 22, or what is asked for
---     attributes-answered, channel-answered, sample-answered, place-answered, samples-answered    so each question
+--     attributes-answered, channel-answered, sample-answered, place-answered, samples-answered, values-answered    so each question
 --     same-place         the questions for a place and for a sample answer the same place
 -- Assumes nothing.
 use Prim.Native.Nat.{ℕ, _-_, _≤_, _<_, min}
@@ -21,7 +21,7 @@ use Rattle.heads.specs.declared.Refusal.{Refusal}
 use Rattle.heads.specs.Refusals.{longFile, noFrame, noChannel, noSample}
 use Rattle.heads.specs.Answer.{Answer, answered, refusedAs, mapAnswer}
 use Rattle.items.specs.Walk.{refusal}
-use Rattle.layout.specs.Frame.{Frame, samplesOf, placeOf}
+use Rattle.layout.specs.Frame.{Frame, channelIn, samplesOf, placeOf}
 use Rattle.standing.specs.Standing.{octetsLimit}
 use Rattle.verdict.specs.Verdict.{Verdict, accepted, refused, verdict, checkOf}
 use Rattle.reader.proofs.Never.{only-limit}
@@ -30,7 +30,8 @@ use Rattle.reader.proofs.Order.{sample-both}
 use Rattle.pass.specs.Scan.{zeroFrame}
 use Rattle.view.specs.View.{viewOf}
 use Rattle.reader.specs.Answer.{FoundSample, FoundPlace, foundPlace, asked, askedSample, attributesIn, attributesOf, sampleIn, sampleOf, seenOf, placedOf}
-use Rattle.bulk.specs.Samples.{bitsFrom, readOf}
+use Rattle.values.specs.Sample.{Said}
+use Rattle.bulk.specs.Samples.{bitsFrom, readOf, valuesBy, valuesOf}
 use Rattle.laid.specs.Laid.{sampleBits}
 
 -- ---- three tests
@@ -202,6 +203,10 @@ module _ {A : Type 0} (g : Frame → A) (v : Verdict) (fs : List Frame) (e : v �
 abbrev pub bitsRead : ℕ → ℕ → ℕ → Frame → List ℕ
 bitsRead c n room f = bitsFrom (sampleBits f c) n (min room (samplesOf c f - n))
 
+-- Their values.
+abbrev pub valuesRead : ℕ → ℕ → ℕ → Frame → List Said
+valuesRead c n room f = valuesBy (channelIn c (f .channels)) (bitsRead c n room f)
+
 module _ (s : List ℕ) (fs : List Frame) (e : verdict s ≡ accepted fs) (i c : ℕ) where
   pub attributes-answered : ByChannel (attributesOf s i c) (attributesIn c) fs i c
   unfolding attributesOf
@@ -223,6 +228,10 @@ module _ (s : List ℕ) (fs : List Frame) (e : verdict s ≡ accepted fs) (i c :
     pub samples-answered : (room : ℕ) → BySample (readOf s i c n room) (bitsRead c n room) fs i c n
     unfolding readOf
     samples-answered room = by-sample (bitsRead c n room) (verdict s) fs e i c n
+
+    pub values-answered : (room : ℕ) → BySample (valuesOf s i c n room) (valuesRead c n room) fs i c n
+    unfolding valuesOf
+    values-answered room = by-sample (valuesRead c n room) (verdict s) fs e i c n
 
 -- The questions for a place and for a sample answer the same place, or the same refusal.
 pub same-place : (s : List ℕ) (i c n : ℕ) → mapAnswer (λ x. x .place) (placedOf s i c n) ≡ mapAnswer (λ x. x .place) (sampleOf s i c n)

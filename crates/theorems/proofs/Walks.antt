@@ -15,10 +15,10 @@ use Rattle.layout.specs.Frame.{Frame}
 use Rattle.view.specs.declared.View.{View}
 use Rattle.verdict.specs.Verdict.{accepted, verdict, checkedAs, checkOf}
 use Rattle.reader.specs.declared.LookedUp.{LookedUp}
-use Rattle.reader.specs.Answer.{attributesSeen, seenOf}
-use Rattle.reader.proofs.Answers.{located, described-is, unseen}
-use Rattle.bulk.specs.Samples.{readSeen, readOf}
-use Rattle.bulk.proofs.Reading.{read-located}
+use Rattle.reader.specs.Answer.{attributesSeen, askedSample, seenOf}
+use Rattle.reader.proofs.Answers.{Located, located, described-is, unseen}
+use Rattle.bulk.specs.Samples.{readSeen, readOf, valuesSeen, valuesOf}
+use Rattle.bulk.proofs.Reading.{read-located, values-located}
 use Rattle.walk.specs.declared.Step.{Step}
 use Rattle.walk.specs.Says.{stepSays}
 use Rattle.canonical.specs.Write.{framesIn}
@@ -30,7 +30,7 @@ use Rattle.walking.specs.Views.{viewIn}
 use Rattle.walking.proofs.Walked.{Walked, walked-open, walked-frame, walked-ended, walked-never}
 use Rattle.walking.proofs.Told.{walked-seen}
 use Rattle.mfer.specs.Answers.{Outputs, outputs, handedOut}
-use Rattle.mfer.specs.Walks.{FrameOut, frameOut, noFrameValues, WalkNext, walkRead}
+use Rattle.mfer.specs.Walks.{FrameOut, frameOut, noFrameValues, WalkNext}
 use Rattle.theorems.specs.Walks.{Walks, opened, stepped, Tells}
 
 -- What a walk over an accepted file with the frames fs tells.
@@ -42,20 +42,22 @@ pub record WalkTold (s : List ℕ) (fs : List Frame) : Type 0 where
 
 -- ---- what is asked of a channel that is seen
 
-seen-read : (s : List ℕ) → Octets s → (i c first room : ℕ) (a : Answer View) → a ≡ seenOf s i c → thenAnswer a (λ v. readSeen s v first room) ≡ readOf s i c first room
-unfolding readOf
-seen-read s o i c first room (answered v) e = read-located o (located s i c v {r = LookedUp.Channel v} e refl) first room
-seen-read s o i c first room (refusedAs number place) e =
-    let x : Refusal = record { number = number; place = place } in
-    unseen _ s i c first x {r = LookedUp.Refused x} e refl
+-- What is asked of a channel is answered as the question by frame and channel is, where that is so of every channel that is found.
+module _ (s : List ℕ) (i c n : ℕ) {A : Type 0} (g : View → Answer A) (h : Frame → A) (same : (v : View) → Located s i c v → g v ≡ askedSample h i c n (verdict s)) where
+  seen-asked : (a : Answer View) → a ≡ seenOf s i c → thenAnswer a g ≡ askedSample h i c n (verdict s)
+  seen-asked (answered v) e = same v (located s i c v {r = LookedUp.Channel v} e refl)
+  seen-asked (refusedAs number place) e =
+      let x : Refusal = record { number = number; place = place } in
+      unseen h s i c n x {r = LookedUp.Refused x} e refl
 
 tells : (s : List ℕ) → Octets s → (i : ℕ) (w : List ℕ) → ((c : ℕ) → viewIn w c ≡ seenOf s i c) → Tells s i w
-unfolding walkRead
+unfolding readOf valuesOf
 tells s o i w same =
     record {
       channel = same;
       attributes = λ c. ap (mapAnswer attributesSeen) (same c) ∙ described-is s i c;
-      samples = λ c first room. seen-read s o i c first room (viewIn w c) (same c);
+      samples = λ c first room. seen-asked s i c first (λ v. readSeen s v first room) _ (λ v l. read-located o l first room) (viewIn w c) (same c);
+      values = λ c first room. seen-asked s i c first (λ v. valuesSeen s v first room) _ (λ v l. values-located o l first room) (viewIn w c) (same c);
     }
 
 -- ---- frame after frame

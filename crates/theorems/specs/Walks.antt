@@ -5,12 +5,12 @@ use Prim.Native.Nat.{ℕ, zero, suc}
 use lib.ListN.{length}
 use Rattle.heads.specs.Answer.{mapAnswer}
 use Rattle.reader.specs.Answer.{attributesSeen, attributesOf, seenOf}
-use Rattle.bulk.specs.Samples.{readOf}
+use Rattle.bulk.specs.Samples.{readOf, valuesOf}
 use Rattle.walking.specs.Words.{walkWords}
 use Rattle.walking.specs.Steps.{Opened}
 use Rattle.walking.specs.Views.{viewIn}
 use Rattle.mfer.specs.Answers.{Outputs}
-use Rattle.mfer.specs.Walks.{FrameOut, WalkNext, walkRead}
+use Rattle.mfer.specs.Walks.{FrameOut, WalkNext, walkRead, walkValues}
 
 -- The words that a walk over a file s is left in by mfer_walk_open, whatever they held, and then by n calls of mfer_walk_next, each of which handed a frame
 -- out.
@@ -18,8 +18,9 @@ pub data Walks (s : List ℕ) : ℕ → List ℕ → Type 0 where
   opened : {u v : List ℕ} → length u ≡ walkWords → Opened s u v → Walks s zero v
   stepped : {n : ℕ} {u v : List ℕ} {out : Outputs FrameOut} → Walks s n u → WalkNext s u out v → out .refusal ≡ 0 → Walks s (suc n) v
 
--- The words tell of frame i what the questions answer, refusals too: each channel, its attributes, and its samples.
+-- The words tell of frame i what the questions answer, refusals too: each channel, its attributes, and its samples as bits and as values.
 pub record Tells (s : List ℕ) (i : ℕ) (w : List ℕ) : Type 0 where
   pub channel : (c : ℕ) → viewIn w c ≡ seenOf s i c
   pub attributes : (c : ℕ) → mapAnswer attributesSeen (viewIn w c) ≡ attributesOf s i c
   pub samples : (c first room : ℕ) → walkRead s w c first room ≡ readOf s i c first room
+  pub values : (c first room : ℕ) → walkValues s w c first room ≡ valuesOf s i c first room

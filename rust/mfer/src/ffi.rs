@@ -54,6 +54,20 @@ extern "C" {
         place: *mut u64,
     ) -> u32;
 
+    fn mfer_values(
+        file: *const u8,
+        file_len: usize,
+        frame: u32,
+        channel: u32,
+        first: u64,
+        kinds: *mut u8,
+        kinds_len: usize,
+        wholes: *mut i64,
+        wholes_len: usize,
+        count: *mut u64,
+        place: *mut u64,
+    ) -> u32;
+
     fn mfer_walk_open(
         file: *const u8,
         file_len: usize,
@@ -88,6 +102,20 @@ extern "C" {
         first: u64,
         out: *mut u64,
         out_len: usize,
+        count: *mut u64,
+        place: *mut u64,
+    ) -> u32;
+
+    fn mfer_walk_values(
+        file: *const u8,
+        file_len: usize,
+        walk: *const Walk,
+        channel: u32,
+        first: u64,
+        kinds: *mut u8,
+        kinds_len: usize,
+        wholes: *mut i64,
+        wholes_len: usize,
         count: *mut u64,
         place: *mut u64,
     ) -> u32;
@@ -217,8 +245,8 @@ pub fn sample(file: &[u8], frame: u32, channel: u32, number: u64) -> Sampled {
     }
 }
 
-/// What `mfer_samples`, `mfer_walk_samples`, `mfer_canonical_length` and `mfer_canonical` answer, but
-/// for the buffer.
+/// What `mfer_samples`, `mfer_values`, those of a walk, `mfer_canonical_length` and `mfer_canonical`
+/// answer, but for the buffers.
 #[derive(Clone, Copy, PartialEq, Eq, Debug)]
 pub struct Filled {
     /// The refusal's number, 0 for none.
@@ -242,6 +270,39 @@ pub fn samples(file: &[u8], frame: u32, channel: u32, first: u64, out: &mut [u64
             first,
             out.as_mut_ptr(),
             out.len(),
+            &mut count,
+            &mut place,
+        )
+    };
+    Filled {
+        number,
+        count,
+        place,
+    }
+}
+
+/// Asks `mfer_values`.
+pub fn values(
+    file: &[u8],
+    frame: u32,
+    channel: u32,
+    first: u64,
+    kinds: &mut [u8],
+    wholes: &mut [i64],
+) -> Filled {
+    let (mut count, mut place) = (UNSET, UNSET);
+    // SAFETY: see the module's first lines.
+    let number = unsafe {
+        mfer_values(
+            file.as_ptr(),
+            file.len(),
+            frame,
+            channel,
+            first,
+            kinds.as_mut_ptr(),
+            kinds.len(),
+            wholes.as_mut_ptr(),
+            wholes.len(),
             &mut count,
             &mut place,
         )
@@ -351,6 +412,39 @@ pub fn walk_samples(file: &[u8], walk: &Walk, channel: u32, first: u64, out: &mu
             first,
             out.as_mut_ptr(),
             out.len(),
+            &mut count,
+            &mut place,
+        )
+    };
+    Filled {
+        number,
+        count,
+        place,
+    }
+}
+
+/// Asks `mfer_walk_values`.
+pub fn walk_values(
+    file: &[u8],
+    walk: &Walk,
+    channel: u32,
+    first: u64,
+    kinds: &mut [u8],
+    wholes: &mut [i64],
+) -> Filled {
+    let (mut count, mut place) = (UNSET, UNSET);
+    // SAFETY: see the module's first lines.
+    let number = unsafe {
+        mfer_walk_values(
+            file.as_ptr(),
+            file.len(),
+            walk,
+            channel,
+            first,
+            kinds.as_mut_ptr(),
+            kinds.len(),
+            wholes.as_mut_ptr(),
+            wholes.len(),
             &mut count,
             &mut place,
         )

@@ -84,6 +84,31 @@ impl<'a> File<'a> {
         Refusal::or(filled.number, filled.place, filled.count as usize)
     }
 
+    /// Fills `kinds` and `wholes` with the kinds and the whole numbers of consecutive samples from
+    /// `first` on, as many as fit in both or there are, and answers how many; the rest of both keeps
+    /// what it held. Kinds are 0 whole, 1 status, 2 single, 3 double, 4 not-a-number and 5 null; the
+    /// number of a value that is not whole is 0.
+    ///
+    /// ```
+    /// use mfer::File;
+    ///
+    /// let file = File::new(&[0x0A, 1, 5, 0x12, 1, 0x80, 0x1E, 3, 1, 0x80, 0xFF]);
+    /// let (mut kinds, mut wholes) = ([9; 4], [9; 4]);
+    /// assert_eq!(file.values(0, 0, 0, &mut kinds, &mut wholes), Ok(3));
+    /// assert_eq!((kinds, wholes), ([0, 5, 0, 9], [1, 0, -1, 9]));
+    /// ```
+    pub fn values(
+        &self,
+        frame: u32,
+        channel: u32,
+        first: u64,
+        kinds: &mut [u8],
+        wholes: &mut [i64],
+    ) -> Result<usize, Refusal> {
+        let filled = ffi::values(self.0, frame, channel, first, kinds, wholes);
+        Refusal::or(filled.number, filled.place, filled.count as usize)
+    }
+
     /// The length of the canonical file: the octets that [`File::canonical`] needs.
     /// [`Refusal::NO_ROOM`] here says that it is longer than a file may be.
     ///

@@ -17,7 +17,7 @@ use Rattle.bulk.proofs.tell_samples.Tie as tie
 
 abbrev Inv-loop : tie.InvT-loop
 Inv-loop s v first n kinds₀ wholes₀ m bits₀ done₀ kinds wholes bits done =
-    Pieces (λ b. toldOf m b .kind) (bitsSeen s v) first n kinds₀ kinds done × (Pieces (λ b. toldOf m b .whole) (bitsSeen s v) first n wholes₀ wholes done × (length bits ≡ 64))
+    Pieces (λ b. toldOf m b .kind) (bitsSeen s v) first n kinds₀ kinds done × (Pieces (λ b. toldOf m b .whole) (bitsSeen s v) first n wholes₀ wholes done × (length bits ≡ 256))
 
 abbrev μ-loop : tie.MeasureT-loop
 μ-loop s v first n kinds₀ wholes₀ m bits₀ done₀ kinds wholes bits done = n - done
@@ -28,7 +28,7 @@ of-type-requires c κs = search needs
 loop-holds : tie.Need-loop-holds Inv-loop μ-loop
 loop-holds c =
     let at-pre = c .before .before .before .before .before in
-    (pieces-begin _ _ _ _ (at-pre .pre .kindsFit), (pieces-begin _ _ _ _ (at-pre .pre .wholesFit), length-replicate {A = ℕ} 64 0))
+    (pieces-begin _ _ _ _ (at-pre .pre .kindsFit), (pieces-begin _ _ _ _ (at-pre .pre .wholesFit), length-replicate {A = ℕ} 256 0))
 
 sub-smaller : tie.Need-sub-smaller Inv-loop μ-loop
 sub-smaller c = search needs
