@@ -70,8 +70,8 @@
  * WHAT IS PROVED
  *
  * Of each function, for any octets, any numbers and any content of a walk: it returns, and its
- * result, its outputs, its buffer and its walk afterwards are what its contract in
- * crates/mfer/src/lib.rt defines. docs/SPECIFICATION.md lists the definitions, docs/TRUST.md says
+ * result, its outputs, its buffers and its walk afterwards are what its contract in crates/mfer/src
+ * defines. docs/SPECIFICATION.md lists the definitions, docs/TRUST.md says
  * what that rests on.
  *
  * This and all above is about the functions of the library. mfer_words and mfer_kind_name are none of
@@ -88,16 +88,20 @@
  *     static void print_channel(const uint8_t *file, size_t file_len, const uint64_t walk[MFER_WALK],
  *                               uint32_t channel)
  *     {
- *         int64_t numbers[MFER_NUMBERS];
- *         uint64_t defined[2], bits[1000], below, first = 0, count, place, i;
+ *         int64_t numbers[MFER_NUMBERS], wholes[1000];
+ *         uint64_t defined[2], below, first = 0, count, place, i;
+ *         uint8_t kinds[1000];
  *         if (mfer_walk_channel(walk, channel, numbers, defined, &below, &place) != MFER_OK)
  *             return;
  *         printf("channel %" PRIu32 ": lead %" PRId64 "\n", channel, numbers[MFER_NUMBER_LEAD]);
- *         while (mfer_walk_samples(file, file_len, walk, channel, first, bits, 1000, &count, &place) ==
- *                    MFER_OK &&
+ *         while (mfer_walk_values(file, file_len, walk, channel, first, kinds, 1000, wholes, 1000, &count,
+ *                                 &place) == MFER_OK &&
  *                count > 0) {
  *             for (i = 0; i < count; i++)
- *                 printf("bits %" PRIu64 "\n", bits[i]);
+ *                 if (kinds[i] == MFER_WHOLE)
+ *                     printf("%" PRId64 "\n", wholes[i]);
+ *                 else
+ *                     printf("%s\n", mfer_kind_name(kinds[i]));
  *             first += count;
  *         }
  *     }

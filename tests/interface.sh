@@ -47,7 +47,7 @@ MAIN
 } > "$work/example.c"
 if compile example "$cc" -std=c99 "$work/example.c"; then
     says=$("$work/example" 2>"$work/refusal") &&
-        [ "$says" = "$(printf '%s\n' 'frame at 0' 'channel 0: lead 0' 'bits 1' 'bits 2' 'channel 1: lead 0' 'bits 65535')" ] &&
+        [ "$says" = "$(printf '%s\n' 'frame at 0' 'channel 0: lead 0' 1 2 'channel 1: lead 0' -1)" ] &&
         [ "$(cat "$work/refusal")" = 'refused 8 at 3: channel number not below the channel count' ]
     count "the header's example" $?
 fi

@@ -1,7 +1,7 @@
 -- Refusals at every entry point.
 --     AnsweredBy, refused-answers    on a refused file every question, the writer and the length answer that file's refusal
 --     handed-exactly     a function for C hands a refusal out exactly when its question answers it
---     HandedOut, handed-out    so each of the six
+--     HandedOut, handed-out    so each of them
 --     refusal-keeps, plain-keeps, counted-refusal    a refusal changes no octet of a buffer
 --     BuffersKept, buffers-kept         so for each function that has one
 -- Assumes nothing.
@@ -13,6 +13,7 @@ use native.Mathlib.Omega.{arith}
 use lib.IntN.{ℤ}
 use lib.ListN.{length}
 use Rattle.heads.specs.declared.Refusal.{Refusal}
+use Rattle.values.specs.Sample.{Said}
 use Rattle.heads.specs.Answer.{Answer, answered, refusedAs, refusedBy, mapAnswer, leftBy}
 use Rattle.standing.specs.Standing.{octetsLimit}
 use Rattle.verdict.specs.Verdict.{Verdict, refused, verdict, checkedAs, checkOf}
@@ -20,6 +21,10 @@ use Rattle.reader.specs.Answer.{attributesOf, sampleOf, seenOf, placedOf}
 use Rattle.reader.proofs.Order.{asked-refused}
 use Rattle.canonical.specs.Write.{outputIn, writtenOf, canonicalLengthOf, leftOf, Wrote}
 use Rattle.bulk.specs.Samples.{readOf, valuesOf, kindsIn, wholesIn, countRead}
+use Rattle.walk.specs.Says.{stepSays}
+use Rattle.walking.specs.Steps.{stepIn}
+use Rattle.walking.specs.Views.{viewIn}
+use Rattle.mfer.specs.Walks.{frameOut, noFrameValues, zeroChannel, channelOut, walkRead, walkValues}
 use Rattle.mfer.specs.Answers.{Outputs, outputs, handedOut, countOut, CanonicalOut, zeroAttributes, attributesOut, zeroSample, sampleOut}
 
 -- ---- a refused file
@@ -64,7 +69,7 @@ handed-exactly {A} {B} place values zeros (answered x) number at h =
 handed-exactly {A} {B} place values zeros (refusedAs m p) number at h =
     (λ e. λ i. refusedAs (e i .refusal) (e i .place), λ e. ap (handedOut place values zeros) e)
 
--- The six functions for C.
+-- The functions for C; mfer_walk_open hands out what mfer_check does. Those of a walk are said of any words.
 pub record HandedOut (s : List ℕ) : Type 0 where
   pub check : HandedExactly (countOut (checkOf s)) 0 (checkOf s)
   pub attributes : (i c : ℕ) → HandedExactly (attributesOut (attributesOf s i c)) zeroAttributes (attributesOf s i c)
@@ -73,6 +78,10 @@ pub record HandedOut (s : List ℕ) : Type 0 where
   pub canonicalLength : HandedExactly (countOut (canonicalLengthOf s)) 0 (canonicalLengthOf s)
   pub values : (i c n room : ℕ) → HandedExactly (countOut (mapAnswer length (valuesOf s i c n room))) 0 (mapAnswer length (valuesOf s i c n room))
   pub canonical : (d : List ℕ) → HandedExactly (countOut (writtenOf s d)) 0 (writtenOf s d)
+  pub walkNext : (u : List ℕ) → HandedExactly (frameOut (stepSays (stepIn s u .step))) noFrameValues (stepSays (stepIn s u .step))
+  pub walkChannel : (u : List ℕ) (c : ℕ) → HandedExactly (channelOut (viewIn u c)) zeroChannel (viewIn u c)
+  pub walkSamples : (u : List ℕ) (c n room : ℕ) → HandedExactly (countOut (mapAnswer length (walkRead s u c n room))) 0 (mapAnswer length (walkRead s u c n room))
+  pub walkValues : (u : List ℕ) (c n room : ℕ) → HandedExactly (countOut (mapAnswer length (walkValues s u c n room))) 0 (mapAnswer length (walkValues s u c n room))
 
 pub handed-out : (s : List ℕ) → HandedOut s
 handed-out s =
@@ -84,6 +93,10 @@ handed-out s =
       canonicalLength = handed-exactly _ _ _ (canonicalLengthOf s);
       values = λ i c n room. handed-exactly _ _ _ (mapAnswer length (valuesOf s i c n room));
       canonical = λ d. handed-exactly _ _ _ (writtenOf s d);
+      walkNext = λ u. handed-exactly _ _ _ (stepSays (stepIn s u .step));
+      walkChannel = λ u c. handed-exactly _ _ _ (viewIn u c);
+      walkSamples = λ u c n room. handed-exactly _ _ _ (mapAnswer length (walkRead s u c n room));
+      walkValues = λ u c n room. handed-exactly _ _ _ (mapAnswer length (walkValues s u c n room));
     }
 
 -- ---- buffers
@@ -111,7 +124,8 @@ unfolding handedOut
 handed-refusal (answered n) h = let z : ⊥ = omega arith in absurd z
 handed-refusal (refusedAs number place) h = (number, place, refl)
 
--- A refusal changes no octet of the output buffer: `write_canonical`, `mfer_canonical`, `bulk::samples`, `mfer_samples`, `bulk::values`, `mfer_values`.
+-- A refusal changes no octet of the output buffer: `write_canonical`, `mfer_canonical`, `bulk::samples`, `mfer_samples`, `bulk::values`, `mfer_values`,
+-- `mfer_walk_samples` and `mfer_walk_values`.
 pub record BuffersKept (s d : List ℕ) : Type 0 where
   pub canonical : (number place : ℕ) (left : List ℕ) → Wrote s d (refusedAs number place) left → left ≡ d
   pub canonicalOut : (out : Outputs ℕ) (left : List ℕ) → CanonicalOut s d out left → 0 < out .refusal → left ≡ d
@@ -119,6 +133,8 @@ pub record BuffersKept (s d : List ℕ) : Type 0 where
   pub samplesOut : (i c n : ℕ) → 0 < countOut (countRead s i c n (length d)) .refusal → leftBy (readOf s i c n (length d)) d ≡ d
   pub values : (i c n room number place : ℕ) (w : List ℤ) → mapAnswer length (valuesOf s i c n room) ≡ refusedAs number place → (leftBy (kindsIn (valuesOf s i c n room)) d ≡ d) × (leftBy (wholesIn (valuesOf s i c n room)) w ≡ w)
   pub valuesOut : (i c n room : ℕ) (w : List ℤ) → 0 < countOut (mapAnswer length (valuesOf s i c n room)) .refusal → (leftBy (kindsIn (valuesOf s i c n room)) d ≡ d) × (leftBy (wholesIn (valuesOf s i c n room)) w ≡ w)
+  pub walkSamples : (u : List ℕ) (c n number place : ℕ) → mapAnswer length (walkRead s u c n (length d)) ≡ refusedAs number place → leftBy (walkRead s u c n (length d)) d ≡ d
+  pub walkValues : (u : List ℕ) (c n room number place : ℕ) (w : List ℤ) → mapAnswer length (walkValues s u c n room) ≡ refusedAs number place → (leftBy (kindsIn (walkValues s u c n room)) d ≡ d) × (leftBy (wholesIn (walkValues s u c n room)) w ≡ w)
 
 module _ (s d : List ℕ) where
   -- By the writer's answer.
@@ -127,9 +143,8 @@ module _ (s d : List ℕ) where
   written-kept number place left a l = l ∙ plain-keeps (outputIn (length d) (verdict s)) d number place a
 
   -- Both buffers that values go to.
-  values-kept : (i c n room number place : ℕ) (w : List ℤ) → mapAnswer length (valuesOf s i c n room) ≡ refusedAs number place → (leftBy (kindsIn (valuesOf s i c n room)) d ≡ d) × (leftBy (wholesIn (valuesOf s i c n room)) w ≡ w)
-  values-kept i c n room number place w e =
-      (refusal-keeps (map (λ x. x .kind)) (valuesOf s i c n room) d number place e, refusal-keeps (map (λ x. x .whole)) (valuesOf s i c n room) w number place e)
+  values-kept : (x : Answer (List Said)) (number place : ℕ) (w : List ℤ) → mapAnswer length x ≡ refusedAs number place → (leftBy (kindsIn x) d ≡ d) × (leftBy (wholesIn x) w ≡ w)
+  values-kept x number place w e = (refusal-keeps (map (λ y. y .kind)) x d number place e, refusal-keeps (map (λ y. y .whole)) x w number place e)
 
   pub buffers-kept : BuffersKept s d
   unfolding countRead
@@ -139,6 +154,8 @@ module _ (s d : List ℕ) where
         canonicalOut = λ out left w h. let r = handed-refusal (writtenOf s d) (rw (w .answers) at h) in written-kept (r .0) (r .1) left (r .2) (w .leaves);
         samples = λ i c n number place e. plain-keeps (readOf s i c n (length d)) d number place e;
         samplesOut = λ i c n h. let r = handed-refusal (countRead s i c n (length d)) h in plain-keeps (readOf s i c n (length d)) d (r .0) (r .1) (r .2);
-        values = values-kept;
-        valuesOut = λ i c n room w h. let r = handed-refusal (mapAnswer length (valuesOf s i c n room)) h in values-kept i c n room (r .0) (r .1) w (r .2);
+        values = λ i c n room. values-kept (valuesOf s i c n room);
+        valuesOut = λ i c n room w h. let r = handed-refusal (mapAnswer length (valuesOf s i c n room)) h in values-kept (valuesOf s i c n room) (r .0) (r .1) w (r .2);
+        walkSamples = λ u c n number place e. plain-keeps (walkRead s u c n (length d)) d number place e;
+        walkValues = λ u c n room. values-kept (walkValues s u c n room);
       }
