@@ -8,7 +8,7 @@ ghost use Rattle.values.specs.Sample.{valueSays};
 ghost use Rattle.heads.specs.Answer.{mapAnswer, leftBy};
 ghost use Rattle.verdict.specs.Verdict.{checkOf};
 ghost use Rattle.reader.specs.Answer.{attributesOf, sampleOf};
-ghost use Rattle.bulk.specs.Samples.{readOf, valuesOf, kindsIn, wholesIn, countRead};
+ghost use Rattle.bulk.specs.Samples.{readSays, readOf, valuesOf, kindsIn, wholesIn, countRead};
 ghost use Rattle.canonical.specs.Write.{canonicalLengthOf};
 ghost use Rattle.mfer.specs.Answers.{outputs, countOut, CanonicalOut, numbersOf, bitPairOf, attributesValues, attributesOut, sampleValues, sampleOut};
 ghost use Prim.Native.Nat.{min};
@@ -176,6 +176,24 @@ pub extern "C" fn mfer_sample(
     }
 }
 
+// How many samples were read, or the refusal.
+fn read_out(r: Read, count: &mut u64, place: &mut u64) -> u32
+    ensures { λ n. ⌜ outputs n (now (place .exit)) (now (count .exit)) ≡ countOut (readSays r) ⌝ }
+{
+    match r {
+        Read::Samples(n) => {
+            *count = n as u64;
+            *place = 0;
+            0
+        }
+        Read::Refused(x) => {
+            *count = 0;
+            *place = x.place as u64;
+            x.number as u32
+        }
+    }
+}
+
 // The bits of a channel's samples from number `first` on, as the file has them, at the front of `out`: as many as fit or there are, and
 // how many. The rest of `out`, and at a refusal all of it, keeps what it held.
 #[no_mangle]
@@ -191,18 +209,11 @@ pub extern "C" fn mfer_samples(
     ensures { λ r. ⌜ outputs r (now (place .exit)) (now (count .exit)) ≡ countOut (countRead (now (file .entry)) frame channel first (length (now (out .entry)))) ⌝ }
     ensures { λ _. ⌜ now (out .exit) ≡ leftBy (readOf (now (file .entry)) frame channel first (length (now (out .entry)))) (now (out .entry)) ⌝ }
 {
-    match bulk::samples(file, frame, channel, first, out) {
-        Read::Samples(n) => {
-            *count = n as u64;
-            *place = 0;
-            0
-        }
-        Read::Refused(x) => {
-            *count = 0;
-            *place = x.place as u64;
-            x.number as u32
-        }
-    }
+    read_out(
+        bulk::samples(file, frame, channel, first, out),
+        count,
+        place,
+    )
 }
 
 // The values of a channel's samples from number `first` on, at the fronts of `kinds` and `wholes`: each sample's kind, as `mfer_sample` numbers
@@ -223,18 +234,11 @@ pub extern "C" fn mfer_values(
     ensures { λ _. ⌜ now (kinds .exit) ≡ leftBy (kindsIn (valuesOf (now (file .entry)) frame channel first (min (length (now (kinds .entry))) (length (now (wholes .entry)))))) (now (kinds .entry)) ⌝ }
     ensures { λ _. ⌜ now (wholes .exit) ≡ leftBy (wholesIn (valuesOf (now (file .entry)) frame channel first (min (length (now (kinds .entry))) (length (now (wholes .entry)))))) (now (wholes .entry)) ⌝ }
 {
-    match bulk::values(file, frame, channel, first, kinds, wholes) {
-        Read::Samples(n) => {
-            *count = n as u64;
-            *place = 0;
-            0
-        }
-        Read::Refused(x) => {
-            *count = 0;
-            *place = x.place as u64;
-            x.number as u32
-        }
-    }
+    read_out(
+        bulk::values(file, frame, channel, first, kinds, wholes),
+        count,
+        place,
+    )
 }
 
 // The length of the canonical file of a file. Nothing is written.

@@ -147,23 +147,8 @@ pub extern "C" fn mfer_walk_samples(
     ensures { λ _. ⌜ now (out .exit) ≡ leftBy (walkRead (now (file .entry)) (now (walk .entry)) channel first (length (now (out .entry)))) (now (out .entry)) ⌝ }
 {
     match walking::view_at(walk, channel) {
-        LookedUp::Refused(x) => {
-            *count = 0;
-            *place = x.place as u64;
-            x.number as u32
-        }
-        LookedUp::Channel(v) => match bulk::seen(file, v, first, out) {
-            Read::Samples(n) => {
-                *count = n as u64;
-                *place = 0;
-                0
-            }
-            Read::Refused(x) => {
-                *count = 0;
-                *place = x.place as u64;
-                x.number as u32
-            }
-        },
+        LookedUp::Refused(x) => crate::read_out(Read::Refused(x), count, place),
+        LookedUp::Channel(v) => crate::read_out(bulk::seen(file, v, first, out), count, place),
     }
 }
 
@@ -184,22 +169,11 @@ pub extern "C" fn mfer_walk_values(
     ensures { λ _. ⌜ now (wholes .exit) ≡ leftBy (wholesIn (walkValues (now (file .entry)) (now (walk .entry)) channel first (min (length (now (kinds .entry))) (length (now (wholes .entry)))))) (now (wholes .entry)) ⌝ }
 {
     match walking::view_at(walk, channel) {
-        LookedUp::Refused(x) => {
-            *count = 0;
-            *place = x.place as u64;
-            x.number as u32
-        }
-        LookedUp::Channel(v) => match bulk::values_seen(file, v, first, kinds, wholes) {
-            Read::Samples(told) => {
-                *count = told as u64;
-                *place = 0;
-                0
-            }
-            Read::Refused(x) => {
-                *count = 0;
-                *place = x.place as u64;
-                x.number as u32
-            }
-        },
+        LookedUp::Refused(x) => crate::read_out(Read::Refused(x), count, place),
+        LookedUp::Channel(v) => crate::read_out(
+            bulk::values_seen(file, v, first, kinds, wholes),
+            count,
+            place,
+        ),
     }
 }

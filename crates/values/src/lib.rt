@@ -217,9 +217,9 @@ impl Meaning {
     pub fn tell(self, bits: u64) -> Telling
         ensures { λ r. ⌜ r ≡ toldOf self bits ⌝ }
     {
-        let null = self.null;
-        if null.width != 0 {
-            if null.bits == bits {
+        let missing = self.null;
+        if missing.width != 0 {
+            if missing.bits == bits {
                 return Telling { kind: 5, whole: 0 };
             }
         }

@@ -1,12 +1,12 @@
 -- By the channel that is looked up, and by the answer of the reading.
-use mathlib.Core.Path.{sym, ap, _∙_}
+use mathlib.Core.Path.{ap, _∙_}
 use mathlib.Core.List.{List}
 use Prim.Native.Nat.{ℕ, min}
 use lib.ListN.{length}
 use Rattle.values.specs.Sample.{Said}
 use Rattle.heads.specs.Answer.{Answer, mapAnswer, leftBy}
-use Rattle.bulk.specs.Samples.{readSays, valuesSeen, kindsIn, wholesIn}
-use Rattle.mfer.specs.Answers.{Outputs, handedOut, countOut}
+use Rattle.bulk.specs.Samples.{valuesSeen, kindsIn, wholesIn}
+use Rattle.mfer.specs.Answers.{Outputs, countOut}
 use Rattle.mfer.proofs.Handed.{walk-refused, walk-seen}
 use borrow.Author.Needs.{needs}
 use Rattle.mfer.proofs.walks.mfer_walk_values.Statement.{statement}
@@ -18,8 +18,8 @@ view-at-requires c κs = search needs
 enum-known-x : tie.Need-enum-known-x
 enum-known-x c = search needs
 
-cast-result : tie.Need-cast-result
-cast-result c = search needs
+read-out-requires : tie.Need-read-out-requires
+read-out-requires c κs = search needs
 
 enum-known-v : tie.Need-enum-known-v
 enum-known-v c = search needs
@@ -27,25 +27,19 @@ enum-known-v c = search needs
 values-seen-requires : tie.Need-values-seen-requires
 values-seen-requires c κs = search needs
 
-enum-known-told : tie.Need-enum-known-told
-enum-known-told c = search needs
-
-enum-known-x-2 : tie.Need-enum-known-x-2
-enum-known-x-2 c = search needs
-
-cast-result-2 : tie.Need-cast-result-2
-cast-result-2 c = search needs
+read-out-requires-2 : tie.Need-read-out-requires-2
+read-out-requires-2 c κs = search needs
 
 abbrev count : Answer (List Said) → Outputs ℕ
 count a = countOut (mapAnswer length a)
 
 returns : tie.Need-returns
-unfolding handedOut leftBy
+unfolding leftBy
 returns c =
-    let a = c .before .before .before .before .before .before .before .before .args in
+    let a = c .before .before .before .before .before .before .before .before .before .before .args in
     let room = min (length (a .kinds .now)) (length (a .wholes .now)) in
-    let is = walk-refused (λ v. valuesSeen (a .file .now) v (a .first) room) (a .walk .now) (a .channel) (c .before .before .before .before .view-at .ensures) (c .before .before .x .given .1) in
-    (ap count is, (ap (λ (y : Answer (List Said)). leftBy (kindsIn y) (a .kinds .now)) is, ap (λ (y : Answer (List Said)). leftBy (wholesIn y) (a .wholes .now)) is))
+    let is = walk-refused (λ v. valuesSeen (a .file .now) v (a .first) room) (a .walk .now) (a .channel) (c .before .before .before .before .before .before .view-at .ensures) (c .before .before .before .before .x .given .1) in
+    (c .read-out .ensures ∙ ap count is, (ap (λ (y : Answer (List Said)). leftBy (kindsIn y) (a .kinds .now)) is, ap (λ (y : Answer (List Said)). leftBy (wholesIn y) (a .wholes .now)) is))
 
 same-length : tie.Need-same-length
 same-length c = search needs
@@ -54,38 +48,12 @@ same-length-2 : tie.Need-same-length-2
 same-length-2 c = search needs
 
 returns-2 : tie.Need-returns-2
-unfolding handedOut
 returns-2 c =
     let a = c .before .before .before .before .before .before .before .before .before .before .before .before .before .before .before .before .args in
     let room = min (length (a .kinds .now)) (length (a .wholes .now)) in
     let is = walk-seen (λ v. valuesSeen (a .file .now) v (a .first) room) (a .walk .now) (a .channel) (c .before .before .before .before .before .before .before .before .before .before .before .before .view-at .ensures) (c .before .before .before .before .before .before .before .before .before .before .v .given .1) in
-    let read = c .before .before .before .before .before .before .values-seen .ensures in (
-      ap countOut (ap readSays (sym (c .before .told .given .1)) ∙ read .0) ∙ ap count is,
-      (
-        read .1 .0 ∙ ap (λ (y : Answer (List Said)). leftBy (kindsIn y) (a .kinds .now)) is,
-        read .1 .1 ∙ ap (λ (y : Answer (List Said)). leftBy (wholesIn y) (a .wholes .now)) is,
-      ),
-    )
-
-same-length-3 : tie.Need-same-length-3
-same-length-3 c = search needs
-
-same-length-4 : tie.Need-same-length-4
-same-length-4 c = search needs
-
-returns-3 : tie.Need-returns-3
-unfolding handedOut
-returns-3 c =
-    let a = c .before .before .before .before .before .before .before .before .before .before .before .before .before .before .before .before .before .args in
-    let room = min (length (a .kinds .now)) (length (a .wholes .now)) in
-    let is = walk-seen (λ v. valuesSeen (a .file .now) v (a .first) room) (a .walk .now) (a .channel) (c .before .before .before .before .before .before .before .before .before .before .before .before .before .view-at .ensures) (c .before .before .before .before .before .before .before .before .before .before .before .v .given .1) in
-    let read = c .before .before .before .before .before .before .before .values-seen .ensures in (
-      ap countOut (ap readSays (sym (c .before .before .x2 .given .1)) ∙ read .0) ∙ ap count is,
-      (
-        read .1 .0 ∙ ap (λ (y : Answer (List Said)). leftBy (kindsIn y) (a .kinds .now)) is,
-        read .1 .1 ∙ ap (λ (y : Answer (List Said)). leftBy (wholesIn y) (a .wholes .now)) is,
-      ),
-    )
+    let read = c .before .before .before .before .before .before .values-seen .ensures in
+    (c .read-out2 .ensures ∙ ap countOut (read .0) ∙ ap count is, (read .1 .0 ∙ ap (λ (y : Answer (List Said)). leftBy (kindsIn y) (a .kinds .now)) is, read .1 .1 ∙ ap (λ (y : Answer (List Said)). leftBy (wholesIn y) (a .wholes .now)) is))
 
 pub mfer-walk-values-spec : {M : Type 1} → statement M
 mfer-walk-values-spec =
@@ -93,16 +61,11 @@ mfer-walk-values-spec =
     (tie.spec
     view-at-requires
     enum-known-x
-    cast-result
+    read-out-requires
     enum-known-v
     values-seen-requires
-    enum-known-told
-    enum-known-x-2
-    cast-result-2
+    read-out-requires-2
     returns
     same-length
     same-length-2
-    returns-2
-    same-length-3
-    same-length-4
-    returns-3)
+    returns-2)
