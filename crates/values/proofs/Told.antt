@@ -14,7 +14,7 @@ use borrow.Author.Tests.{lt-ltb, le-ltb, le-leb, lt-leb, eq-eqb, ne-eqb}
 use lib.Dec.{ltb}
 use lib.Ieee.{Format, binary32, binary64, nanBits, ones, hid, top}
 use lib.Ieee.Bits.{nanBits-above}
-use lib.IntN.{pos, negsuc}
+use lib.IntN.{pos}
 use lib.ListN.{List·getD-eq-default}
 use Rattle.octets.specs.Pick.{pick}
 use Rattle.octets.proofs.Pick.{both-false}
