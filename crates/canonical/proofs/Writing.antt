@@ -21,9 +21,8 @@ use mir.Val.{SFits, toZ, ofZ}
 use mir.Facts.{toZ-ofZ}
 use Rattle.octets.specs.Number.{Octets}
 use Rattle.octets.proofs.Laws.{take-octets, drop-octets}
-use Rattle.items.specs.declared.Cursor.{Cursor}
 use Rattle.heads.specs.declared.Refusal.{Refusal}
-use Rattle.items.specs.Walk.{itemsFrom, cursor}
+use Rattle.items.specs.Walk.{cursor}
 use Rattle.stores.specs.Length.{shortest}
 use Rattle.stores.specs.Storing.{Put, Putting, put-fits}
 use Rattle.stores.proofs.Stores.{put-then, put-long}
@@ -33,7 +32,7 @@ use Rattle.layout.specs.Frame.{Frame, samplesOctets, reported}
 use Rattle.layout.specs.Size.{groupsSize, frameSize}
 use Rattle.standing.specs.Standing.{octetsLimit}
 use Rattle.effects.specs.Effects.{valueAt}
-use Rattle.verdict.specs.Verdict.{State, state, accepted, refused, interpret, verdict}
+use Rattle.verdict.specs.Verdict.{accepted, refused, verdict}
 use Rattle.pass.specs.Scan.{zeroFrame, sizeOf, sizes}
 use Rattle.framing.proofs.Framings.{pointer-small}
 use Rattle.dated.specs.Dated.{held}
@@ -42,7 +41,7 @@ use Rattle.layout.proofs.Laws.{take-few}
 use Rattle.walk.specs.declared.Waveform.{Waveform}
 use Rattle.walk.specs.declared.Step.{Step}
 use Rattle.walk.proofs.Step.{the-type}
-use Rattle.walk.specs.Advance.{Stand, standsFor, Stop, stop, advanceOf}
+use Rattle.walk.specs.Advance.{Stand, Stop, stop, advanceOf}
 use Rattle.walk.specs.Joined.{frameBy}
 use Rattle.walk.proofs.Joins.{Reaches, StepReaches, reaches-grown, advance-reaches}
 use Rattle.reader.proofs.Ordered.{Lies, accepted-lies, accepted-small}

@@ -7,13 +7,13 @@ use mathlib.Core.Path.{_≡_, refl, sym, ap, subst, _∙_}
 use mathlib.Core.Bool.{Bool, true, false}
 use mathlib.Core.Logic.{inl}
 use mathlib.Core.List.{List}
-use Prim.Native.Nat.{ℕ, zero, suc, _+_, _*_, _≤_, _<_, min}
+use Prim.Native.Nat.{ℕ, _+_, _*_, _≤_, _<_, min}
 use native.Mathlib.Nat.{le-refl, not-suc-le-zero}
 use native.Mathlib.Numerals.{add-one}
 use native.Mathlib.Omega.{arith}
 use borrow.Author.Tests.{ltb-true, ltb-false}
 use lib.Dec.{ltb}
-use lib.ListN.{length, take, getD, set, length-set}
+use lib.ListN.{length, getD, set, length-set}
 use lib.Seq.{getD-set-same, getD-set-other, take-take}
 use Rattle.settings.specs.declared.Settings.{Settings}
 use Rattle.settings.specs.Settings.{channelLimit}
@@ -26,7 +26,7 @@ use Rattle.layout.specs.declared.Layout.{Layout}
 use Rattle.layout.specs.Frame.{sequenceOctets, octetsBelow}
 use Rattle.layout.specs.Measure.{noLayout, More}
 use Rattle.layout.proofs.Laws.{Summing, summing-start, summed-below}
-use Rattle.records.specs.Records.{recordWords, belowWord, recordsHeld, recordsIn, channelsIn, belowIn, Holding, Refreshed}
+use Rattle.records.specs.Records.{recordWords, belowWord, recordsIn, channelsIn, belowIn, Holding, Refreshed}
 use Rattle.records.proofs.Laws.{records-long, below-aside, holding-same}
 use Rattle.records.proofs.Channels.{layout-more, laid-out}
 

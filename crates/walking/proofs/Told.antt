@@ -1,8 +1,8 @@
 -- What words tell of a frame is what the questions answer.
 --     walked-seen     the channel of the frame that the last step told of, for any channel number
 -- Assumes nothing.
-use mathlib.Core.Path.{_≡_, refl, sym, ap, _∙_}
-use mathlib.Core.Bool.{Bool, true, false}
+use mathlib.Core.Path.{_≡_, sym, ap, _∙_}
+use mathlib.Core.Bool.{Bool, true}
 use mathlib.Core.List.{List, [], _∷_, _++_, append-assoc}
 use Prim.Native.Nat.{ℕ, suc, _+_, _<_}
 use native.Mathlib.Omega.{arith}
@@ -18,7 +18,6 @@ use Rattle.layout.specs.Frame.{Frame}
 use Rattle.view.specs.declared.View.{View}
 use Rattle.view.specs.View.{viewOf}
 use Rattle.pass.specs.Scan.{zeroFrame}
-use Rattle.verdict.specs.Verdict.{Verdict, accepted, verdict}
 use Rattle.reader.specs.Answer.{asked, seenOf}
 use Rattle.reader.proofs.Ordered.{accepted-lies}
 use Rattle.walk.specs.declared.Waveform.{Waveform}

@@ -1,10 +1,8 @@
 -- By the tests, one after the other.
-use mathlib.Core.Path.{_≡_, sym, ap, _∙_}
-use Prim.Native.Nat.{ℕ, _≤_, _<_}
+use mathlib.Core.Path.{ap, _∙_}
 use native.Mathlib.Omega.{arith}
 use Rattle.heads.specs.Answer.{answered}
 use Rattle.walk.specs.declared.Waveform.{Waveform}
-use Rattle.walking.specs.Words.{waveformIn}
 use Rattle.walking.proofs.Views.{view-few, view-none, view-past, view-there}
 use borrow.Author.Needs.{needs}
 use Rattle.walking.proofs.view_at.Statement.{statement}

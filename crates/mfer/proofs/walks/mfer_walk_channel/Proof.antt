@@ -1,6 +1,5 @@
 -- By the channel that is looked up.
 use mathlib.Core.Path.{sym, ap, _∙_}
-use Rattle.reader.specs.declared.Attributes.{Attributes}
 use Rattle.reader.specs.Answer.{lookedUpSays}
 use Rattle.mfer.specs.Answers.{outputs, handedOut, numbersOf, bitPairOf}
 use Rattle.mfer.specs.Walks.{channelValues, channelOut}
