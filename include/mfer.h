@@ -318,14 +318,14 @@ uint32_t mfer_values(const uint8_t *file, size_t file_len, uint32_t frame, uint3
  *
  * mfer_walk_open checks the file and begins the walk, mfer_walk_next goes to the next frame,
  * mfer_walk_channel, mfer_walk_samples and mfer_walk_values tell of the channels of the frame that the
- * walk is at. The walk is kept in an array of the caller's, `uint64_t walk[MFER_WALK]`, 33,280 octets: nothing has to
- * be set in it before it is opened, and nothing freed afterwards. It holds numbers and no pointers. A
- * copy of it is a walk of its own that goes on from the same frame, and it may be opened again, for
- * the same file or another.
+ * walk is at. The walk is kept in an array of the caller's, `uint64_t walk[MFER_WALK]`, 33,280 octets:
+ * nothing has to be set in it before it is opened, and nothing freed afterwards. It holds numbers and
+ * no pointers. A copy of it is a walk of its own that goes on from the same frame, and it may be
+ * opened again, for the same file or another.
  *
- * What is told of an opened file is what mfer_attributes and mfer_samples tell of it, frame by frame.
- * For this the file must have the same octets in every call as in mfer_walk_open; it may have moved
- * to another address.
+ * What is told of an opened file is what mfer_attributes, mfer_samples and mfer_values tell of it,
+ * frame by frame. For this the file must have the same octets in every call as in mfer_walk_open; it
+ * may have moved to another address.
  *
  * Whatever is in the array and whatever file is handed in, each call ends, and nothing outside the
  * file and the arrays is read or written. But where the array is no opened walk, or the file another,

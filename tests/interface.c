@@ -414,6 +414,29 @@ static void expect_walk_end(const uint8_t *file, size_t file_len, uint64_t *walk
         EXPECT(frame[i] == 0);
 }
 
+/* Both buffers of the values by a walk keep what they held, and buffers of no length may be null. */
+static void expect_walk_lacks_values(const uint8_t *file, size_t file_len, const uint64_t *walk,
+                                     uint32_t channel, uint64_t first, uint32_t refusal)
+{
+    uint64_t place = UNSET, count = UNSET;
+    uint8_t kinds[3];
+    int64_t wholes[3];
+    size_t i;
+
+    memset(kinds, 0xA5, sizeof kinds);
+    memset(wholes, 0xA5, sizeof wholes);
+    EXPECT(mfer_walk_values(file, file_len, walk, channel, first, kinds, SIZE(kinds), wholes,
+                            SIZE(wholes), &count, &place) == refusal);
+    EXPECT(count == 0 && place == 0);
+    for (i = 0; i < SIZE(kinds); i++)
+        EXPECT(kinds[i] == 0xA5 && (uint64_t)wholes[i] == UNSET);
+
+    place = count = UNSET;
+    EXPECT(mfer_walk_values(file, file_len, walk, channel, first, NULL, 0, NULL, 0, &count, &place) ==
+           refusal);
+    EXPECT(count == 0 && place == 0);
+}
+
 /* The walk answers this refusal to the questions for a channel and its samples. */
 static void expect_walk_lacks(const uint8_t *file, size_t file_len, const uint64_t *walk,
                               uint32_t channel, uint64_t first, uint32_t refusal)
@@ -443,6 +466,7 @@ static void expect_walk_lacks(const uint8_t *file, size_t file_len, const uint64
     EXPECT(mfer_walk_samples(file, file_len, walk, channel, first, NULL, 0, &count, &place) ==
            refusal);
     EXPECT(count == 0 && place == 0);
+    expect_walk_lacks_values(file, file_len, walk, channel, first, refusal);
 }
 
 /* The place of a sample by what a walk says of its frame and its channel. */
@@ -463,7 +487,39 @@ static uint64_t bits_of(const uint8_t *octets, uint64_t width, int little)
     return bits;
 }
 
-/* A channel by the walk is what mfer_attributes, mfer_sample and mfer_samples tell. */
+/* The values of a channel by the walk are what mfer_values tells, in pieces of 7, up to the refusal. */
+static void same_values(const uint8_t *file, size_t file_len, const uint64_t *walk, uint32_t number,
+                        uint32_t channel, uint64_t samples)
+{
+    uint8_t kinds[7], kinds_asked[7];
+    int64_t wholes[7], wholes_asked[7];
+    uint64_t count = UNSET, count_asked, place, first = 0;
+    uint32_t refusal;
+
+    do {
+        place = UNSET;
+        memset(kinds, 0xA5, sizeof kinds);
+        memset(wholes, 0xA5, sizeof wholes);
+        memset(kinds_asked, 0xA5, sizeof kinds_asked);
+        memset(wholes_asked, 0xA5, sizeof wholes_asked);
+        refusal = mfer_walk_values(file, file_len, walk, channel, first, kinds, SIZE(kinds), wholes,
+                                   SIZE(wholes), &count, &place);
+        EXPECT(place == 0);
+        EXPECT(mfer_values(file, file_len, number, channel, first, kinds_asked, SIZE(kinds_asked),
+                           wholes_asked, SIZE(wholes_asked), &count_asked, &place) == refusal);
+        EXPECT(count == count_asked && memcmp(kinds, kinds_asked, sizeof kinds) == 0);
+        EXPECT(memcmp(wholes, wholes_asked, sizeof wholes) == 0);
+        first += count;
+    } while (refusal == MFER_OK && count > 0);
+    EXPECT(refusal == MFER_NO_SAMPLE && first == samples);
+    if (samples > 0) {
+        EXPECT(mfer_walk_values(file, file_len, walk, channel, 0, NULL, 0, NULL, 0, &count, &place) ==
+               MFER_OK);
+        EXPECT(count == 0 && place == 0);
+    }
+}
+
+/* A channel by the walk is what mfer_attributes, mfer_sample, mfer_samples and mfer_values tell. */
 static void same_channel(const uint8_t *file, size_t file_len, const uint64_t *walk, uint32_t number,
                          const uint64_t *frame, uint32_t channel)
 {
@@ -501,6 +557,7 @@ static void same_channel(const uint8_t *file, size_t file_len, const uint64_t *w
         first += count;
     } while (refusal == MFER_OK && count > 0);
     EXPECT(refusal == MFER_NO_SAMPLE && first == samples);
+    same_values(file, file_len, walk, number, channel, samples);
     expect_walk_lacks(file, file_len, walk, channel, samples, MFER_NO_SAMPLE);
     expect_walk_lacks(file, file_len, walk, channel, UINT64_MAX, MFER_NO_SAMPLE);
     if (samples > 0) {
@@ -610,6 +667,42 @@ static void walk_numbers(void)
     EXPECT(start == 0 && memcmp(frame, little, sizeof frame) == 0);
 }
 
+/* Each kind of value by a walk; the shorter buffer decides how many. */
+static void walk_values(void)
+{
+    uint64_t walk[MFER_WALK], frames, frame[MFER_FRAME_NUMBERS], place = UNSET, count = UNSET;
+    int64_t start, wholes[4];
+    uint8_t kinds[4];
+
+    EXPECT(mfer_walk_open(FLOATS, sizeof FLOATS, walk, &frames, &place) == MFER_OK);
+    EXPECT(mfer_walk_next(FLOATS, sizeof FLOATS, walk, &start, frame, &place) == MFER_OK);
+    memset(kinds, 0xA5, sizeof kinds);
+    memset(wholes, 0xA5, sizeof wholes);
+    place = UNSET;
+    EXPECT(mfer_walk_values(FLOATS, sizeof FLOATS, walk, 0, 0, kinds, 4, wholes, 2, &count, &place) ==
+           MFER_OK);
+    EXPECT(count == 2 && place == 0);
+    EXPECT(kinds[0] == MFER_NULL && kinds[1] == MFER_NOT_NUMBER && kinds[2] == 0xA5);
+    EXPECT(wholes[0] == 0 && wholes[1] == 0 && (uint64_t)wholes[2] == UNSET);
+    EXPECT(mfer_walk_values(FLOATS, sizeof FLOATS, walk, 0, 2, kinds, 1, wholes, 4, &count, &place) ==
+           MFER_OK);
+    EXPECT(count == 1 && kinds[0] == MFER_SINGLE && kinds[1] == MFER_NOT_NUMBER);
+    EXPECT(wholes[0] == 0 && (uint64_t)wholes[2] == UNSET);
+    EXPECT(mfer_walk_next(FLOATS, sizeof FLOATS, walk, &start, frame, &place) == MFER_OK);
+    EXPECT(mfer_walk_values(FLOATS, sizeof FLOATS, walk, 0, 0, kinds, 4, wholes, 4, &count, &place) ==
+           MFER_OK);
+    EXPECT(count == 1 && kinds[0] == MFER_DOUBLE && wholes[0] == 0);
+
+    EXPECT(mfer_walk_open(P2, sizeof P2, walk, &frames, &place) == MFER_OK);
+    EXPECT(mfer_walk_next(P2, sizeof P2, walk, &start, frame, &place) == MFER_OK);
+    EXPECT(mfer_walk_values(P2, sizeof P2, walk, 1, 0, kinds, 4, wholes, 4, &count, &place) == MFER_OK);
+    EXPECT(count == 1 && kinds[0] == MFER_WHOLE && wholes[0] == -1);
+    EXPECT(mfer_walk_values(P2, sizeof P2, walk, 0, 0, kinds, 4, NULL, 0, &count, &place) == MFER_OK);
+    EXPECT(count == 0 && place == 0);
+    EXPECT(mfer_walk_values(P2, sizeof P2, walk, 0, 0, NULL, 0, wholes, 4, &count, &place) == MFER_OK);
+    EXPECT(count == 0 && place == 0 && wholes[0] == -1);
+}
+
 /* As many frames as there may be, of as many channels. */
 static void walk_over_the_most_frames(void)
 {
@@ -677,6 +770,8 @@ static void walk_over_another_file(void)
         EXPECT(mfer_walk_samples(P2, i, walk, 0, 0, out, SIZE(out), &count, &place) == MFER_NO_FRAME);
         EXPECT(count == 0 && place == 0 && out[0] == UNSET);
         EXPECT(mfer_walk_samples(P2, i, walk, 0, 2, out, SIZE(out), &count, &place) == MFER_NO_SAMPLE);
+        expect_walk_lacks_values(P2, i, walk, 0, 0, MFER_NO_FRAME);
+        expect_walk_lacks_values(P2, i, walk, 0, 2, MFER_NO_SAMPLE);
     }
     expect_walk_end(NULL, 0, walk);
 }
@@ -707,6 +802,29 @@ static uint64_t random_word(void)
     case 3: return number % 50;
     default: return number % 4;
     }
+}
+
+/* Whatever the words are: values are told, as many of them, or refused just as the samples are. The
+   buffers' memory ends with them. */
+static void expect_safe_values(const uint8_t *file, size_t file_len, const uint64_t *walk,
+                               uint32_t channel, uint64_t first, uint32_t refusal, uint64_t samples)
+{
+    const size_t room = 40;
+    uint8_t *kinds = (uint8_t *)malloc(room);
+    int64_t *wholes = (int64_t *)malloc(room * sizeof *wholes);
+    uint64_t count = UNSET, place = UNSET, i;
+
+    memset(kinds, 0xA5, room);
+    memset(wholes, 0xA5, room * sizeof *wholes);
+    EXPECT(mfer_walk_values(file, file_len, walk, channel, first, kinds, room, wholes, room, &count,
+                            &place) == refusal);
+    EXPECT(count == samples && place == 0);
+    for (i = 0; i < count; i++)
+        EXPECT(kinds[i] <= MFER_NULL && (kinds[i] == MFER_WHOLE || wholes[i] == 0));
+    for (i = count; i < room; i++)
+        EXPECT(kinds[i] == 0xA5 && (uint64_t)wholes[i] == UNSET);
+    free(wholes);
+    free(kinds);
 }
 
 /*
@@ -743,6 +861,7 @@ static void expect_safe(const uint8_t *file, size_t file_len, const uint64_t *wa
     for (i = count; i < room; i++)
         EXPECT(out[i] == UNSET);
     free(out);
+    expect_safe_values(file, file_len, walk, channel, first, refusal, count);
 }
 
 /* Goes on from any words for some steps. How many steps told of a frame. */
@@ -920,6 +1039,7 @@ int main(int argc, char **argv)
     run("values_in_bulk", values_in_bulk);
     run("walk_tells_the_same", walk_tells_the_same);
     run("walk_numbers", walk_numbers);
+    run("walk_values", walk_values);
     run("walk_over_the_most_frames", walk_over_the_most_frames);
     run("walk_copied", walk_copied);
     run("walk_over_another_file", walk_over_another_file);

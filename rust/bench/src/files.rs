@@ -79,7 +79,6 @@ fn set_channels(channels: u32, sequences: usize, before: impl Fn(u32) -> Vec<u8>
 }
 
 /// One frame of eight channels of two octets, big-endian, with blocks of one sample.
-#[cfg(feature = "values")]
 pub fn eight_channels() -> Vec<u8> {
     let mut file = vec![0x05, 1, 8];
     waveform(&mut file, WAVEFORM);

@@ -13,7 +13,6 @@ mod race;
 use count::Once;
 use files::Order;
 use mfer::ffi;
-use native::Walk;
 use race::{Against, Course};
 use second::{reader, writer};
 use std::env;
@@ -35,7 +34,6 @@ const NANOSECONDS: f64 = 10.0;
 const SHORT_OF_ONE: f64 = 5.0;
 const SHORT_OF_TWELVE: f64 = 2.0;
 /// Values cost at most so many times a plain loop in C.
-#[cfg(feature = "values")]
 const LOOP: f64 = 2.0;
 
 /// Builds a file, only where its row is run.
@@ -127,7 +125,6 @@ fn run(course: &mut Course) {
     short_canonicals(course);
     samples(course);
     walks(course);
-    #[cfg(feature = "values")]
     values(course);
 }
 
@@ -387,16 +384,20 @@ fn walks(course: &mut Course) {
 /// The sum of all samples of an accepted file, by the library's walk; each channel's attributes are
 /// asked for too.
 fn walked(file: &[u8], out: &mut [u64]) -> u64 {
-    let mut walk = Walk::open(file).expect("an accepted file");
+    let mut walk = [0; ffi::WALK];
+    assert_eq!(ffi::walk_open(file, &mut walk).number, 0);
     let mut sum = 0;
-    while let Some(channels) = walk.next() {
-        for channel in 0..channels {
-            black_box(walk.channel(channel));
-            let count = walk.samples(channel, out);
-            sum = summed(sum, &out[..count]);
+    loop {
+        let stepped = ffi::walk_next(file, &mut walk);
+        if stepped.number != 0 {
+            return sum;
+        }
+        for channel in 0..stepped.frame[0] as u32 {
+            black_box(ffi::walk_channel(&walk, channel));
+            let filled = ffi::walk_samples(file, &walk, channel, 0, out);
+            sum = summed(sum, &out[..filled.count as usize]);
         }
     }
-    sum
 }
 
 /// The same by the second program.
@@ -417,7 +418,6 @@ fn summed(sum: u64, bits: &[u64]) -> u64 {
 
 /// The values of eight channels, each sample of which lies between those of the others, beside a loop
 /// that knows where they lie and what they are.
-#[cfg(feature = "values")]
 fn values(course: &mut Course) {
     let what = "values: 8 channels, blocks of 1";
     let Some(row) = course.row(what, Against::Loop, Some(LOOP)) else {
@@ -428,7 +428,7 @@ fn values(course: &mut Course) {
     let file = files::eight_channels();
     let waveform = &file[file.len() - files::WAVEFORM..];
     let (mut kinds, mut wholes, mut widened) = (vec![1; COUNT], vec![0; COUNT], vec![0; COUNT]);
-    native::values(&file, 0, 1, &mut kinds, &mut wholes);
+    ffi::values(&file, 0, 1, 0, &mut kinds, &mut wholes);
     native::widened(&waveform[2..], 2 * CHANNELS, &mut widened);
     assert!(wholes == widened && kinds.iter().all(|kind| *kind == 0));
     course.with_buffers(
@@ -436,8 +436,8 @@ fn values(course: &mut Course) {
         || (vec![0u8; COUNT], vec![0i64; COUNT]),
         |(kinds, wholes)| {
             for channel in 0..CHANNELS as u32 {
-                let count = native::values(black_box(&file), 0, channel, kinds, wholes);
-                assert_eq!(count, COUNT);
+                let filled = ffi::values(black_box(&file), 0, channel, 0, kinds, wholes);
+                assert_eq!(filled.count, COUNT as u64);
                 black_box((&kinds, &wholes));
             }
         },

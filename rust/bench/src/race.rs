@@ -195,7 +195,6 @@ pub enum Against {
     Stepped,
     Nanosecond,
     /// A plain loop in C.
-    #[cfg(feature = "values")]
     Loop,
 }
 
@@ -207,7 +206,6 @@ impl Against {
             Against::Itself => "itself",
             Against::Stepped => "stepped",
             Against::Nanosecond => "1 ns",
-            #[cfg(feature = "values")]
             Against::Loop => "loop",
         }
     }

@@ -74,7 +74,9 @@ fn ask_channel(file: &[u8], frame: u32, channel: u32) -> Agreed {
         ask_sample(file, frame, channel, 0)?;
         ask_sample(file, frame, channel, u64::MAX)?;
         ask_samples(file, frame, channel, 0, 0)?;
-        return ask_samples(file, frame, channel, u64::MAX, 2);
+        ask_samples(file, frame, channel, u64::MAX, 2)?;
+        ask_values(file, frame, channel, 0, [0, 0])?;
+        return ask_values(file, frame, channel, u64::MAX, [2, 3]);
     };
     let block = u64::from(read.block);
     let count = block * u64::from(read.sequences);
@@ -93,8 +95,12 @@ fn ask_channel(file: &[u8], frame: u32, channel: u32) -> Agreed {
         (count, 2),
         (u64::MAX, 1),
     ];
-    for (first, room) in bulks {
-        ask_samples(file, frame, channel, first, room as usize)?;
+    // Buffers of values as long as each other, the first longer, the second longer.
+    let longer = [[0, 0], [2, 0], [0, 1]].into_iter().cycle();
+    for ((first, room), longer) in bulks.into_iter().zip(longer) {
+        let room = room as usize;
+        ask_samples(file, frame, channel, first, room)?;
+        ask_values(file, frame, channel, first, longer.map(|more| room + more))?;
     }
     Ok(())
 }
@@ -121,6 +127,39 @@ fn ask_samples(file: &[u8], frame: u32, channel: u32, first: u64, room: usize) -
         || format!("samples from {first}, room for {room}, of frame {frame}, channel {channel}");
     same(question, answer, expected_count(&expected))?;
     same(question, proved, second)
+}
+
+/// Values in buffers of these lengths.
+fn ask_values(file: &[u8], frame: u32, channel: u32, first: u64, rooms: [usize; 2]) -> Agreed {
+    let question =
+        || format!("values from {first}, room for {rooms:?}, of frame {frame}, channel {channel}");
+    same_values(
+        question,
+        rooms,
+        |kinds, wholes| ffi::values(file, frame, channel, first, kinds, wholes),
+        |values| reader::values(file, frame, channel, first, values),
+    )
+}
+
+/// Compares kinds and whole numbers in buffers of these lengths; the shorter one decides how many.
+fn same_values(
+    question: impl Fn() -> String,
+    rooms: [usize; 2],
+    proved: impl FnOnce(&mut [u8], &mut [i64]) -> Filled,
+    second: impl FnOnce(&mut [Value]) -> Result<usize, Refusal>,
+) -> Agreed {
+    let before = (vec![OCTET; rooms[0]], vec![PATTERN as i64; rooms[1]]);
+    let (mut kinds, mut wholes) = before.clone();
+    let answer = proved(&mut kinds, &mut wholes);
+    let mut values = vec![Value::Null; rooms[0].min(rooms[1])];
+    let expected = second(&mut values);
+    let (mut expected_kinds, mut expected_wholes) = before;
+    for (number, value) in values.iter().take(expected.unwrap_or(0)).enumerate() {
+        (expected_kinds[number], expected_wholes[number]) = told(value);
+    }
+    same(&question, answer, expected_count(&expected))?;
+    same(&question, kinds, expected_kinds)?;
+    same(&question, wholes, expected_wholes)
 }
 
 /// Every frame, channel and sample by a walk.
@@ -174,7 +213,13 @@ fn ask_no_channel(file: &[u8], walk: &Walk, channel: u32, refusal: Refusal) -> A
     let mut bits = [PATTERN];
     let answer = ffi::walk_samples(file, walk, channel, 0, &mut bits);
     same(question, answer, expected_count(&Err(refusal)))?;
-    same(question, bits, [PATTERN])
+    same(question, bits, [PATTERN])?;
+    same_values(
+        question,
+        [2, 1],
+        |kinds, wholes| ffi::walk_values(file, walk, channel, 0, kinds, wholes),
+        |_| Err(refusal),
+    )
 }
 
 /// The next frame of a walk, with all its channels.
@@ -208,7 +253,7 @@ fn ask_frame(file: &[u8], walk: &mut Walk, number: u32, met: Met, channels: &[Se
     ask_no_channel(file, walk, u32::MAX, no_channel)
 }
 
-/// All samples of a channel by the walk: three, then as many as are read in one go, to the end.
+/// All samples of a channel by the walk, as bits and as values: three, then as many as are read in one go, to the end.
 fn ask_series(
     file: &[u8],
     walk: &Walk,
@@ -224,6 +269,12 @@ fn ask_series(
         let question = || format!("samples from {first}, {}", question());
         same(question, answer, expected_count(&expected))?;
         same(question, proved, second)?;
+        same_values(
+            || format!("values, {}", question()),
+            [room, room + 1],
+            |kinds, wholes| ffi::walk_values(file, walk, channel, first, kinds, wholes),
+            |values| series.values(first, values),
+        )?;
         let Ok(count) = expected else {
             return Ok(());
         };
@@ -350,21 +401,26 @@ fn expected_channel(answer: Result<&Series, Refusal>) -> Seen {
     }
 }
 
+/// The kind and the whole number of a value.
+fn told(value: &Value) -> (u8, i64) {
+    match *value {
+        Value::Whole(whole) => (0, whole),
+        Value::Status(_) => (1, 0),
+        Value::Single(_) => (2, 0),
+        Value::Double(_) => (3, 0),
+        Value::NotNumber(_) => (4, 0),
+        Value::Null => (5, 0),
+    }
+}
+
 fn expected_sample(answer: &Result<(u64, Value), Refusal>, bits: u64) -> Sampled {
     match *answer {
         Ok((place, value)) => {
-            let (kind, whole) = match value {
-                Value::Whole(whole) => (0, whole),
-                Value::Status(_) => (1, 0),
-                Value::Single(_) => (2, 0),
-                Value::Double(_) => (3, 0),
-                Value::NotNumber(_) => (4, 0),
-                Value::Null => (5, 0),
-            };
+            let (kind, whole) = told(&value);
             Sampled {
                 number: 0,
                 place,
-                kind,
+                kind: kind.into(),
                 whole,
                 bits,
             }

@@ -1,11 +1,11 @@
-//! Frames, channels and samples one after another.
+//! Frames and channels one after another.
 #![forbid(unsafe_code)]
 
 use crate::attributes::Attributes;
 use crate::ffi::Stepped;
 use crate::file::File;
 use crate::refusal::Refusal;
-use crate::value::Value;
+use crate::samples::{Bits, Values};
 use crate::walk::Walk;
 use std::iter::FusedIterator;
 use std::ops::Range;
@@ -249,17 +249,23 @@ impl<'a> Channel<'a> {
         self.walk.samples(self.file, self.number, first, out)
     }
 
-    /// The bits of its samples in order.
-    pub fn bits(&self) -> Bits<'a> {
-        Bits {
-            channel: self.clone(),
-            next: 0,
-            chunk: Vec::new(),
-            taken: 0,
-        }
+    /// Fills both with what [`File::values`] tells, and reads nothing else of the file.
+    pub(crate) fn kinds_and_wholes(
+        &self,
+        first: u64,
+        kinds: &mut [u8],
+        wholes: &mut [i64],
+    ) -> Result<usize, Refusal> {
+        let Channel { walk, file, .. } = self;
+        walk.values(*file, self.number, first, kinds, wholes)
     }
 
-    /// The values of its samples in order.
+    /// The bits of its samples in order.
+    pub fn bits(&self) -> Bits<'a> {
+        Bits::of(self)
+    }
+
+    /// The values of its samples in order, each as [`File::sample`] has it.
     ///
     /// ```
     /// use mfer::{File, Refusal, Value};
@@ -267,92 +273,15 @@ impl<'a> Channel<'a> {
     /// let file = File::new(&[0x0A, 1, 5, 0x12, 1, 0x80, 0x1E, 3, 1, 0x80, 0xFF]);
     /// let values: Vec<Value> = file.channel(0, 0)?.values().collect::<Result<_, _>>()?;
     /// assert_eq!(values, [Value::Whole(1), Value::Null, Value::Whole(-1)]);
+    ///
+    /// let singles = [0x0A, 1, 7, 0x1E, 8, 0x3F, 0x80, 0, 0, 0x7F, 0xC0, 0, 1];
+    /// let mut values = File::new(&singles).channel(0, 0)?.values();
+    /// assert_eq!(values.next(), Some(Ok(Value::Single(1.0))));
+    /// assert_eq!(values.next(), Some(Ok(Value::NotNumber(0x7FC0_0001))));
+    /// assert_eq!(values.next(), None);
     /// # Ok::<(), Refusal>(())
     /// ```
     pub fn values(&self) -> Values<'a> {
-        Values { bits: self.bits() }
+        Values::of(self)
     }
 }
-
-/// The bits of a channel's samples in order, read 65,536 at a time.
-#[derive(Clone, Debug)]
-pub struct Bits<'a> {
-    channel: Channel<'a>,
-    /// The number of the first sample after the chunk.
-    next: u64,
-    chunk: Vec<u64>,
-    /// How many of the chunk are handed out.
-    taken: usize,
-}
-
-impl Bits<'_> {
-    const CHUNK: u64 = 65_536;
-
-    /// How many samples are still to come.
-    fn rest(&self) -> u64 {
-        self.channel.attributes.samples() - self.next + (self.chunk.len() - self.taken) as u64
-    }
-
-    /// Reads the next chunk; there are samples left.
-    fn read(&mut self) -> Result<(), Refusal> {
-        let room = (self.channel.attributes.samples() - self.next).min(Bits::CHUNK);
-        self.taken = 0;
-        self.chunk.resize(room as usize, 0);
-        let count = self.channel.samples(self.next, &mut self.chunk)?;
-        self.chunk.truncate(count);
-        self.next += count as u64;
-        Ok(())
-    }
-}
-
-impl Iterator for Bits<'_> {
-    type Item = Result<u64, Refusal>;
-
-    fn next(&mut self) -> Option<Self::Item> {
-        if self.rest() == 0 {
-            return None;
-        }
-        if self.taken == self.chunk.len() {
-            if let Err(refusal) = self.read() {
-                // Nothing more comes after a refusal.
-                self.chunk.clear();
-                self.next = self.channel.attributes.samples();
-                return Some(Err(refusal));
-            }
-        }
-        let bits = *self.chunk.get(self.taken)?;
-        self.taken += 1;
-        Some(Ok(bits))
-    }
-
-    fn size_hint(&self) -> (usize, Option<usize>) {
-        let rest = self.rest() as usize;
-        (rest, Some(rest))
-    }
-}
-
-impl ExactSizeIterator for Bits<'_> {}
-impl FusedIterator for Bits<'_> {}
-
-/// The values of a channel's samples in order, read in bulk.
-#[derive(Clone, Debug)]
-pub struct Values<'a> {
-    bits: Bits<'a>,
-}
-
-impl Iterator for Values<'_> {
-    type Item = Result<Value, Refusal>;
-
-    fn next(&mut self) -> Option<Self::Item> {
-        let bits = self.bits.next()?;
-        let attributes = &self.bits.channel.attributes;
-        Some(bits.map(|bits| Value::of(bits, attributes)))
-    }
-
-    fn size_hint(&self) -> (usize, Option<usize>) {
-        self.bits.size_hint()
-    }
-}
-
-impl ExactSizeIterator for Values<'_> {}
-impl FusedIterator for Values<'_> {}

@@ -41,6 +41,7 @@ mod attributes;
 mod file;
 mod iterators;
 mod refusal;
+mod samples;
 mod value;
 #[cfg(test)]
 mod vocabulary;
@@ -48,8 +49,9 @@ mod walk;
 
 pub use attributes::{Attributes, DataType, Scale};
 pub use file::File;
-pub use iterators::{Bits, ByteOrder, Channel, Channels, Frame, Frames, Values};
+pub use iterators::{ByteOrder, Channel, Channels, Frame, Frames};
 pub use refusal::Refusal;
+pub use samples::{Bits, Values};
 pub use value::{Sample, Value};
 
 /// The README's example is a test too.

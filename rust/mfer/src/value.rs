@@ -1,7 +1,6 @@
 //! A sample and its value.
 #![forbid(unsafe_code)]
 
-use crate::attributes::{Attributes, DataType};
 use crate::ffi::Sampled;
 
 /// A sample's value, raw: offset and resolution are not applied.
@@ -51,40 +50,21 @@ impl Value {
         }
     }
 
-    /// The value of bits that were read in bulk.
-    ///
-    /// ```
-    /// use mfer::{File, Value};
-    ///
-    /// let file = File::new(&[0x12, 2, 0x80, 0, 0x1E, 4, 0x80, 0, 0xFF, 0xFF]);
-    /// let attributes = file.attributes(0, 0)?;
-    /// let mut bits = [0; 2];
-    /// file.samples(0, 0, 0, &mut bits)?;
-    /// assert_eq!(Value::of(bits[0], &attributes), Value::Null);
-    /// assert_eq!(Value::of(bits[1], &attributes), Value::Whole(-1));
-    /// # Ok::<(), mfer::Refusal>(())
-    /// ```
-    pub fn of(bits: u64, attributes: &Attributes) -> Value {
-        if attributes.null == Some(bits) {
-            return Value::Null;
+    /// The value of a kind, with its number or its bits as the library tells them.
+    pub(crate) fn told(kind: u8, whole: i64, bits: u64) -> Value {
+        match kind {
+            0 => Value::Whole(whole),
+            1 => Value::Status(bits as u16),
+            2 => Value::Single(f32::from_bits(bits as u32)),
+            3 => Value::Double(f64::from_bits(bits)),
+            4 => Value::NotNumber(bits),
+            _ => Value::Null,
         }
-        match attributes.data_type {
-            DataType::Signed16 => Value::Whole((bits as i16).into()),
-            DataType::Signed32 => Value::Whole((bits as i32).into()),
-            DataType::Signed8 => Value::Whole((bits as i8).into()),
-            DataType::Unsigned16 | DataType::Unsigned8 | DataType::Unsigned32 => {
-                Value::Whole(bits as i64)
-            }
-            DataType::Status => Value::Status(bits as u16),
-            DataType::Single => match f32::from_bits(bits as u32) {
-                single if single.is_nan() => Value::NotNumber(bits),
-                single => Value::Single(single),
-            },
-            DataType::Double => match f64::from_bits(bits) {
-                double if double.is_nan() => Value::NotNumber(bits),
-                double => Value::Double(double),
-            },
-        }
+    }
+
+    /// Whether a value of this kind has bits: all but whole numbers and nulls.
+    pub(crate) fn shows_bits(kind: u8) -> bool {
+        (1..=4).contains(&kind)
     }
 }
 
@@ -106,14 +86,7 @@ impl Sample {
         Sample {
             place: sampled.place,
             bits,
-            value: match sampled.kind {
-                0 => Value::Whole(sampled.whole),
-                1 => Value::Status(bits as u16),
-                2 => Value::Single(f32::from_bits(bits as u32)),
-                3 => Value::Double(f64::from_bits(bits)),
-                4 => Value::NotNumber(bits),
-                _ => Value::Null,
-            },
+            value: Value::told(sampled.kind as u8, sampled.whole, bits),
         }
     }
 }

@@ -45,6 +45,19 @@ impl Walk {
         let filled = ffi::walk_samples(file.octets(), &self.0, channel, first, out);
         Refusal::or(filled.number, filled.place, filled.count as usize)
     }
+
+    /// Reads kinds and whole numbers of a channel of the frame that the walk is at.
+    pub fn values(
+        &self,
+        file: File,
+        channel: u32,
+        first: u64,
+        kinds: &mut [u8],
+        wholes: &mut [i64],
+    ) -> Result<usize, Refusal> {
+        let filled = ffi::walk_values(file.octets(), &self.0, channel, first, kinds, wholes);
+        Refusal::or(filled.number, filled.place, filled.count as usize)
+    }
 }
 
 /// The words say nothing to a reader.

@@ -261,6 +261,43 @@ fn every_kind_of_value() {
     assert_ne!(Value::Whole(0), Value::Null);
 }
 
+/// Doubles, two of which are null; one in the second piece is no number.
+#[test]
+fn values_over_many_pieces_are_those_of_the_samples() {
+    const SAMPLES: usize = 70_000;
+    const NOT_NUMBER: usize = 69_000;
+    let null = 7.5_f64;
+    let mut octets = vec![0x0A, 1, 8, 0x12, 8];
+    octets.extend(null.to_be_bytes());
+    octets.extend([0x1E, 0x84]);
+    octets.extend((8 * SAMPLES as u32).to_be_bytes());
+    for number in 0..SAMPLES {
+        let double = match number {
+            7 | 65_537 => null,
+            NOT_NUMBER => f64::NAN,
+            _ => number as f64,
+        };
+        octets.extend(double.to_be_bytes());
+    }
+    let file = File::new(&octets);
+    let values = file.channel(0, 0).unwrap().values();
+    assert_eq!(values.len(), SAMPLES);
+    for (number, value) in values.enumerate() {
+        let expected = match number {
+            7 | 65_537 => Value::Null,
+            NOT_NUMBER => Value::NotNumber(f64::NAN.to_bits()),
+            _ => Value::Double(number as f64),
+        };
+        assert_eq!(value, Ok(expected));
+    }
+    for number in [0, 7, 65_535, 65_536, 65_537, NOT_NUMBER, SAMPLES - 1] {
+        let mut values = file.channel(0, 0).unwrap().values();
+        let sample = file.sample(0, 0, number as u64).unwrap();
+        assert_eq!(values.nth(number), Some(Ok(sample.value)));
+        assert_eq!(values.len(), SAMPLES - number - 1);
+    }
+}
+
 #[test]
 fn refusals_say_what_and_where() {
     for number in (1..=15).chain(20..=23) {
@@ -321,6 +358,9 @@ fn a_refused_file_answers_its_refusal_to_every_question() {
     let mut bits = [7; 3];
     assert_eq!(file.samples(9, 9, 9, &mut bits), Err(refusal));
     assert_eq!(bits, [7; 3]);
+    let (mut kinds, mut wholes) = ([7; 3], [7; 3]);
+    let values = file.values(9, 9, 9, &mut kinds, &mut wholes);
+    assert_eq!((values, kinds, wholes), (Err(refusal), [7; 3], [7; 3]));
     let mut out = [0xA5; 200];
     assert_eq!(file.canonical(&mut out), Err(refusal));
     assert_eq!(out, [0xA5; 200]);
@@ -341,8 +381,10 @@ fn a_call_needs_less_than_256_kib_of_stack() {
         assert!(file.attributes(0, 1).is_ok());
         assert!(file.sample(0, 1, 1999).is_ok());
         assert_eq!(file.samples(0, 1, 0, &mut [0; 10]), Ok(10));
+        assert_eq!(file.values(0, 1, 0, &mut [0; 10], &mut [0; 10]), Ok(10));
         assert!(file.canonical_vec().is_ok());
         assert_eq!(file.channel(0, 1).unwrap().bits().count(), 2000);
+        assert_eq!(file.channel(0, 1).unwrap().values().count(), 2000);
     };
     let thread = std::thread::Builder::new().stack_size(256 * 1024);
     thread.spawn(questions).unwrap().join().unwrap();

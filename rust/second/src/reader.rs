@@ -133,6 +133,17 @@ pub fn samples(
     series(octets, frame, channel)?.read(first, out)
 }
 
+/// Fills `out` with values in place of bits, as [`samples`] does.
+pub fn values(
+    octets: &[u8],
+    frame: u32,
+    channel: u32,
+    first: u64,
+    out: &mut [Value],
+) -> Result<usize, Refusal> {
+    series(octets, frame, channel)?.values(first, out)
+}
+
 /// What is told of a frame besides its channels.
 #[derive(Clone, Copy, PartialEq, Eq, Debug)]
 pub struct Met {
@@ -233,6 +244,16 @@ impl Series<'_> {
             return Err(Refusal::without_place(Refusal::NO_SAMPLE));
         }
         Ok(self.fill(first, out))
+    }
+
+    /// Fills `out` as [`values`] does.
+    pub fn values(&self, first: u64, out: &mut [Value]) -> Result<usize, Refusal> {
+        let mut bits = vec![0; out.len()];
+        let count = self.read(first, &mut bits)?;
+        for (slot, bits) in out.iter_mut().zip(&bits[..count]) {
+            *slot = value(*bits, &self.record);
+        }
+        Ok(count)
     }
 
     fn samples(&self) -> u64 {
