@@ -1,4 +1,4 @@
-//! Compiles the plain loop in C.
+//! Compiles what is in C: the plain loop, and the walk over a file.
 
 use std::env;
 use std::path::PathBuf;
@@ -6,11 +6,19 @@ use std::process::Command;
 
 fn main() {
     println!("cargo:rerun-if-changed=build.rs");
-    println!("cargo:rerun-if-changed=src/widen.c");
+    println!("cargo:rerun-if-changed=../../include/mfer.h");
+    for name in ["widen", "walk"] {
+        compile(name);
+    }
+}
+
+fn compile(name: &str) {
+    let source = format!("src/{name}.c");
+    println!("cargo:rerun-if-changed={source}");
     let folder = env::var_os("OUT_DIR").expect("set by cargo");
-    let object = PathBuf::from(folder).join("widen.o");
+    let object = PathBuf::from(folder).join(name).with_extension("o");
     let status = Command::new("cc")
-        .args(["-O3", "-c", "src/widen.c", "-o"])
+        .args(["-O3", "-I", "../../include", "-c", &source, "-o"])
         .arg(&object)
         .status();
     assert!(status.is_ok_and(|status| status.success()), "cc failed");

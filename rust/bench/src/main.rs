@@ -375,32 +375,13 @@ fn walks(course: &mut Course) {
         course.with_buffers(
             row,
             || vec![0; sequences],
-            |out| assert_eq!(walked(black_box(&file), out), sum),
+            |out| assert_eq!(native::walked(black_box(&file), out), sum),
             |out| assert_eq!(parsed(black_box(&file), out), sum),
         );
     }
 }
 
-/// The sum of all samples of an accepted file, by the library's walk; each channel's attributes are
-/// asked for too.
-fn walked(file: &[u8], out: &mut [u64]) -> u64 {
-    let mut walk = [0; ffi::WALK];
-    assert_eq!(ffi::walk_open(file, &mut walk).number, 0);
-    let mut sum = 0;
-    loop {
-        let stepped = ffi::walk_next(file, &mut walk);
-        if stepped.number != 0 {
-            return sum;
-        }
-        for channel in 0..stepped.frame[0] as u32 {
-            black_box(ffi::walk_channel(&walk, channel));
-            let filled = ffi::walk_samples(file, &walk, channel, 0, out);
-            sum = summed(sum, &out[..filled.count as usize]);
-        }
-    }
-}
-
-/// The same by the second program.
+/// The sum of all samples of an accepted file, by the second program.
 fn parsed(file: &[u8], out: &mut [u64]) -> u64 {
     let mut sum = 0;
     let frames = reader::each_channel(file, out, |attributes, bits| {

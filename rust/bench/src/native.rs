@@ -1,4 +1,5 @@
-//! The functions in C that only the benchmark calls: the processor's clock, and the loop of `widen.c`.
+//! The functions in C that only the benchmark calls: the processor's clock, the loop of `widen.c`, and the
+//! walk of `walk.c`.
 //!
 //! This is the only module with unsafe code. What makes each call sound: a slice is passed as its
 //! pointer and its own length, every output is a place that this module owns, and nothing keeps a
@@ -20,6 +21,16 @@ extern "C" {
     fn clock_gettime(clock: i32, time: *mut Timespec) -> i32;
 
     fn widen(from: *const u8, step: usize, count: usize, to: *mut i64);
+
+    #[link_name = "walked"]
+    fn walk(file: *const u8, file_len: usize, out: *mut u64, out_len: usize) -> u64;
+}
+
+/// The sum of all samples of an accepted file, by the library's walk, as a program in C asks for them; each
+/// channel's attributes are asked for too.
+pub fn walked(file: &[u8], out: &mut [u64]) -> u64 {
+    // SAFETY: see the module's first lines.
+    unsafe { walk(file.as_ptr(), file.len(), out.as_mut_ptr(), out.len()) }
 }
 
 /// The processor's time that this program has had.
