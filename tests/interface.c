@@ -70,23 +70,36 @@ static void expect_check(const uint8_t *file, size_t file_len, uint32_t number, 
     EXPECT(place_out == place);
 }
 
+/* Buffers for three values, and that they keep what they held. */
+#define VALUES 3
+
+static void unset_values(uint8_t kinds[VALUES], int64_t wholes[VALUES])
+{
+    memset(kinds, 0xA5, VALUES * sizeof *kinds);
+    memset(wholes, 0xA5, VALUES * sizeof *wholes);
+}
+
+static void expect_unset_values(const uint8_t kinds[VALUES], const int64_t wholes[VALUES])
+{
+    size_t i;
+    for (i = 0; i < VALUES; i++)
+        EXPECT(kinds[i] == 0xA5 && (uint64_t)wholes[i] == UNSET);
+}
+
 /* Both buffers of the values keep what they held, and buffers of no length may be null. */
 static void expect_values_refusal(const uint8_t *file, size_t file_len, uint32_t frame,
                                   uint32_t channel, uint64_t number, uint32_t refusal,
                                   uint64_t place)
 {
     uint64_t place_out = UNSET, count = UNSET;
-    uint8_t kinds[3];
-    int64_t wholes[3];
-    size_t i;
+    uint8_t kinds[VALUES];
+    int64_t wholes[VALUES];
 
-    memset(kinds, 0xA5, sizeof kinds);
-    memset(wholes, 0xA5, sizeof wholes);
-    EXPECT(mfer_values(file, file_len, frame, channel, number, kinds, SIZE(kinds), wholes,
-                       SIZE(wholes), &count, &place_out) == refusal);
+    unset_values(kinds, wholes);
+    EXPECT(mfer_values(file, file_len, frame, channel, number, kinds, VALUES, wholes,
+                       VALUES, &count, &place_out) == refusal);
     EXPECT(place_out == place && count == 0);
-    for (i = 0; i < SIZE(kinds); i++)
-        EXPECT(kinds[i] == 0xA5 && (uint64_t)wholes[i] == UNSET);
+    expect_unset_values(kinds, wholes);
 
     place_out = count = UNSET;
     EXPECT(mfer_values(file, file_len, frame, channel, number, NULL, 0, NULL, 0, &count,
@@ -419,17 +432,14 @@ static void expect_walk_lacks_values(const uint8_t *file, size_t file_len, const
                                      uint32_t channel, uint64_t first, uint32_t refusal)
 {
     uint64_t place = UNSET, count = UNSET;
-    uint8_t kinds[3];
-    int64_t wholes[3];
-    size_t i;
+    uint8_t kinds[VALUES];
+    int64_t wholes[VALUES];
 
-    memset(kinds, 0xA5, sizeof kinds);
-    memset(wholes, 0xA5, sizeof wholes);
-    EXPECT(mfer_walk_values(file, file_len, walk, channel, first, kinds, SIZE(kinds), wholes,
-                            SIZE(wholes), &count, &place) == refusal);
+    unset_values(kinds, wholes);
+    EXPECT(mfer_walk_values(file, file_len, walk, channel, first, kinds, VALUES, wholes,
+                            VALUES, &count, &place) == refusal);
     EXPECT(count == 0 && place == 0);
-    for (i = 0; i < SIZE(kinds); i++)
-        EXPECT(kinds[i] == 0xA5 && (uint64_t)wholes[i] == UNSET);
+    expect_unset_values(kinds, wholes);
 
     place = count = UNSET;
     EXPECT(mfer_walk_values(file, file_len, walk, channel, first, NULL, 0, NULL, 0, &count, &place) ==

@@ -1,8 +1,8 @@
-// Many samples of one channel: their bits.
+// Many samples of one channel: their bits, or their values.
 //
-// For programs that draw or convert a channel: `samples` writes the bits of consecutive samples into a buffer that the caller lends, after one pass
-// over the file; `seen` does so for a channel that was found before, with nothing else read.
-// Promises, for any octets at all: the whole answer is a definition of specs/, refusals too, and so is the buffer afterwards.
+// For programs that draw or convert a channel: `samples` writes the bits of consecutive samples into a buffer that the caller lends, `values` their kinds
+// and whole numbers into two, each after one pass over the file; `seen` and `values_seen` do so for a channel that was found before, with nothing else read.
+// Promises, for any octets at all: the whole answer is a definition of specs/, refusals too, and so are the buffers afterwards.
 // Read first: specs/Samples.antt, then `seen` and upwards. A change to a loop wants its speed measured again: each width has a loop
 // of its own, with straight-line reads, because the compiler makes one wide load of them only so.
 ghost use mathlib.Core.Path.{_≡_};

@@ -10,10 +10,12 @@ ghost use Prim.Native.Nat.{_+_, _*_, _<_, _≤_, min};
 ghost use lib.ListN.{length, take, drop};
 ghost use Rattle.octets.specs.Number.{range, lowOf, numberOf, twos, signedOf, NumberRead};
 
-// How many numbers one octet, two and four can tell apart.
+// How many numbers one octet, two, three and four can tell apart.
 pub const ONE_OCTET: u64 = 256;
 
 pub const TWO_OCTETS: u64 = 65_536;
+
+pub const THREE_OCTETS: u64 = 16_777_216;
 
 pub const FOUR_OCTETS: u64 = 4_294_967_296;
 

@@ -202,30 +202,30 @@ pub begins-root : (s : List ℕ) (c : Cursor) {b : Bool} → b ≡ beginsAt s c 
 begins-root s c e f = subst (Begins s c) (sym e ∙ f) (begins-by s (c .at) (c .within))
 
 -- The tag of a group that takes effect.
-pub record Opened (counted : ℕ) (i : Item) (k : ℕ) : Type 0 where
+pub record GroupOpened (counted : ℕ) (i : Item) (k : ℕ) : Type 0 where
   pub place : ℕ
   pub group : i ≡ Item.Group place k
   pub counts : k < counted
 
-pub opened-group : (counted : ℕ) (i : Item) {k : ℕ} → k ≡ openedBy counted i → k < channelLimit → Opened counted i k
+pub opened-group : (counted : ℕ) (i : Item) {k : ℕ} → k ≡ openedBy counted i → k < channelLimit → GroupOpened counted i k
 unfolding openedBy
 opened-group counted (Item.Plain place tag start len) e h = let z : ⊥ = omega arith in absurd z
 opened-group counted (Item.Group place channel) {k = k} e h =
-    pick-cases (λ (j : ℕ). k ≡ j → Opened counted (Item.Group place channel) k) (ltb channel counted)
+    pick-cases (λ (j : ℕ). k ≡ j → GroupOpened counted (Item.Group place channel) k) (ltb channel counted)
     (λ t q. record { place = place; group = ap (Item.Group place) (sym q); counts = rw q (ltb-true channel counted t) })
     (λ t q. let z : ⊥ = omega arith in absurd z)
     e
 opened-group counted (Item.Member place channel tag start len) e h = let z : ⊥ = omega arith in absurd z
 opened-group counted (Item.Mark place) e h = let z : ⊥ = omega arith in absurd z
 
-pub opened-nothing : (s : List ℕ) (st : Standing) {i : Item} {k : ℕ} → Opened (st .counted) i k → effectOf s st i ≡ Effect.Pass
+pub opened-nothing : (s : List ℕ) (st : Standing) {i : Item} {k : ℕ} → GroupOpened (st .counted) i k → effectOf s st i ≡ Effect.Pass
 unfolding effectOf groupEffect
 opened-nothing s st {k = k} p =
     ap (effectOf s st) (p .group)
     ∙ pick-cases (λ (e : Effect). e ≡ Effect.Pass) (eqb (st .counted) 0) (λ _. refl)
     (λ _. pick-cases (λ (e : Effect). e ≡ Effect.Pass) (ltb k (st .counted)) (λ _. refl) (λ t. let z : ⊥ = omega (arith, ltb-false k (st .counted) t, p .counts) in absurd z))
 
-pub opened-counted : {counted : ℕ} {i : Item} {k : ℕ} → Opened counted i k → eqb counted 0 ≡ false
+pub opened-counted : {counted : ℕ} {i : Item} {k : ℕ} → GroupOpened counted i k → eqb counted 0 ≡ false
 opened-counted {counted = counted} p = ne-eqb counted 0 (λ z. let x : ⊥ = omega (arith, p .counts) in x)
 
 -- Behind a group's tag the walk stands in the group.
@@ -260,7 +260,7 @@ next-entered : (s : List ℕ) (c : Cursor) → Entered (nextOf s c)
 unfolding nextOf
 next-entered s c = in-entered (c .at) (standsIn (c .at) (c .within)) (extent s (c .at) (standsIn (c .at) (c .within)))
 
-pub group-entered : (s : List ℕ) (c : Cursor) {n : Next} {i : Item} {d : Cursor} {counted k : ℕ} → n ≡ nextOf s c → n ≡ Found i d → Opened counted i k → InGroup (d .within) k
+pub group-entered : (s : List ℕ) (c : Cursor) {n : Next} {i : Item} {d : Cursor} {counted k : ℕ} → n ≡ nextOf s c → n ≡ Found i d → GroupOpened counted i k → InGroup (d .within) k
 group-entered s c {d = d} e f p = subst Entered (sym e ∙ f ∙ ap (λ (x : Item). Found x d) (p .group)) (next-entered s c)
 
 -- A stretch goes forward.

@@ -41,7 +41,7 @@ use Rattle.verdict.specs.declared.Checked.{Checked}
 use Rattle.pass.specs.declared.Scan.{Scan}
 use Rattle.verdict.specs.Verdict.{Verdict, accepted, refused, verdict, checkedSays, checkedAs, checkOf}
 use Rattle.pass.specs.Scan.{zeroFrame, foundIn, scannedIn, scanOf}
-use Rattle.reader.specs.Answer.{foundSample, lookedUpSays, FoundPlace, foundPlace, placedSays, asked, askedSample, seenOf, attributesWith, attributesIn, attributesOf, placedOf, sampleIn, sampleOf}
+use Rattle.reader.specs.Answer.{foundSample, lookedUpSays, FoundPlace, foundPlace, placedSays, asked, askedSample, seenOf, attributesWith, attributesIn, attributesOf, placedOf, sampleIn, sampleOf, attributesSeen}
 use Rattle.reader.proofs.Order.{asked-both, sample-both, asked-found, sample-found, sample-refused}
 use Rattle.verdict.proofs.Every.{every-at}
 use Rattle.reader.proofs.Good.{GoodSettings, accepted-good}
@@ -183,10 +183,6 @@ located s frame channel w e f =
     asked-both (λ (a b : Answer View). answered w ≡ a → Located s frame channel w)
     (λ number place q. let z : _≡_ {A = ℕ} 0 1 = cc in let a : ⊥ = omega arith in absurd a) frame channel _ (λ g. answered (viewOf channel g)) (verdict s)
     (λ fs v i c q. record { frames = fs; verdictIs = v; frameIn = i; channelIs = c; view = (cc) }) (ap lookedUpSays (sym f) ∙ e)
-
--- The attributes of a channel that is seen.
-abbrev pub attributesSeen : View → Attributes
-attributesSeen v = attributesWith (v .start) (v .channels) (v .sequences) (reported (v .settings))
 
 view-attributes : (channel : ℕ) (f : Frame) → channel < length (f .channels) → attributesSeen (viewOf channel f) ≡ attributesIn channel f
 unfolding viewOf attributesIn

@@ -5,9 +5,9 @@
 -- Assumes nothing.
 use mathlib.Core.Path.{_≡_, refl, sym, ap, subst, _∙_}
 use mathlib.Core.Bool.{Bool, true, false}
-use mathlib.Core.Logic.{inl}
+use mathlib.Core.Logic.{_⊎_, inl, inr}
 use mathlib.Core.List.{List}
-use Prim.Native.Nat.{ℕ, _+_, _*_, _≤_, _<_, min}
+use Prim.Native.Nat.{ℕ, _+_, _*_, _%_, _≤_, _<_, min}
 use native.Mathlib.Nat.{le-refl, not-suc-le-zero}
 use native.Mathlib.Numerals.{add-one}
 use native.Mathlib.Omega.{arith}
@@ -26,7 +26,7 @@ use Rattle.layout.specs.declared.Layout.{Layout}
 use Rattle.layout.specs.Frame.{sequenceOctets, octetsBelow}
 use Rattle.layout.specs.Measure.{noLayout, More}
 use Rattle.layout.proofs.Laws.{Summing, summing-start, summed-below}
-use Rattle.records.specs.Records.{recordWords, belowWord, recordsIn, channelsIn, belowIn, Holding, Refreshed}
+use Rattle.records.specs.Records.{recordWords, recordNumbers, belowWord, recordsHeld, recordsIn, channelsIn, belowIn, Holding, Refreshed}
 use Rattle.records.proofs.Laws.{records-long, below-aside, holding-same}
 use Rattle.records.proofs.Channels.{layout-more, laid-out}
 
@@ -51,6 +51,8 @@ pub record Refreshing (u : List ℕ) (n : ℕ) (root : Settings) (d : Dates) (i 
   pub records : recordsIn v ≡ refreshed i root d (recordsIn u)
   pub long : length v ≡ length u
   pub below : (k : ℕ) → k < i → belowIn v k ≡ octetsBelow k (channelsIn root d u)
+  pub others : (k : ℕ) → i ≤ k → belowIn v k ≡ belowIn u k
+  pub past : (m : ℕ) → recordsHeld u * recordWords ≤ m → getD v m 0 ≡ getD u m 0
 
 pub refreshing-start : {u : List ℕ} {n : ℕ} {l : Layout} (root : Settings) (d : Dates) → n ≤ channelLimit → n ≤ length (recordsIn u) → l ≡ noLayout → Refreshing u n root d 0 l u
 unfolding refreshed
@@ -61,6 +63,8 @@ refreshing-start {u = u} root d few room e =
       records = refl;
       long = refl;
       below = λ k h. absurd (not-suc-le-zero h);
+      others = λ k h. refl;
+      past = λ m h. refl;
     }
 
 module _ {u : List ℕ} {n : ℕ} {root : Settings} {d : Dates} {i : ℕ} {l : Layout} {v : List ℕ} (p : Refreshing u n root d i l v) where
@@ -84,6 +88,11 @@ module _ {u : List ℕ} {n : ℕ} {root : Settings} {d : Dates} {i : ℕ} {l : L
         let same : k ≡ i = omega (arith, ltb-false k i q) in
         rw same (getD-set-same v' (i * recordWords + belowWord) (l .octets) 0 (omega (arith, o .long, p .long, p .room, records-long u)) ∙ octets-below h)
 
+    -- A word that is neither the record's nor kept with it.
+    aside : (m : ℕ) → (m ≡ i * recordWords + belowWord → ⊥) → (recordNumbers ≤ m % recordWords) ⊎ (recordsHeld v * recordWords ≤ m)
+        → getD (set v' (i * recordWords + belowWord) (l .octets)) m 0 ≡ getD v m 0
+    aside m ne b = getD-set-other v' (i * recordWords + belowWord) m (l .octets) 0 ne ∙ o .others m b
+
     pub refreshing-more : (m : Layout) → More i 0 c l m → Refreshing u n root d (i + 1) m v″
     refreshing-more m g =
         record {
@@ -95,6 +104,14 @@ module _ {u : List ℕ} {n : ℕ} {root : Settings} {d : Dates} {i : ℕ} {l : L
               ∙ ap (λ (k : ℕ). refreshed k root d (recordsIn u)) (sym (add-one i));
           long = ap length e ∙ length-set v' (i * recordWords + belowWord) (l .octets) ∙ o .long ∙ p .long;
           below = λ k b. ap (λ (w : List ℕ). belowIn w k) e ∙ below-more k b (ltb k i) refl;
+          others = λ k b.
+              ap (λ (w : List ℕ). belowIn w k) e
+              ∙ aside (k * recordWords + belowWord) (λ z. let y : ⊥ = omega arith in y) (inl (omega arith))
+              ∙ p .others k (omega arith);
+          past = λ m b.
+              ap (λ (w : List ℕ). getD w m 0) e
+              ∙ aside m (λ z. let y : ⊥ = omega (arith, h, p .room, records-long u) in y) (inr (rw (p .long) b))
+              ∙ p .past m b;
         }
 
   pub refreshing-all : (count : ℕ) → n ≡ min (min count channelLimit) (length (recordsIn u)) → n ≤ i → Refreshed u (min count channelLimit) root d l v
@@ -106,4 +123,6 @@ module _ {u : List ℕ} {n : ℕ} {root : Settings} {d : Dates} {i : ℕ} {l : L
         records = p .records ∙ ap (λ (k : ℕ). refreshed k root d (recordsIn u)) same ∙ refreshed-there root d (min count channelLimit) (recordsIn u);
         long = p .long;
         below = λ k a b. p .below k (omega (arith, records-long u));
+        others = λ k b. p .others k (omega arith);
+        past = p .past;
       }

@@ -7,29 +7,30 @@ use lib.ListN.{length}
 use native.Mathlib.Omega.{arith}
 use borrow.Author.Tests.{lt-ltb, le-ltb}
 use Rattle.stores.specs.Number.{be, length-be}
+use Rattle.octets.specs.Number.{range}
 use Rattle.octets.specs.Pick.{pick}
 
 -- How many octets n, below 2 ^ 32, takes: the least of 1 to 4 that hold it.
 unfoldable pub holding : ℕ → ℕ
-holding n = pick (ltb n 256) 1 (pick (ltb n 65536) 2 (pick (ltb n 16777216) 3 4))
+holding n = pick (ltb n (range 1)) 1 (pick (ltb n (range 2)) 2 (pick (ltb n (range 3)) 3 4))
 
-pub holding-one : (n : ℕ) → n < 256 → holding n ≡ 1
+pub holding-one : (n : ℕ) → n < range 1 → holding n ≡ 1
 unfolding holding
 holding-one n h = simp lt-ltb
 
-pub holding-two : (n : ℕ) → 256 ≤ n → n < 65536 → holding n ≡ 2
+pub holding-two : (n : ℕ) → range 1 ≤ n → n < range 2 → holding n ≡ 2
 unfolding holding
 holding-two n l h = simp (le-ltb, lt-ltb)
 
-pub holding-three : (n : ℕ) → 65536 ≤ n → n < 16777216 → holding n ≡ 3
+pub holding-three : (n : ℕ) → range 2 ≤ n → n < range 3 → holding n ≡ 3
 unfolding holding
-holding-three n l h = let k : 256 ≤ n = omega arith in simp (le-ltb, lt-ltb)
+holding-three n l h = let k : range 1 ≤ n = omega arith in simp (le-ltb, lt-ltb)
 
-pub holding-four : (n : ℕ) → 16777216 ≤ n → holding n ≡ 4
+pub holding-four : (n : ℕ) → range 3 ≤ n → holding n ≡ 4
 unfolding holding
 holding-four n l =
-    let k : 256 ≤ n = omega arith in
-    let m : 65536 ≤ n = omega arith in
+    let k : range 1 ≤ n = omega arith in
+    let m : range 2 ≤ n = omega arith in
     simp le-ltb
 
 -- The shortest form of the length n, below 2 ^ 32: n itself below 128, and else 80h + k and the k octets that n takes.

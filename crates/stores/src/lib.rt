@@ -71,13 +71,14 @@ pub fn length_octets(n: u32) -> usize
     if n < 128 {
         return 1;
     }
-    if n < 256 {
+    let x = n as u64;
+    if x < octets::ONE_OCTET {
         return 2;
     }
-    if n < 65536 {
+    if x < octets::TWO_OCTETS {
         return 3;
     }
-    if n < 16777216 {
+    if x < octets::THREE_OCTETS {
         return 4;
     }
     5

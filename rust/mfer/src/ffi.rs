@@ -257,11 +257,21 @@ pub struct Filled {
     pub place: u64,
 }
 
+/// What a function answers that is handed places for a count and for a refusal's place.
+fn filled(ask: impl FnOnce(&mut u64, &mut u64) -> u32) -> Filled {
+    let (mut count, mut place) = (UNSET, UNSET);
+    let number = ask(&mut count, &mut place);
+    Filled {
+        number,
+        count,
+        place,
+    }
+}
+
 /// Asks `mfer_samples`.
 pub fn samples(file: &[u8], frame: u32, channel: u32, first: u64, out: &mut [u64]) -> Filled {
-    let (mut count, mut place) = (UNSET, UNSET);
     // SAFETY: see the module's first lines.
-    let number = unsafe {
+    filled(|count, place| unsafe {
         mfer_samples(
             file.as_ptr(),
             file.len(),
@@ -270,15 +280,10 @@ pub fn samples(file: &[u8], frame: u32, channel: u32, first: u64, out: &mut [u64
             first,
             out.as_mut_ptr(),
             out.len(),
-            &mut count,
-            &mut place,
+            count,
+            place,
         )
-    };
-    Filled {
-        number,
-        count,
-        place,
-    }
+    })
 }
 
 /// Asks `mfer_values`.
@@ -290,9 +295,8 @@ pub fn values(
     kinds: &mut [u8],
     wholes: &mut [i64],
 ) -> Filled {
-    let (mut count, mut place) = (UNSET, UNSET);
     // SAFETY: see the module's first lines.
-    let number = unsafe {
+    filled(|count, place| unsafe {
         mfer_values(
             file.as_ptr(),
             file.len(),
@@ -303,15 +307,10 @@ pub fn values(
             kinds.len(),
             wholes.as_mut_ptr(),
             wholes.len(),
-            &mut count,
-            &mut place,
+            count,
+            place,
         )
-    };
-    Filled {
-        number,
-        count,
-        place,
-    }
+    })
 }
 
 /// Asks `mfer_walk_open`.
@@ -401,9 +400,8 @@ pub fn walk_channel(walk: &Walk, channel: u32) -> Seen {
 
 /// Asks `mfer_walk_samples`.
 pub fn walk_samples(file: &[u8], walk: &Walk, channel: u32, first: u64, out: &mut [u64]) -> Filled {
-    let (mut count, mut place) = (UNSET, UNSET);
     // SAFETY: see the module's first lines.
-    let number = unsafe {
+    filled(|count, place| unsafe {
         mfer_walk_samples(
             file.as_ptr(),
             file.len(),
@@ -412,15 +410,10 @@ pub fn walk_samples(file: &[u8], walk: &Walk, channel: u32, first: u64, out: &mu
             first,
             out.as_mut_ptr(),
             out.len(),
-            &mut count,
-            &mut place,
+            count,
+            place,
         )
-    };
-    Filled {
-        number,
-        count,
-        place,
-    }
+    })
 }
 
 /// Asks `mfer_walk_values`.
@@ -432,9 +425,8 @@ pub fn walk_values(
     kinds: &mut [u8],
     wholes: &mut [i64],
 ) -> Filled {
-    let (mut count, mut place) = (UNSET, UNSET);
     // SAFETY: see the module's first lines.
-    let number = unsafe {
+    filled(|count, place| unsafe {
         mfer_walk_values(
             file.as_ptr(),
             file.len(),
@@ -445,47 +437,29 @@ pub fn walk_values(
             kinds.len(),
             wholes.as_mut_ptr(),
             wholes.len(),
-            &mut count,
-            &mut place,
+            count,
+            place,
         )
-    };
-    Filled {
-        number,
-        count,
-        place,
-    }
+    })
 }
 
 /// Asks `mfer_canonical_length`.
 pub fn canonical_length(file: &[u8]) -> Filled {
-    let (mut count, mut place) = (UNSET, UNSET);
     // SAFETY: see the module's first lines.
-    let number =
-        unsafe { mfer_canonical_length(file.as_ptr(), file.len(), &mut count, &mut place) };
-    Filled {
-        number,
-        count,
-        place,
-    }
+    filled(|count, place| unsafe { mfer_canonical_length(file.as_ptr(), file.len(), count, place) })
 }
 
 /// Asks `mfer_canonical`.
 pub fn canonical(file: &[u8], out: &mut [u8]) -> Filled {
-    let (mut count, mut place) = (UNSET, UNSET);
     // SAFETY: see the module's first lines.
-    let number = unsafe {
+    filled(|count, place| unsafe {
         mfer_canonical(
             file.as_ptr(),
             file.len(),
             out.as_mut_ptr(),
             out.len(),
-            &mut count,
-            &mut place,
+            count,
+            place,
         )
-    };
-    Filled {
-        number,
-        count,
-        place,
-    }
+    })
 }

@@ -18,7 +18,7 @@ use Rattle.pass.specs.declared.Asked.{Asked}
 use Rattle.verdict.proofs.Bounds.{channels-between}
 use Rattle.pass.proofs.Scans.{scanning-counted, scanned-end, scanned-fault}
 use Rattle.pass.proofs.Turns.{Facing, facing-later, facing-nothing, facing-stands, facing-refused, Framing, facing-framing, framing-refused, framing-room, framing-taken}
-use Rattle.pass.proofs.Stretches.{Opened, opened-group, opened-nothing, opened-counted, group-entered, stretch-on}
+use Rattle.pass.proofs.Stretches.{GroupOpened, opened-group, opened-nothing, opened-counted, group-entered, stretch-on}
 use Rattle.pass.proofs.Records.{Passing, passing-from, passing-at, passing-on, passing-count, passing-all, passing-one, passing-outside, passing-group, settled-more, settled-seen, stands-full}
 use Rattle.pass.proofs.scan_channels.Statement.{statement}
 use Rattle.pass.proofs.scan_channels.Tie as tie
@@ -62,7 +62,7 @@ met c =
     record { before = at-loop c .loop .inv .pass; found = sym (at-next .next-item .ensures) ∙ found-as (at-item c .item .given .1) (c .renewed .ensures); asks = refl }
 
 -- The item is a group that takes effect.
-opens : (c : tie.Then1 Inv-loop2 μ-loop2 Inv-loop μ-loop) → let b = c .before .before .before in Opened (at-loop b .loop .st .counted) (item-of b) (c .before .opened .result)
+opens : (c : tie.Then1 Inv-loop2 μ-loop2 Inv-loop μ-loop) → let b = c .before .before .before in GroupOpened (at-loop b .loop .st .counted) (item-of b) (c .before .opened .result)
 opens c = opened-group _ _ (c .before .opened .ensures) (c .if1 .taken)
 
 -- What the item asks for is known.

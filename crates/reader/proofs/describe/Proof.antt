@@ -1,8 +1,8 @@
 -- By the answer of the look-up.
 use mathlib.Core.Path.{sym, ap, _∙_}
 use Rattle.heads.specs.Answer.{answered, mapAnswer}
-use Rattle.reader.specs.Answer.{lookedUpSays}
-use Rattle.reader.proofs.Answers.{attributesSeen, described-is}
+use Rattle.reader.specs.Answer.{lookedUpSays, attributesSeen}
+use Rattle.reader.proofs.Answers.{described-is}
 use borrow.Author.Needs.{needs}
 use Rattle.reader.proofs.describe.Statement.{statement}
 use Rattle.reader.proofs.describe.Tie as tie
