@@ -26,7 +26,7 @@ use Rattle.layout.specs.declared.Layout.{Layout}
 use Rattle.layout.specs.Frame.{sequenceOctets, octetsBelow}
 use Rattle.layout.specs.Measure.{noLayout, More}
 use Rattle.layout.proofs.Laws.{Summing, summing-start, summed-below}
-use Rattle.records.specs.Records.{recordWords, recordNumbers, belowWord, recordsHeld, recordsIn, channelsIn, belowIn, Holding, Refreshed}
+use Rattle.records.specs.Records.{recordWords, recordNumbers, belowWord, recordsHeld, recordsIn, channelsIn, belowIn, Holding, PastKept, Refreshed}
 use Rattle.records.proofs.Laws.{records-long, below-aside, holding-same}
 use Rattle.records.proofs.Channels.{layout-more, laid-out}
 
@@ -52,7 +52,7 @@ pub record Refreshing (u : List ℕ) (n : ℕ) (root : Settings) (d : Dates) (i 
   pub long : length v ≡ length u
   pub below : (k : ℕ) → k < i → belowIn v k ≡ octetsBelow k (channelsIn root d u)
   pub others : (k : ℕ) → i ≤ k → belowIn v k ≡ belowIn u k
-  pub past : (m : ℕ) → recordsHeld u * recordWords ≤ m → getD v m 0 ≡ getD u m 0
+  pub past : PastKept u v
 
 pub refreshing-start : {u : List ℕ} {n : ℕ} {l : Layout} (root : Settings) (d : Dates) → n ≤ channelLimit → n ≤ length (recordsIn u) → l ≡ noLayout → Refreshing u n root d 0 l u
 unfolding refreshed
@@ -64,7 +64,7 @@ refreshing-start {u = u} root d few room e =
       long = refl;
       below = λ k h. absurd (not-suc-le-zero h);
       others = λ k h. refl;
-      past = λ m h. refl;
+      past = record { same = λ m h. refl };
     }
 
 module _ {u : List ℕ} {n : ℕ} {root : Settings} {d : Dates} {i : ℕ} {l : Layout} {v : List ℕ} (p : Refreshing u n root d i l v) where
@@ -108,10 +108,12 @@ module _ {u : List ℕ} {n : ℕ} {root : Settings} {d : Dates} {i : ℕ} {l : L
               ap (λ (w : List ℕ). belowIn w k) e
               ∙ aside (k * recordWords + belowWord) (λ z. let y : ⊥ = omega arith in y) (inl (omega arith))
               ∙ p .others k (omega arith);
-          past = λ m b.
-              ap (λ (w : List ℕ). getD w m 0) e
-              ∙ aside m (λ z. let y : ⊥ = omega (arith, h, p .room, records-long u) in y) (inr (rw (p .long) b))
-              ∙ p .past m b;
+          past = record {
+            same = λ m b.
+                ap (λ (w : List ℕ). getD w m 0) e
+                ∙ aside m (λ z. let y : ⊥ = omega (arith, h, p .room, records-long u) in y) (inr (rw (p .long) b))
+                ∙ p .past .same m b;
+          };
         }
 
   pub refreshing-all : (count : ℕ) → n ≡ min (min count channelLimit) (length (recordsIn u)) → n ≤ i → Refreshed u (min count channelLimit) root d l v

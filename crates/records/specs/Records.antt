@@ -102,6 +102,10 @@ pub record Holding (u : List ℕ) (xs : List Dated) (v : List ℕ) : Type 0 wher
   pub long : length v ≡ length u
   pub others : (m : ℕ) → (recordNumbers ≤ m % recordWords) ⊎ (recordsHeld u * recordWords ≤ m) → getD v m 0 ≡ getD u m 0
 
+-- What is past the last whole record is the same.
+pub record PastKept (u v : List ℕ) : Type 0 where
+  pub same : (m : ℕ) → recordsHeld u * recordWords ≤ m → getD v m 0 ≡ getD u m 0
+
 -- The first n records are brought up to date, with each the octets below its channel, and l is their channels' layout. What is kept with the other
 -- records, and what is past the last, is the same.
 pub record Refreshed (u : List ℕ) (n : ℕ) (root : Settings) (d : Dates) (l : Layout) (v : List ℕ) : Type 0 where
@@ -110,7 +114,7 @@ pub record Refreshed (u : List ℕ) (n : ℕ) (root : Settings) (d : Dates) (l :
   pub long : length v ≡ length u
   pub below : (k : ℕ) → k < n → k < recordsHeld u → belowIn v k ≡ octetsBelow k (channelsIn root d u)
   pub others : (k : ℕ) → n ≤ k → belowIn v k ≡ belowIn u k
-  pub past : (m : ℕ) → recordsHeld u * recordWords ≤ m → getD v m 0 ≡ getD u m 0
+  pub past : PastKept u v
 
 -- The words v are the words u with the first n of w from place i on.
 pub record Overlaid (u : List ℕ) (i : ℕ) (w : List ℕ) (n : ℕ) (v : List ℕ) : Type 0 where

@@ -3,6 +3,7 @@
 --     Turning, turning-..   an item met and what it asks for: what the walk does with it
 --     Measured, measured-..   the same of a waveform
 --     below-frame           the octets below the channels of a frame
+--     past-then, past-put   what is past the last record
 --     answered              the answer of an advance
 -- Assumes nothing.
 use mathlib.Core.Path.{_≡_, refl, sym, ap, subst, _∙_}
@@ -10,6 +11,7 @@ use mathlib.Core.Bool.{Bool, not}
 use mathlib.Core.List.{List, [], _∷_}
 use Prim.Native.Nat.{ℕ, zero, suc, _+_, _-_, _*_, _%_, _^_, _≤_, _<_, min}
 use native.Mathlib.Omega.{arith}
+use mathlib.Core.Logic.{inr}
 use types.Run.{OneOf, miss}
 use denote.Enum.Declared.{tagOf}
 use borrow.Author.Tests.{leb-false}
@@ -44,7 +46,7 @@ use Rattle.framing.specs.declared.Framed.{Framed}
 use Rattle.framing.specs.Framing.{channelsOf, sequencesOf, pointerFits, framedAs}
 use Rattle.framing.specs.AnyNumbers.{framedBy}
 use Rattle.verdict.specs.Verdict.{placeAt}
-use Rattle.records.specs.Records.{recordsIn, heldIn, belowIn, Refreshed}
+use Rattle.records.specs.Records.{recordsIn, heldIn, belowIn, Holding, PastKept, Refreshed}
 use Rattle.records.proofs.Laws.{records-long}
 use Rattle.walk.specs.declared.Waveform.{Waveform}
 use Rattle.walk.specs.declared.Step.{Step}
@@ -289,8 +291,15 @@ pub below-frame : {u v : List ℕ} {most n channels : ℕ} {root : Settings} {d 
     → n ≡ min most (length (recordsIn u)) → channels ≡ n → (k : ℕ) → k < channels → belowIn v k ≡ octetsBelow k (heldIn v)
 below-frame f e ew k h = below-kept f k (omega (arith, e, ew, h))
 
+-- What is past the last record stays the same through one change of the words after the other.
+pub past-then : {u v w : List ℕ} → length v ≡ length u → PastKept u v → PastKept v w → PastKept u w
+past-then l p q = record { same = λ m h. q .same m (rw l h) ∙ p .same m h }
+
+pub past-put : {u v : List ℕ} {xs : List Dated} → Holding u xs v → PastKept u v
+past-put o = record { same = λ m h. o .others m (inr h) }
+
 -- ---- the answer
 
 pub answered : {s u v : List ℕ} {h : Head} {r : Moved} {j k : Step} {c : Cursor} {st : Standing} {d : Dates} {items frames : ℕ} → r ≡ movedTo j c st d items frames → j ≡ k
-    → stop k (stand c st d (recordsIn v) items frames) ≡ advanceOf s (standOf h u) → length v ≡ length u → BelowKept v k → Advances s h u r v
-answered e f same long below = rw (e, f) (record { same = same; long = long; below = below })
+    → stop k (stand c st d (recordsIn v) items frames) ≡ advanceOf s (standOf h u) → length v ≡ length u → PastKept u v → BelowKept v k → Advances s h u r v
+answered e f same long past below = rw (e, f) (record { same = same; long = long; past = past; below = below })

@@ -21,7 +21,7 @@ use Rattle.framing.specs.declared.Framed.{Framed}
 use Rattle.framing.specs.Framing.{channelsOf}
 use Rattle.framing.specs.AnyNumbers.{framedBy}
 use Rattle.verdict.specs.Verdict.{placeAt}
-use Rattle.records.specs.Records.{recordsIn, heldIn, belowIn}
+use Rattle.records.specs.Records.{recordsIn, heldIn, belowIn, PastKept}
 use Rattle.walk.specs.declared.Waveform.{Waveform}
 use Rattle.walk.specs.declared.Step.{Step}
 use Rattle.walk.specs.declared.Head.{Head}
@@ -156,4 +156,5 @@ BelowKept u (Step.Refused r) = Unit {0}
 pub record Advances (s : List ℕ) (h : Head) (u : List ℕ) (r : Moved) (v : List ℕ) : Type 0 where
   pub same : stop (r .step) (standOf (r .head) v) ≡ advanceOf s (standOf h u)
   pub long : length v ≡ length u
+  pub past : PastKept u v
   pub below : BelowKept v (r .step)

@@ -17,7 +17,7 @@ use lib.Seq.{take-all, drop-at, length-take-le}
 use Rattle.octets.specs.Pick.{pick}
 use Rattle.heads.specs.declared.Refusal.{Refusal}
 use Rattle.heads.specs.Answer.{Answer}
-use Rattle.records.specs.Records.{recordsIn, outdated, Holding}
+use Rattle.records.specs.Records.{recordsIn, outdated, Holding, PastKept}
 use Rattle.verdict.specs.declared.Checked.{Checked}
 use Rattle.verdict.specs.Verdict.{checkedSays, checkOf}
 use Rattle.walk.specs.declared.Waveform.{Waveform}
@@ -102,6 +102,7 @@ module _ (u x : List ℕ) (room : headWords ≤ length u) {h : Head} {f : Wavefo
         same = ap (stop k) stand-kept ∙ a .same ∙ from ∙ sym (can-hold u (advanceOf s (standIn u)) (stop Step.Ended (standIn u)) room);
         tells = frame-kept ∙ d ∙ sym (can-hold u (frameTold k) (waveformIn u) room);
         long = long-kept;
+        past = subst (λ (w : List ℕ). PastKept w (drop headWords v)) (lent-all headWords u) (subst (PastKept (lent headWords u)) (sym (p .rest ∙ back-behind headWords u x room)) (a .past));
         below = subst (λ (w : List ℕ). BelowKept w k) (sym (p .rest ∙ back-behind headWords u x room)) (a .below);
         stays = λ t. let b = le-leb headWords (length u) room in let y : _≡_ {A = ℕ} 0 1 = cc in let z : ⊥ = omega arith in absurd z;
       }
@@ -113,6 +114,7 @@ goes-few s u h =
       same = sym (cannot-hold u (advanceOf s (standIn u)) (stop Step.Ended (standIn u)) h);
       tells = sym (cannot-hold u (frameTold Step.Ended) (waveformIn u) h);
       long = refl;
+      past = record { same = λ m j. refl };
       below = tt;
       stays = λ t. refl;
     }

@@ -12,7 +12,7 @@ use Rattle.items.specs.declared.Within.the-variants.{Root}
 use Rattle.items.specs.Walk.{cursor}
 use Rattle.dated.specs.Dated.{firstDates}
 use Rattle.standing.specs.Standing.{firstStanding}
-use Rattle.records.specs.Records.{recordsIn, outdated}
+use Rattle.records.specs.Records.{recordsIn, outdated, PastKept}
 use Rattle.verdict.specs.declared.Checked.{Checked}
 use Rattle.verdict.specs.Verdict.{checkedSays, checkOf}
 use Rattle.walk.specs.declared.Waveform.{Waveform}
@@ -70,5 +70,6 @@ pub record Goes (s u : List ℕ) (r : Step) (v : List ℕ) : Type 0 where
   pub same : stop r (standIn v) ≡ stepIn s u
   pub tells : waveformIn v ≡ pick (holdsHead u) (frameTold r) (waveformIn u)
   pub long : length v ≡ length u
+  pub past : PastKept (drop headWords u) (drop headWords v)
   pub below : BelowKept (drop headWords v) r
   pub stays : holdsHead u ≡ false → v ≡ u

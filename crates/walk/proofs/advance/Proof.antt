@@ -7,17 +7,17 @@ use borrow.Author.Needs.{needs}
 use lib.ListN.{length}
 use Rattle.items.specs.declared.Item.{Item}
 use Rattle.items.proofs.Walks.{found-as}
-use Rattle.records.specs.Records.{recordsIn}
+use Rattle.records.specs.Records.{recordsIn, PastKept}
 use Rattle.records.proofs.Channels.{channels-few}
 use Rattle.walk.specs.declared.Waveform.{Waveform}
 use Rattle.walk.specs.Advance.{Stand, stand, advanceOf}
-use Rattle.walk.proofs.Turns.{advance-end, advance-fault, Turning, turning-later, turning-stands, turning-count, turning-all, turning-one, turning-refused, Measured, turning-measured, measured-refused, measured-last, measured-taken, below-frame, answered}
+use Rattle.walk.proofs.Turns.{advance-end, advance-fault, Turning, turning-later, turning-stands, turning-count, turning-all, turning-one, turning-refused, Measured, turning-measured, measured-refused, measured-last, measured-taken, below-frame, past-then, past-put, answered}
 use Rattle.walk.proofs.advance.Statement.{statement}
 use Rattle.walk.proofs.advance.Tie as tie
 
 abbrev Inv-loop : tie.InvT-loop
 Inv-loop s t₀ c₀ st₀ dates₀ items₀ frames t c st dates items =
-    (advanceOf s (stand c st dates (recordsIn t) items frames) ≡ advanceOf s (stand c₀ st₀ dates₀ (recordsIn t₀) items₀ frames)) × (length t ≡ length t₀)
+    (advanceOf s (stand c st dates (recordsIn t) items frames) ≡ advanceOf s (stand c₀ st₀ dates₀ (recordsIn t₀) items₀ frames)) × (length t ≡ length t₀) × PastKept t₀ t
 
 abbrev μ-loop : tie.MeasureT-loop
 μ-loop s t₀ c₀ st₀ dates₀ items₀ frames t c st dates items = length s - c .at
@@ -82,10 +82,15 @@ framing c =
 long-of : (c : Given) → length (words-of c) ≡ length (at-loop (known c) .before .before .before .before .before .before .args .t .now)
 long-of c = at-refresh c .refresh .ensures .long ∙ at-loop (known c) .loop .inv .1
 
+past-of : (c : Given) → PastKept (at-loop (known c) .before .before .before .before .before .before .args .t .now) (words-of c)
+past-of c =
+    let inv = at-loop (known c) .loop .inv in
+    past-then (inv .1) (inv .2) (at-refresh c .refresh .ensures .past)
+
 -- ---- the needs
 
 loop-holds : tie.Need-loop-holds Inv-loop μ-loop
-loop-holds c = (refl, refl)
+loop-holds c = (refl, refl, record { same = λ m h. refl })
 
 next-item-requires : tie.Need-next-item-requires Inv-loop μ-loop
 next-item-requires c κs = search needs
@@ -106,7 +111,7 @@ returns c =
     let at-before = c .before .before in
     let at-next = c .before .before .before in
     let l = at-next .before in
-    answered (c .come-to .ensures) refl (advance-end (file-of l) (here l) (at-next .next-item .ensures) (c .before .enum-told .given .1) ∙ l .loop .inv .0) (l .loop .inv .1) tt
+    answered (c .come-to .ensures) refl (advance-end (file-of l) (here l) (at-next .next-item .ensures) (c .before .enum-told .given .1) ∙ l .loop .inv .0) (l .loop .inv .1) (l .loop .inv .2) tt
 
 enum-known-x : tie.Need-enum-known-x Inv-loop μ-loop
 enum-known-x c = search needs
@@ -124,7 +129,7 @@ returns-2 c =
     let at-fault = c .before .before in
     let at-next = at-fault .before .before in
     let l = at-next .before in
-    answered (c .come-to2 .ensures) refl (advance-fault (file-of l) (here l) _ (at-next .next-item .ensures) (at-fault .x .given .1) ∙ l .loop .inv .0) (l .loop .inv .1) tt
+    answered (c .come-to2 .ensures) refl (advance-fault (file-of l) (here l) _ (at-next .next-item .ensures) (at-fault .x .given .1) ∙ l .loop .inv .0) (l .loop .inv .1) (l .loop .inv .2) tt
 
 enum-known-item : tie.Need-enum-known-item Inv-loop μ-loop
 enum-known-item c = search needs
@@ -157,7 +162,7 @@ loop-again c =
     let at-count = c .before .before in
     let k = at-count .before .before in
     let inv = at-loop k .loop .inv in
-    (turning-count (turn k) (at-count .enum-told2 .given .1) (c .standing-after .ensures) (c .before .cleared .ensures) (k .before .wrapping-add-u64 .ensures) ∙ inv .0, inv .1)
+    (turning-count (turn k) (at-count .enum-told2 .given .1) (c .standing-after .ensures) (c .before .cleared .ensures) (k .before .wrapping-add-u64 .ensures) ∙ inv .0, inv .1, inv .2)
 
 enum-known-effect : tie.Need-enum-known-effect Inv-loop μ-loop
 enum-known-effect c = search needs
@@ -179,7 +184,7 @@ loop-again-2 c =
     let at-all = c .before .before .before in
     let k = at-all .before .before in
     let inv = at-loop k .loop .inv in
-    (turning-all (turn k) (at-all .effect .given .1) (c .standing-after2 .ensures) (c .before .defined .ensures) (k .before .wrapping-add-u64 .ensures) ∙ inv .0, inv .1)
+    (turning-all (turn k) (at-all .effect .given .1) (c .standing-after2 .ensures) (c .before .defined .ensures) (k .before .wrapping-add-u64 .ensures) ∙ inv .0, inv .1, inv .2)
 
 enum-known-effect-2 : tie.Need-enum-known-effect-2 Inv-loop μ-loop
 enum-known-effect-2 c = search needs
@@ -215,6 +220,7 @@ loop-again-3 c =
     let stored = at-put .put .ensures in (
       turning-one (turn k) (at-one .effect2 .given .1) (at-settled .settled .ensures) (at-put .before .before .apply .ensures) (at-put .before .note .ensures) (stored .records) (k .before .wrapping-add-u64 .ensures) ∙ inv .0,
       stored .long ∙ inv .1,
+      past-then (inv .1) (inv .2) (past-put stored),
     )
 
 enum-known-effect-3 : tie.Need-enum-known-effect-3 Inv-loop μ-loop
@@ -254,7 +260,7 @@ returns-3 c =
     let at-number = c .before .before .before in
     let given = at-number .before .before in
     let inv = at-loop (known given) .loop .inv in
-    answered (c .come-to3 .ensures) (c .before .refused-at .ensures) (measured-refused (framing given) (at-number .number .given .1) ∙ inv .0) (long-of given) tt
+    answered (c .come-to3 .ensures) (c .before .refused-at .ensures) (measured-refused (framing given) (at-number .number .given .1) ∙ inv .0) (long-of given) (past-of given) tt
 
 enum-known-sequences : tie.Need-enum-known-sequences Inv-loop μ-loop
 enum-known-sequences c = search needs
@@ -281,7 +287,7 @@ returns-4 c =
     let at-taken = c .before .before .before in
     let given = at-taken .before .before in
     let inv = at-loop (known given) .loop .inv in
-    answered (c .come-to4 .ensures) refl (measured-taken (framing given) (at-taken .sequences .given .1) (c .before .taken .ensures) (known given .before .wrapping-add-u64 .ensures) ∙ inv .0) (long-of given)
+    answered (c .come-to4 .ensures) refl (measured-taken (framing given) (at-taken .sequences .given .1) (c .before .taken .ensures) (known given .before .wrapping-add-u64 .ensures) ∙ inv .0) (long-of given) (past-of given)
     (below-frame (at-refresh given .refresh .ensures) (at-count given .at-most .ensures) (ap (λ (w : Waveform). w .channels) (c .before .taken .ensures)))
 
 enum-known-effect-4 : tie.Need-enum-known-effect-4 Inv-loop μ-loop
@@ -304,7 +310,7 @@ returns-5 c =
     let at-refused = c .before .before .before in
     let k = at-refused .before .before in
     let inv = at-loop k .loop .inv in
-    answered (c .come-to5 .ensures) (c .before .refused-at2 .ensures) (turning-refused (turn k) (at-refused .effect4 .given .1) ∙ inv .0) (inv .1) tt
+    answered (c .come-to5 .ensures) (c .before .refused-at2 .ensures) (turning-refused (turn k) (at-refused .effect4 .given .1) ∙ inv .0) (inv .1) (inv .2) tt
 
 standing-after-requires-3 : tie.Need-standing-after-requires-3 Inv-loop μ-loop
 standing-after-requires-3 c κs = search needs
@@ -316,7 +322,7 @@ loop-again-4 : tie.Need-loop-again-4 Inv-loop μ-loop
 loop-again-4 c =
     let k = c .before .before in
     let inv = at-loop k .loop .inv in
-    (turning-stands (turn k) (c .before .match2 .keys6) (c .standing-after3 .ensures) (k .before .wrapping-add-u64 .ensures) ∙ inv .0, inv .1)
+    (turning-stands (turn k) (c .before .match2 .keys6) (c .standing-after3 .ensures) (k .before .wrapping-add-u64 .ensures) ∙ inv .0, inv .1, inv .2)
 
 pub advance-spec : {M : Type 1} → statement M
 advance-spec =
