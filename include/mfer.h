@@ -18,8 +18,8 @@
  * mfer_words says a refusal in words. Every output is set in every case:
  *
  *   - with an answer: as each function says; `*place` is 0 but in mfer_sample;
- *   - at a refusal: `*place` is the refusal's place, every other output is 0, and the buffer `out`
- *     keeps all it held.
+ *   - at a refusal: `*place` is the refusal's place, every other output is 0, and the buffers `out`,
+ *     `kinds` and `wholes` keep all they held.
  *
  * The refusal's place is the offset of the tag of the item that earned it (for
  * MFER_UNENDED_GROUP: of the group's tag). It is 0 for MFER_LONG_FILE and for every number from 20
@@ -71,8 +71,7 @@
  *
  * Of each function, for any octets, any numbers and any content of a walk: it returns, and its
  * result, its outputs, its buffers and its walk afterwards are what its contract in crates/mfer/src
- * defines. docs/SPECIFICATION.md lists the definitions, docs/TRUST.md says
- * what that rests on.
+ * defines. docs/SPECIFICATION.md lists the definitions, docs/TRUST.md says what that rests on.
  *
  * This and all above is about the functions of the library. mfer_words and mfer_kind_name are none of
  * them: they stand in this header, and are only tested.
