@@ -1,4 +1,3 @@
 -- What the proofs of several functions use.
-pub mod Walks
 pub mod Reading
 pub mod Telling

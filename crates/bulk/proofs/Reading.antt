@@ -1,90 +1,51 @@
 -- What reading many samples answers, over the place of the first.
---     width-wide      the widths of samples
---     rest-low, in-blocks    the samples of a channel that lies in the file lie there in blocks
---     seen-bits       the samples of the blocks are those of the channel
+--     none-asked, laid-asked, unlaid-asked    a question for a sample, by the two tests
 --     read-located, values-located    the answers for a frame of the file
 --     kept, filled    the buffer
+--     read-count, read-left    samples that are laid at its front
 -- Assumes nothing.
-use mathlib.Core.Path.{_≡_, refl, sym, ap, _∙_}
-use mathlib.Core.Logic.{inl, inr}
+use mathlib.Core.Path.{_≡_, sym, ap, _∙_}
+use mathlib.Core.Bool.{true, false}
 use mathlib.Core.List.{List}
-use Prim.Native.Nat.{ℕ, _+_, _-_, _*_, _/_, _%_, _≤_, _<_, min}
-use native.Mathlib.Nat.{zero-mul, zero-add, add-mul, mod-lt, div-add-mod', mul-add-div-right, mul-add-mod-self-right}
-use native.Mathlib.Decide.{decLt}
+use Prim.Native.Nat.{ℕ, _-_, _≤_, _<_, min}
 use native.Mathlib.Omega.{arith}
+use borrow.Author.Tests.{lt-ltb, le-ltb}
 use lib.ListN.{length}
 use lib.Seq.{sets}
+use Rattle.octets.specs.Pick.{pick}
 use Rattle.octets.specs.Number.{Octets}
 use Rattle.stores.proofs.Stores.{sets-front}
-use Rattle.heads.specs.Answer.{Answer, answered, refusedAs, leftBy}
-use Rattle.values.specs.Sample.{widthOf}
-use Rattle.values.proofs.Laws.{width-cases, width-other}
-use Rattle.layout.specs.Frame.{widthIn, blockOctets, channelIn, samplesOf}
+use Rattle.heads.specs.Refusals.{noFrame, noSample}
+use Rattle.heads.specs.Answer.{Answer, answered, refusedAs, mapAnswer, leftBy}
+use Rattle.layout.specs.Frame.{channelIn, samplesOf}
 use Rattle.laid.specs.Laid.{sampleBits}
-use Rattle.laid.proofs.Places.{row-fits}
+use Rattle.strides.specs.Spread.{bitsSpread, bitsFrom, laysIn}
+use Rattle.strides.specs.Walked.{Layable}
+use Rattle.strides.proofs.Walks.{length-bits, bits-same}
+use Rattle.strides.proofs.Lying.{in-lays}
 use Rattle.view.specs.declared.View.{View}
-use Rattle.view.specs.View.{countSeen, placeSeen, askedSeen}
-use Rattle.view.proofs.Lying.{FoundIn, factor-some, block-some, seen-inside, map-seen}
+use Rattle.view.specs.View.{spreadOf, countSeen, placeSeen, liesIn, askedSeen}
+use Rattle.view.proofs.Lying.{seen-lies, map-seen}
 use Rattle.reader.proofs.Answers.{Located, frameIn, settings-seen, count-seen, bits-seen, asked-seen}
-use Rattle.bulk.specs.Samples.{bitsFrom, bitsSeen, readOf, readSeen, valuesBy, valuesOf, valuesSeen}
-use Rattle.bulk.specs.Walked.{blocked, Wide, InBlocks}
-use Rattle.bulk.proofs.Walks.{bits-same}
+use Rattle.bulk.specs.Samples.{bitsSeen, readOf, readSeen, valuesBy, valuesOf, valuesSeen}
 
--- The widths of samples.
-pub width-wide : (k : ℕ) → 0 < widthOf k → Wide (widthOf k)
-width-wide k h = by (decLt 8 k)
-  where
-    by : Dec (8 < k) → Wide (widthOf k)
-    by (yes l) = let z : ⊥ = omega (arith, width-other k l) in absurd z
-    by (no l) = width-cases Wide (inl refl) (inr (inl refl)) (inr (inr (inl refl))) (inr (inr (inr refl))) k (omega arith)
+-- The answer where there is no sample, and where the samples do not lie in the file.
+module _ {A : Type 0} (size : ℕ) (v : View) (first : ℕ) (a : A) where
+  pub none-asked : countSeen v ≤ first → refusedAs noSample 0 ≡ askedSeen size v first a
+  none-asked h = simp (le-ltb _ _ h)
 
--- ---- its samples, block by block
+  pub laid-asked : first < countSeen v → liesIn size v ≡ true → askedSeen size v first a ≡ answered a
+  laid-asked h e = simp (lt-ltb _ _ h, e)
 
--- The place of a sample that is j after another, from that one's block.
-walk-place : (place b G below w first j : ℕ) → 0 < b
-    → place + (first / b * G + below + first % b * w) - first % b * w + ((first % b + j) / b * G + (first % b + j) % b * w)
-    ≡ place + ((first + j) / b * G + below + (first + j) % b * w)
-walk-place place b G below w first j h =
-    let e : first + j ≡ first / b * b + (first % b + j) = omega (arith, div-add-mod' first b) in
-    let d : (first + j) / b ≡ first / b + (first % b + j) / b = ap (λ (n : ℕ). n / b) e ∙ mul-add-div-right h (first / b) (first % b + j) in
-    let m : (first + j) % b ≡ (first % b + j) % b = ap (λ (n : ℕ). n % b) e ∙ mul-add-mod-self-right (first / b) b (first % b + j) in
-    rw (d, m, add-mul) (omega arith)
-
-module _ (s : List ℕ) {v : View} {first p : ℕ} (m : FoundIn (length s) v first p) {w : ℕ} (e : w ≡ widthOf (v .settings .datatype)) where
-  pub rest-low : first % v .settings .block * w ≤ p
-  unfolding placeSeen
-  rest-low = rw (m .place, e) (omega arith)
-
-  walked : (j : ℕ) → p - first % v .settings .block * w + ((first % v .settings .block + j) / v .settings .block * v .octets + (first % v .settings .block + j) % v .settings .block * w) ≡ placeSeen v (first + j)
-  unfolding placeSeen
-  walked j = rw (m .place, e) (walk-place (v .place) (v .settings .block) (v .octets) (v .below) (widthIn (v .settings)) first j (block-some v first (m .number)))
-
-  pub in-blocks : (n : ℕ) → n ≤ countSeen v - first → InBlocks (length s) (p - first % v .settings .block * w) (first % v .settings .block) (v .settings .block) (v .octets) w n
-  unfolding blockOctets
-  in-blocks n k =
-      let row = row-fits (v .octets) 0 (v .sequences) (factor-some (v .sequences) (v .settings .block) first (m .number)) in
-      record {
-        small = m .lies .small;
-        apart = omega (arith, rw (zero-mul, zero-add) at row, m .lies .small, m .lies .inside);
-        low = mod-lt first (block-some v first (m .number));
-        block = rw e (omega (arith, m .lies .block));
-        starts = omega (arith, rest-low, m .place, seen-inside (m .lies) first (m .number));
-        each = λ j i. rw (walked j, e) (seen-inside (m .lies) (first + j) (omega (arith, m .number)));
-      }
-
-  -- The samples of the blocks are those of the channel.
-  pub seen-bits : (n : ℕ) → bitsFrom (blocked (v .little) w s (p - first % v .settings .block * w) (v .settings .block) (v .octets)) (first % v .settings .block) n ≡ bitsFrom (bitsSeen s v) first n
-  unfolding blocked bitsSeen
-  seen-bits n =
-      bits-same (blocked (v .little) w s (p - first % v .settings .block * w) (v .settings .block) (v .octets)) (bitsSeen s v) (first % v .settings .block) first n
-      (λ j k. rw (walked j, e))
+  pub unlaid-asked : first < countSeen v → liesIn size v ≡ false → refusedAs noFrame 0 ≡ askedSeen size v first a
+  unlaid-asked h e = simp (lt-ltb _ _ h, e)
 
 -- ---- the answer
 
 -- A frame of the file: its channel lies in the file, and what is seen of it are its samples.
 module _ {s : List ℕ} {frame channel : ℕ} {v : View} (o : Octets s) (l : Located s frame channel v) (first room : ℕ) where
   same-bits : bitsFrom (bitsSeen s v) first (min room (countSeen v - first)) ≡ bitsFrom (sampleBits (frameIn l) channel) first (min room (samplesOf channel (frameIn l) - first))
-  unfolding bitsSeen
+  unfolding bitsSeen placeSeen
   same-bits =
       bits-same (bitsSeen s v) (sampleBits (frameIn l) channel) first first (min room (countSeen v - first)) (λ j k. bits-seen l (omega arith))
       ∙ ap (λ (k : ℕ). bitsFrom (sampleBits (frameIn l) channel) first (min room (k - first))) (count-seen l)
@@ -111,3 +72,18 @@ module _ {A : Type 0} {a : Answer (List A)} (out : List A) where
   pub filled : {x new : List A} → answered x ≡ a → length x ≤ length out → new ≡ sets out 0 x → new ≡ leftBy a out
   unfolding leftBy
   filled {x} e h f = f ∙ sets-front x out h ∙ ap (λ (y : Answer (List A)). leftBy y out) e
+
+-- The samples of a channel that is seen, where it lies in the file, are laid at the front of the buffer.
+module _ (s : List ℕ) (v : View) (first : ℕ) (out : List ℕ) {n : ℕ} (h : first < countSeen v) (e : liesIn (length s) v ≡ true) (m : n ≡ min (length out) (countSeen v - first)) where
+  read : answered (bitsFrom (bitsSeen s v) first n) ≡ readSeen s v first (length out)
+  unfolding readSeen
+  read = ap (λ (k : ℕ). answered (bitsFrom (bitsSeen s v) first k)) m ∙ sym (laid-asked (length s) v first (bitsFrom (bitsSeen s v) first (min (length out) (countSeen v - first))) h e)
+
+  pub read-count : answered n ≡ mapAnswer length (readSeen s v first (length out))
+  read-count = ap answered (sym (length-bits (bitsSeen s v) first n)) ∙ ap (mapAnswer length) read
+
+  pub read-left : {new : List ℕ} → new ≡ pick (laysIn (length s) (length out) (spreadOf v) first n 0) (sets out 0 (bitsFrom (bitsSpread s (spreadOf v)) first n)) out → new ≡ leftBy (readSeen s v first (length out)) out
+  unfolding bitsSeen
+  read-left f =
+      let k : Layable (length s) (length out) (spreadOf v) first n 0 = record { fits = omega arith; there = omega arith; lies = seen-lies e .spread } in
+      filled out read (omega (arith, length-bits (bitsSeen s v) first n)) (rw (in-lays k) at f)

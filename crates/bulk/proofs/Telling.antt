@@ -28,9 +28,10 @@ use Rattle.heads.specs.Answer.{Answer, answered, refusedAs, leftBy}
 use Rattle.view.specs.declared.View.{View}
 use Rattle.view.specs.View.{countSeen, placeSeen, liesIn}
 use Rattle.view.proofs.Lying.{LiesIn, FoundIn, found-asked}
-use Rattle.bulk.specs.Samples.{bitsFrom, bitsSeen, readSeen, valuesBy}
+use Rattle.strides.specs.Spread.{bitsFrom}
+use Rattle.strides.proofs.Walks.{length-bits, bits-append, stores-join}
+use Rattle.bulk.specs.Samples.{bitsSeen, readSeen, valuesBy}
 use Rattle.bulk.specs.Walked.{meaningSeen, kindsSeen, wholesSeen}
-use Rattle.bulk.proofs.Walks.{length-bits, bits-append, stores-join}
 
 -- ---- element by element
 
@@ -136,7 +137,7 @@ seen-long s v m bits e = ap length e ∙ by (ltb m (countSeen v)) (liesIn (lengt
 -- What is told of samples that are seen is their values' kinds and whole numbers.
 module _ (s : List ℕ) (o : Octets s) (v : View) where
   bits-below : (j : ℕ) → bitsSeen s v j < range (widthIn (v .settings))
-  unfolding bitsSeen
+  unfolding bitsSeen placeSeen
   bits-below j = number-first (v .little) (drop (placeSeen v j) s) (drop-octets (placeSeen v j) s o) (widthIn (v .settings))
 
   values-told : {A : Type 0} (g : Said → A) (h : Telling → A) → ((x : Said) → h (toldAs x) ≡ g x) → (m n : ℕ)

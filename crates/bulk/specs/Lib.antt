@@ -1,3 +1,3 @@
--- Samples of one channel: the bits of many, and how the loops walk them.
+-- Samples of one channel: the bits of many, and how values are told.
 pub mod Samples
 pub mod Walked

@@ -1,25 +1,20 @@
 -- What reading many samples of a channel answers (document 01, "Frames and samples"): their bits, as the file has them, or their values.
-use mathlib.Core.List.{List, [], _∷_, map}
-use Prim.Native.Nat.{ℕ, zero, suc, _-_, min}
+use mathlib.Core.List.{List, map}
+use Prim.Native.Nat.{ℕ, _-_, min}
 use lib.IntN.{ℤ}
-use lib.ListN.{length, take, drop}
+use lib.ListN.{length}
 use Rattle.heads.specs.Answer.{Answer, answered, refusedBy, mapAnswer}
-use Rattle.octets.specs.Number.{numberOf}
 use Rattle.values.specs.Sample.{Said, valueOf}
 use Rattle.settings.specs.declared.Settings.{Settings}
-use Rattle.layout.specs.Frame.{widthIn, channelIn, samplesOf}
+use Rattle.layout.specs.Frame.{channelIn, samplesOf}
 use Rattle.laid.specs.Laid.{sampleBits}
 use Rattle.view.specs.declared.View.{View}
-use Rattle.view.specs.View.{countSeen, placeSeen, askedSeen}
+use Rattle.strides.specs.Spread.{bitsSpread, bitsFrom}
+use Rattle.view.specs.View.{spreadOf, countSeen, askedSeen}
 use Rattle.verdict.specs.Verdict.{verdict}
 use Rattle.reader.specs.Answer.{askedSample}
 use Rattle.bulk.specs.declared.Read.{Read}
 use Rattle.bulk.specs.declared.Read.the-variants.{Samples}
-
--- The bits of k samples from number n on, where g gives the bits of each by its number.
-unfoldable pub bitsFrom : (ℕ → ℕ) → ℕ → ℕ → List ℕ
-bitsFrom g n zero = []
-bitsFrom g n (suc k) = g n ∷ bitsFrom g (suc n) k
 
 -- What the answer says: how many samples were written.
 abbrev pub readSays : Read → Answer ℕ
@@ -32,9 +27,9 @@ unfoldable pub readOf : List ℕ → ℕ → ℕ → ℕ → ℕ → Answer (Lis
 readOf s frame channel first room =
     askedSample (λ f. bitsFrom (sampleBits f channel) first (min room (samplesOf channel f - first))) frame channel first (verdict s)
 
--- The bits of a sample of a channel that is seen: the octets at its place, by the byte order that stands there.
+-- The bits of a sample of a channel that is seen.
 unfoldable pub bitsSeen : List ℕ → View → ℕ → ℕ
-bitsSeen s v n = numberOf (v .little) (take (widthIn (v .settings)) (drop (placeSeen v n) s))
+bitsSeen s v n = bitsSpread s (spreadOf v) n
 
 -- The same as `readOf` of a channel that is seen, whether or not the file has it: 22 where there is no sample `first`, then 20 where the channel's
 -- samples do not lie in the file.

@@ -1,51 +1,16 @@
--- How the loops walk samples. No public contract cites this.
-use mathlib.Core.Logic.{_⊎_}
+-- How values are told. No public contract cites this.
 use mathlib.Core.Path.{_≡_}
-use mathlib.Core.List.{List, [], _∷_, map}
-use mathlib.Core.Bool.{Bool, true}
-use Prim.Native.Nat.{ℕ, zero, suc, _+_, _*_, _/_, _%_, _^_, _≤_, _<_}
+use mathlib.Core.List.{List, map}
+use mathlib.Core.Bool.{true}
+use Prim.Native.Nat.{ℕ, _+_, _^_, _≤_, _<_}
 use lib.IntN.{ℤ}
-use lib.ListN.{length, take, drop}
-use Rattle.standing.specs.Standing.{octetsLimit}
-use Rattle.octets.specs.Number.{numberOf}
+use lib.ListN.{length}
 use Rattle.values.specs.declared.Meaning.{Meaning}
 use Rattle.values.specs.Told.{meaningOf, toldOf}
 use Rattle.view.specs.declared.View.{View}
 use Rattle.view.specs.View.{countSeen, liesIn}
-use Rattle.bulk.specs.Samples.{bitsFrom, bitsSeen}
-
--- The bits of the sample of w octets that lies at p.
-abbrev pub bitsHere : Bool → ℕ → List ℕ → ℕ → ℕ
-bitsHere little w s p = numberOf little (take w (drop p s))
-
--- The bits of n samples, each `step` octets after the one before it.
-unfoldable pub spaced : Bool → ℕ → List ℕ → ℕ → ℕ → ℕ → List ℕ
-spaced little w s step p zero = []
-spaced little w s step p (suc n) = bitsHere little w s p ∷ spaced little w s step (p + step) n
-
--- The bits of sample j of blocks of b samples that lie g octets apart, the first at `start`.
-unfoldable pub blocked : Bool → ℕ → List ℕ → ℕ → ℕ → ℕ → ℕ → ℕ
-blocked little w s start b g j = bitsHere little w s (start + (j / b * g + j % b * w))
-
--- The widths of samples.
-abbrev pub Wide : ℕ → Type 0
-Wide w = (w ≡ 1) ⊎ ((w ≡ 2) ⊎ ((w ≡ 4) ⊎ (w ≡ 8)))
-
--- n samples of w octets, each `step` octets after the one before it, lie within `size` octets.
-pub record InFile (size from step n w : ℕ) : Type 0 where
-  pub small : size ≤ octetsLimit
-  pub apart : step ≤ octetsLimit
-  pub starts : from ≤ size
-  pub each : (j : ℕ) → j < n → from + j * step + w ≤ size
-
--- So do n samples from sample r of the first block on, and a block ends before the next begins.
-pub record InBlocks (size start r b g w n : ℕ) : Type 0 where
-  pub small : size ≤ octetsLimit
-  pub apart : g ≤ octetsLimit
-  pub low : r < b
-  pub block : b * w ≤ g
-  pub starts : start + r * w ≤ size
-  pub each : (j : ℕ) → j < n → start + ((r + j) / b * g + (r + j) % b * w) + w ≤ size
+use Rattle.strides.specs.Spread.{bitsFrom}
+use Rattle.bulk.specs.Samples.{bitsSeen}
 
 -- Samples are still to be told: the channel lies in the file and has n samples from `first` on, and both buffers have room for them.
 pub record ToTell (s : List ℕ) (v : View) (first n kinds wholes : ℕ) : Type 0 where

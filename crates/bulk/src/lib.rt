@@ -3,246 +3,19 @@
 // For programs that draw or convert a channel: `samples` writes the bits of consecutive samples into a buffer that the caller lends, `values` their kinds
 // and whole numbers into two, each after one pass over the file; `seen` and `values_seen` do so for a channel that was found before, with nothing else read.
 // Promises, for any octets at all: the whole answer is a definition of specs/, refusals too, and so are the buffers afterwards.
-// Read first: specs/Samples.antt, then `seen` and upwards. A change to a loop wants its speed measured again: each width has a loop
-// of its own, with straight-line reads, because the compiler makes one wide load of them only so.
+// Read first: crate strides, then specs/Samples.antt.
 ghost use mathlib.Core.Path.{_≡_};
-ghost use Prim.Native.Nat.{_+_, _*_, _≤_, min};
+ghost use Prim.Native.Nat.{_+_, _≤_, min};
 ghost use lib.ListN.{length, take};
 ghost use lib.Seq.{sets};
 ghost use Rattle.heads.specs.Answer.{mapAnswer, leftBy};
-ghost use Rattle.bulk.specs.Samples.{bitsFrom, readSays, readOf, readSeen, valuesOf, valuesSeen, kindsIn, wholesIn, countRead};
-ghost use Rattle.bulk.specs.Walked.{bitsHere, spaced, blocked, Wide, InFile, InBlocks, ToTell, kindsTold, wholesTold, kindsSeen, wholesSeen};
+ghost use Rattle.bulk.specs.Samples.{readSays, readOf, readSeen, valuesOf, valuesSeen, kindsIn, wholesIn, countRead};
+ghost use Rattle.bulk.specs.Walked.{ToTell, kindsTold, wholesTold, kindsSeen, wholesSeen};
 use heads::Refusal;
 use reader::LookedUp;
 use values::Meaning;
 use view::SamplePlace;
 use view::View;
-
-// The number of one octet.
-fn one_octet(a: u8) -> u64
-    ensures { λ r. ⌜ r ≡ a ⌝ }
-{
-    a as u64
-}
-
-// The number of eight octets, the highest first.
-fn eight_octets(a: u8, b: u8, c: u8, d: u8, e: u8, f: u8, g: u8, h: u8) -> u64
-    ensures { λ r. ⌜ r ≡ ((((((a * 256 + b) * 256 + c) * 256 + d) * 256 + e) * 256 + f) * 256 + g) * 256 + h ⌝ }
-{
-    octets::four_octets(a, b, c, d) * 0x1_0000_0000 + octets::four_octets(e, f, g, h)
-}
-
-// The bits of the sample at a place.
-fn one(s: &[u8], at: usize, little: bool) -> u64
-    requires { ⌜ at + 1 ≤ length (now s) ⌝ }
-    ensures { λ r. ⌜ r ≡ bitsHere «little» 1 (now (s .entry)) at ⌝ }
-{
-    one_octet(s[at])
-}
-
-fn two(s: &[u8], at: usize, little: bool) -> u64
-    requires { ⌜ at + 2 ≤ length (now s) ⌝ }
-    ensures { λ r. ⌜ r ≡ bitsHere «little» 2 (now (s .entry)) at ⌝ }
-{
-    let a = s[at];
-    let b = s[at + 1];
-    if little {
-        return octets::two_octets(b, a);
-    }
-    octets::two_octets(a, b)
-}
-
-fn four(s: &[u8], at: usize, little: bool) -> u64
-    requires { ⌜ at + 4 ≤ length (now s) ⌝ }
-    ensures { λ r. ⌜ r ≡ bitsHere «little» 4 (now (s .entry)) at ⌝ }
-{
-    let a = s[at];
-    let b = s[at + 1];
-    let c = s[at + 2];
-    let d = s[at + 3];
-    if little {
-        return octets::four_octets(d, c, b, a);
-    }
-    octets::four_octets(a, b, c, d)
-}
-
-fn eight(s: &[u8], at: usize, little: bool) -> u64
-    requires { ⌜ at + 8 ≤ length (now s) ⌝ }
-    ensures { λ r. ⌜ r ≡ bitsHere «little» 8 (now (s .entry)) at ⌝ }
-{
-    let a = s[at];
-    let b = s[at + 1];
-    let c = s[at + 2];
-    let d = s[at + 3];
-    let e = s[at + 4];
-    let f = s[at + 5];
-    let g = s[at + 6];
-    let h = s[at + 7];
-    if little {
-        return eight_octets(h, g, f, e, d, c, b, a);
-    }
-    eight_octets(a, b, c, d, e, f, g, h)
-}
-
-// The bits of n samples, each `step` octets after the one before it, from `at` on in the buffer.
-fn run1(s: &[u8], from: usize, step: usize, n: usize, little: bool, out: &mut [u64], at: usize)
-    requires { ⌜ InFile (length (now s)) from step n 1 ⌝ }
-    requires { ⌜ at + n ≤ length (now out) ⌝ }
-    ensures { λ _. ⌜ now (out .exit) ≡ sets (now (out .entry)) at (spaced «little» 1 (now (s .entry)) step from n) ⌝ }
-{
-    let mut q = from;
-    let mut p = at;
-    let mut left = n;
-    while 0 < left {
-        out[p] = one(s, q, little);
-        p += 1;
-        q += step;
-        left -= 1;
-    }
-}
-
-fn run2(s: &[u8], from: usize, step: usize, n: usize, little: bool, out: &mut [u64], at: usize)
-    requires { ⌜ InFile (length (now s)) from step n 2 ⌝ }
-    requires { ⌜ at + n ≤ length (now out) ⌝ }
-    ensures { λ _. ⌜ now (out .exit) ≡ sets (now (out .entry)) at (spaced «little» 2 (now (s .entry)) step from n) ⌝ }
-{
-    let mut q = from;
-    let mut p = at;
-    let mut left = n;
-    while 0 < left {
-        out[p] = two(s, q, little);
-        p += 1;
-        q += step;
-        left -= 1;
-    }
-}
-
-fn run4(s: &[u8], from: usize, step: usize, n: usize, little: bool, out: &mut [u64], at: usize)
-    requires { ⌜ InFile (length (now s)) from step n 4 ⌝ }
-    requires { ⌜ at + n ≤ length (now out) ⌝ }
-    ensures { λ _. ⌜ now (out .exit) ≡ sets (now (out .entry)) at (spaced «little» 4 (now (s .entry)) step from n) ⌝ }
-{
-    let mut q = from;
-    let mut p = at;
-    let mut left = n;
-    while 0 < left {
-        out[p] = four(s, q, little);
-        p += 1;
-        q += step;
-        left -= 1;
-    }
-}
-
-fn run8(s: &[u8], from: usize, step: usize, n: usize, little: bool, out: &mut [u64], at: usize)
-    requires { ⌜ InFile (length (now s)) from step n 8 ⌝ }
-    requires { ⌜ at + n ≤ length (now out) ⌝ }
-    ensures { λ _. ⌜ now (out .exit) ≡ sets (now (out .entry)) at (spaced «little» 8 (now (s .entry)) step from n) ⌝ }
-{
-    let mut q = from;
-    let mut p = at;
-    let mut left = n;
-    while 0 < left {
-        out[p] = eight(s, q, little);
-        p += 1;
-        q += step;
-        left -= 1;
-    }
-}
-
-// The same for samples of any width.
-fn run(
-    s: &[u8],
-    from: usize,
-    step: usize,
-    n: usize,
-    w: usize,
-    little: bool,
-    out: &mut [u64],
-    at: usize,
-)
-    requires { ⌜ Wide w ⌝ }
-    requires { ⌜ InFile (length (now s)) from step n w ⌝ }
-    requires { ⌜ at + n ≤ length (now out) ⌝ }
-    ensures { λ _. ⌜ now (out .exit) ≡ sets (now (out .entry)) at (spaced «little» w (now (s .entry)) step from n) ⌝ }
-{
-    if w == 1 {
-        run1(s, from, step, n, little, out, at);
-        return;
-    }
-    if w == 2 {
-        run2(s, from, step, n, little, out, at);
-        return;
-    }
-    if w == 4 {
-        run4(s, from, step, n, little, out, at);
-        return;
-    }
-    run8(s, from, step, n, little, out, at);
-}
-
-// The smaller of two.
-fn smaller(a: usize, b: usize) -> usize
-    ensures { λ r. ⌜ r ≡ min a b ⌝ }
-{
-    if a < b { a } else { b }
-}
-
-// The bits of n samples of blocks of b samples that lie g octets apart, from sample `first` of the block at `from` on.
-fn blocks(
-    s: &[u8],
-    from: usize,
-    first: usize,
-    b: usize,
-    g: usize,
-    w: usize,
-    little: bool,
-    out: &mut [u64],
-    n: usize,
-)
-    requires { ⌜ Wide w ⌝ }
-    requires { ⌜ InBlocks (length (now s)) from first b g w n ⌝ }
-    requires { ⌜ n ≤ length (now out) ⌝ }
-    ensures { λ _. ⌜ now (out .exit) ≡ sets (now (out .entry)) 0 (bitsFrom (blocked «little» w (now (s .entry)) from b g) first n) ⌝ }
-{
-    let mut start = from;
-    let mut r = first;
-    let mut p = 0usize;
-    while p < n {
-        let m = smaller(b - r, n - p);
-        run(s, start + r * w, w, m, w, little, out, p);
-        p += m;
-        start += g;
-        r = 0;
-    }
-}
-
-// The same, in one run where the samples are evenly spaced.
-fn fill(
-    s: &[u8],
-    start: usize,
-    r: usize,
-    b: usize,
-    g: usize,
-    w: usize,
-    little: bool,
-    out: &mut [u64],
-    n: usize,
-)
-    requires { ⌜ Wide w ⌝ }
-    requires { ⌜ InBlocks (length (now s)) start r b g w n ⌝ }
-    requires { ⌜ n ≤ length (now out) ⌝ }
-    ensures { λ _. ⌜ now (out .exit) ≡ sets (now (out .entry)) 0 (bitsFrom (blocked «little» w (now (s .entry)) start b g) r n) ⌝ }
-{
-    if b * w == g {
-        run(s, start + r * w, w, n, w, little, out, 0);
-        return;
-    }
-    if b == 1 {
-        run(s, start + r * w, g, n, w, little, out, 0);
-        return;
-    }
-    blocks(s, start, r, b, g, w, little, out, n);
-}
 
 // How many of the samples that are left there is room for.
 fn fitting(room: usize, left: u64) -> usize
@@ -265,28 +38,23 @@ pub fn seen(s: &[u8], v: View, first: u64, out: &mut [u64]) -> Read
     ensures { λ r. ⌜ readSays r ≡ mapAnswer length (readSeen (now (s .entry)) v first (length (now (out .entry)))) ⌝ }
     ensures { λ _. ⌜ now (out .exit) ≡ leftBy (readSeen (now (s .entry)) v first (length (now (out .entry)))) (now (out .entry)) ⌝ }
 {
-    match v.find(s.len(), first) {
-        SamplePlace::Refused(x) => Read::Refused(x),
-        SamplePlace::At(at) => {
-            let c = v.settings;
-            let b = c.block as u64;
-            let w = values::width(c.datatype);
-            let r = (first % b) as usize;
-            let n = fitting(out.len(), v.count() - first);
-            fill(
-                s,
-                at - r * w,
-                r,
-                b as usize,
-                v.octets as usize,
-                w,
-                v.little,
-                out,
-                n,
-            );
-            Read::Samples(n)
-        }
+    let x = v.spread();
+    let count = x.count();
+    if count <= first {
+        return Read::Refused(Refusal {
+            number: Refusal::NO_SAMPLE,
+            place: 0,
+        });
     }
+    if x.lies(s.len()) {
+        let n = fitting(out.len(), count - first);
+        strides::lay(s, x, first, n, out, 0);
+        return Read::Samples(n);
+    }
+    Read::Refused(Refusal {
+        number: Refusal::NO_FRAME,
+        place: 0,
+    })
 }
 
 // The same by frame and channel: one pass over the file finds the channel.
@@ -332,7 +100,7 @@ fn tell_samples(s: &[u8], v: View, first: u64, n: usize, kinds: &mut [u8], whole
     let mut bits = [0u64; PIECE];
     let mut done = 0usize;
     while done < n {
-        let k = smaller(PIECE, n - done);
+        let k = strides::smaller(PIECE, n - done);
         seen(s, v, first + done as u64, &mut bits);
         tell(&bits, k, m, kinds, wholes, done);
         done += k;
@@ -349,7 +117,8 @@ pub fn values_seen(s: &[u8], v: View, first: u64, kinds: &mut [u8], wholes: &mut
     match v.find(s.len(), first) {
         SamplePlace::Refused(x) => Read::Refused(x),
         SamplePlace::At(_) => {
-            let n = fitting(smaller(kinds.len(), wholes.len()), v.count() - first);
+            let x = v.spread();
+            let n = fitting(strides::smaller(kinds.len(), wholes.len()), x.count() - first);
             tell_samples(s, v, first, n, kinds, wholes);
             Read::Samples(n)
         }

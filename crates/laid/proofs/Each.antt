@@ -12,8 +12,9 @@ use native.Mathlib.Omega.{arith}
 use lib.ListN.{length}
 use Rattle.settings.specs.declared.Settings.{Settings}
 use Rattle.layout.specs.Frame.{widthIn, blockOctets, sequenceOctets, octetsBelow, channelIn, offsetOf}
+use Rattle.layout.proofs.Rows.{row-fits}
 use Rattle.laid.specs.Laid.{Named}
-use Rattle.laid.proofs.Places.{offset-is, row-fits, row-below, rest-below}
+use Rattle.laid.proofs.Places.{offset-is, row-below, rest-below}
 
 -- P holds of the k cells of w octets from number n and offset o on.
 abbrev pub UpEach : (ℕ → ℕ → Type 0) → ℕ → ℕ → ℕ → ℕ → Type 0

@@ -1,5 +1,4 @@
 -- Where samples lie.
---     row-fits                   row q of a table ends by the end of the table
 --     below-apart, below-fits    a channel's block ends before a higher channel's begins, and in the sequence
 --     offset-is                  the offset of sample r of a channel's block in sequence q
 --     row-below, rest-below      a named sample's sequence, and its number in the block
@@ -17,6 +16,7 @@ use lib.ListN.{length}
 use lib.Seq.{take-length}
 use Rattle.settings.specs.declared.Settings.{Settings}
 use Rattle.layout.specs.Frame.{widthIn, blockOctets, sequenceOctets, octetsBelow, channelIn, offsetBy, offsetOf, samplesOctets}
+use Rattle.layout.proofs.Rows.{row-fits, cells-some, cell-inside}
 use Rattle.laid.specs.Laid.{Named, Covered}
 
 -- ---- rows of equal cells
@@ -28,18 +28,10 @@ row-number G q x h = let p : 0 < G = omega arith in mul-add-div-right p q x ∙ 
 row-rest : (G q x : ℕ) → x < G → (q * G + x) % G ≡ x
 row-rest G q x h = mul-add-mod-self-right q G x ∙ mod-eq-of-lt h
 
-pub row-fits : (G q S : ℕ) → q < S → q * G + G ≤ S * G
-row-fits G q S h = rw suc-mul at (mul-le-mul-right G h)
-
 -- A place is in one row only.
 row-same : (G q p x y : ℕ) → x < G → y < G → q * G + x ≡ p * G + y → (q ≡ p) × (x ≡ y)
 row-same G q p x y h k e =
     (sym (row-number G q x h) ∙ ap (λ (t : ℕ). t / G) e ∙ row-number G p y k, sym (row-rest G q x h) ∙ ap (λ (t : ℕ). t % G) e ∙ row-rest G p y k)
-
--- A product that is above a number has no factor 0.
-factor-pos : (S b n : ℕ) → n < S * b → 0 < b
-factor-pos S zero n h = let z : n < 0 = rw mul-zero at h in omega arith
-factor-pos S (suc b) n h = omega arith
 
 -- ---- channels
 
@@ -76,10 +68,10 @@ offset-is cs c q r h = rw (row-number (channelIn c cs .block) q r h, row-rest (c
 -- A named sample: its sequence is one of S, and its number in the block is below the block length.
 module _ (cs : List Settings) (S c n : ℕ) (h : Named cs S c n) where
   pub row-below : n / channelIn c cs .block < S
-  row-below = div-lt-iff-lt-mul (factor-pos S (channelIn c cs .block) n (h .number)) .1 (h .number)
+  row-below = div-lt-iff-lt-mul (cells-some S (channelIn c cs .block) n (h .number)) .1 (h .number)
 
   pub rest-below : n % channelIn c cs .block < channelIn c cs .block
-  rest-below = mod-lt n (factor-pos S (channelIn c cs .block) n (h .number))
+  rest-below = mod-lt n (cells-some S (channelIn c cs .block) n (h .number))
 
   named-fits : (i : ℕ) → i < widthIn (channelIn c cs) → within cs c (n % channelIn c cs .block) i < sequenceOctets cs
   named-fits i l = within-fits cs c (n % channelIn c cs .block) i (h .channel) rest-below l
@@ -91,11 +83,7 @@ offset-within cs c n i = omega arith
 -- A sample ends by the end of its sequences, where its channel's block ends by the end of a sequence.
 pub offset-by : (s : Settings) (G below S n : ℕ) → below + blockOctets s ≤ G → n < S * s .block → offsetBy s G below n + widthIn s ≤ S * G
 unfolding blockOctets
-offset-by s G below S n h k =
-    let some = factor-pos S (s .block) n k in
-    let inBlock = row-fits (widthIn s) (n % s .block) (s .block) (mod-lt n some) in
-    let inAll = row-fits G (n / s .block) S (div-lt-iff-lt-mul some .1 k) in
-    omega arith
+offset-by s G below S n h k = cell-inside (s .block) (widthIn s) G below S n h k
 
 pub offset-inside : {cs : List Settings} {S c n : ℕ} → Named cs S c n → offsetOf cs c n + widthIn (channelIn c cs) ≤ samplesOctets cs S
 unfolding offsetOf
@@ -153,10 +141,10 @@ pub offset-covers : (cs : List Settings) (S o : ℕ) → o < samplesOctets cs S 
 unfolding blockOctets
 offset-covers cs S o h =
     let G = sequenceOctets cs in
-    let p : 0 < G = factor-pos S G o h in
+    let p : 0 < G = cells-some S G o h in
     let b : Block cs (o % G) = block-of cs (o % G) (mod-lt o p) in
     let s = channelIn (b .channel) cs in
-    let v : 0 < widthIn s = factor-pos (s .block) (widthIn s) (b .rest) (b .below) in
+    let v : 0 < widthIn s = cells-some (s .block) (widthIn s) (b .rest) (b .below) in
     let q = o / G in
     let r = b .rest / widthIn s in
     let l : q < S = div-lt-iff-lt-mul p .1 h in

@@ -8,7 +8,7 @@
 --     take-few       no more records are taken than there are
 --     null-le, channel-few, groups-few    a null, a channel number and groups take few octets
 --     sequences-item-few, head-few, frame-few    and so do 06, a frame's head, and a frame
---     held-none, held-by    whether sequences fit in so many octets, by how many do
+--     held-by      whether sequences fit in so many octets, by how many do
 -- Assumes nothing.
 use mathlib.Core.Path.{_≡_, refl, sym, ap, _∙_}
 use mathlib.Core.List.{List, [], _∷_}
@@ -205,11 +205,7 @@ frame-few sequences groups waveform h l = omega (arith, head-few sequences, leng
 
 -- ---- sequences in so many octets
 
--- Sequences of no octets are held.
-pub held-none : (sequences octets most : ℕ) → octets ≡ 0 → true ≡ leb (sequences * octets) most
-held-none sequences octets most e = sym (le-leb (sequences * octets) most (rw (e, mul-zero) (omega arith)))
-
--- Others are where that many fit in.
+-- Sequences fit in where that many do.
 pub held-by : (sequences octets most : ℕ) → (octets ≡ 0 → ⊥) → leb sequences (most / octets) ≡ leb (sequences * octets) most
 held-by sequences octets most n = by (leb sequences (most / octets)) refl
   where

@@ -156,8 +156,8 @@ pub fn head_size(sequences: u32) -> usize
 pub fn holds(long: u64, sequences: u32, octets: u64) -> bool
     ensures { λ r. ⌜ r ≡ leb (sequences * octets) long ⌝ }
 {
-    if octets == 0 {
-        return true;
+    if octets < octets::FOUR_OCTETS {
+        return sequences as u64 * octets <= long;
     }
     sequences as u64 <= long / octets
 }

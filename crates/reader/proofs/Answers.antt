@@ -24,7 +24,7 @@ use Rattle.octets.proofs.Laws.{part-read, part-fits}
 use Rattle.values.specs.Sample.{Said, widthOf, valueOf, lowBits}
 use Rattle.values.proofs.Laws.{width-some, width-le, low-bits}
 use Rattle.settings.specs.Settings.{zeroSettings}
-use Rattle.layout.specs.Frame.{Frame, reported, sequenceOctets, octetsBelow, channelIn, samplesOf, offsetOf, placeOf}
+use Rattle.layout.specs.Frame.{Frame, reported, sequenceOctets, octetsBelow, channelIn, samplesOf, offsetOf, placeOf, blockOctets}
 use Rattle.reader.specs.declared.Attributes.{Attributes}
 use Rattle.reader.specs.declared.LookedUp.{LookedUp}
 use Rattle.reader.specs.declared.Placed.{Placed}
@@ -34,7 +34,7 @@ use Rattle.laid.proofs.Places.{below-fits}
 use Rattle.pass.specs.declared.Asked.{Asked}
 use Rattle.view.specs.declared.View.{View}
 use Rattle.view.specs.View.{viewOf, countSeen, placeSeen, liesIn, askedSeen, placeIn}
-use Rattle.view.proofs.Lying.{LiesIn, in-lies, map-seen}
+use Rattle.view.proofs.Lying.{LiesIn, lies-seen, map-seen}
 use Rattle.pass.specs.declared.Found.{Found}
 use Rattle.pass.specs.declared.Found.the-variants.{Nothing}
 use Rattle.verdict.specs.declared.Checked.{Checked}
@@ -236,19 +236,22 @@ module _ {s : List ℕ} {frame channel : ℕ} {w : View} (p : Located s frame ch
 
   -- The channel's samples lie in the file.
   pub located-in : Octets s → LiesIn (length s) w
+  unfolding blockOctets
   located-in o =
       let a = accepted-lies s (p .frames) (p .verdictIs) frame (p .frameIn) in
       let g = accepted-good s o (p .frames) (p .verdictIs) frame (p .frameIn) in
       let t = every-at GoodSettings (frameIn .channels) (g .channels) zeroSettings channel (p .channelIs) .datatype in
       record {
-        small = accepted-small s (p .frames) (p .verdictIs);
-        wide = rw settings-seen (width-some (channelIn channel (frameIn .channels) .datatype) t);
-        block = rw (settings-seen, below-seen, octets-seen) (below-fits (frameIn .channels) channel (p .channelIs));
-        inside = rw (place-seen, sequences-seen, octets-seen) (omega (arith, a .fits, a .inside));
+        spread = record {
+          small = accepted-small s (p .frames) (p .verdictIs);
+          wide = rw settings-seen (width-some (channelIn channel (frameIn .channels) .datatype) t);
+          block = rw (settings-seen, below-seen, octets-seen) (below-fits (frameIn .channels) channel (p .channelIs));
+          inside = rw (place-seen, sequences-seen, octets-seen) (omega (arith, a .fits, a .inside));
+        };
       }
 
   pub located-lies : Octets s → liesIn (length s) w ≡ true
-  located-lies o = in-lies (located-in o)
+  located-lies o = lies-seen (located-in o)
 
   -- A question for a sample of the channel, over what is seen of it.
   pub asked-seen : Octets s → {A : Type 0} (g : Frame → A) (n : ℕ) → askedSample g frame channel n (verdict s) ≡ askedSeen (length s) w n (g frameIn)

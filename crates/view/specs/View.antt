@@ -1,15 +1,16 @@
 -- A channel of a frame as it is kept for reading its samples (document 01, "Frames and samples"): how many they are, where they lie, and
 -- whether they lie in a file.
 use mathlib.Core.Bool.{Bool}
-use Prim.Native.Nat.{ℕ, _+_, _*_}
-use lib.Dec.{ltb, leb}
+use Prim.Native.Nat.{ℕ}
+use lib.Dec.{ltb}
 use lib.ListN.{length}
-use Rattle.octets.specs.Pick.{pick, both}
+use Rattle.octets.specs.Pick.{pick}
 use Rattle.heads.specs.Refusals.{noFrame, noSample}
 use Rattle.heads.specs.Answer.{Answer, answered, refusedAs, refusedBy}
 use Rattle.settings.specs.Settings.{defaultSettings}
-use Rattle.layout.specs.Frame.{Frame, widthIn, blockOctets, sequenceOctets, octetsBelow, channelIn, offsetBy}
-use Rattle.standing.specs.Standing.{octetsLimit}
+use Rattle.layout.specs.Frame.{Frame, sequenceOctets, octetsBelow, channelIn}
+use Rattle.strides.specs.declared.Spread.{Spread}
+use Rattle.strides.specs.Spread.{countSpread, placeSpread, liesSpread}
 use Rattle.view.specs.declared.View.{View}
 use Rattle.view.specs.declared.SamplePlace.{SamplePlace}
 use Rattle.view.specs.declared.SamplePlace.the-variants.{At}
@@ -29,21 +30,30 @@ viewOf channel f =
       settings = c;
     }
 
--- How many samples the channel has: sequences times its block length.
+-- Where its samples lie.
+abbrev pub spreadOf : View → Spread
+spreadOf v =
+    record {
+      sequences = v .sequences;
+      little = v .little;
+      place = v .place;
+      octets = v .octets;
+      below = v .below;
+      block = v .settings .block;
+      datatype = v .settings .datatype;
+    }
+
+-- How many samples the channel has.
 abbrev pub countSeen : View → ℕ
-countSeen v = v .sequences * v .settings .block
+countSeen v = countSpread (spreadOf v)
 
 -- The place of a sample of the channel.
 unfoldable pub placeSeen : View → ℕ → ℕ
-placeSeen v n = v .place + offsetBy (v .settings) (v .octets) (v .below) n
+placeSeen v n = placeSpread (spreadOf v) n
 
--- The samples lie in a file of `size` octets: a file has no more than the limit, a sample has octets, the channel's block ends by the end of
--- its sequence, and the sequences end by the end of the file.
+-- The samples lie in a file of `size` octets.
 unfoldable pub liesIn : ℕ → View → Bool
-liesIn size v =
-    both (leb size octetsLimit)
-    (both (ltb 0 (widthIn (v .settings)))
-    (both (leb (v .below + blockOctets (v .settings)) (v .octets)) (leb (v .place + v .sequences * v .octets) size)))
+liesIn size v = liesSpread size (spreadOf v)
 
 -- A question for a sample of the channel in a file of `size` octets answers 22 where the channel has no such sample, then 20 where its samples
 -- do not lie in the file, which then has no such frame; and else what is asked.

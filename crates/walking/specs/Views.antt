@@ -28,11 +28,13 @@ viewBy v below c =
       settings = c;
     }
 
--- The same of the words that hold the frame: what is kept with the channel's record.
+-- The same by the words of the channels' records: what is kept with the channel's.
+abbrev pub viewAt : List ℕ → Waveform → ℕ → View
+viewAt t v channel = viewBy v (belowIn t channel) (getD (recordsIn t) channel zeroDated .settings)
+
+-- The same of the words that hold the frame.
 abbrev pub viewKept : List ℕ → ℕ → View
-viewKept u channel =
-    let t = drop headWords u in
-    viewBy (waveformIn u) (belowIn t channel) (getD (recordsIn t) channel zeroDated .settings)
+viewKept u channel = viewAt (drop headWords u) (waveformIn u) channel
 
 -- A channel of the frame that the last step told of: 20 where it told of none, then 21 where the frame has no such channel.
 unfoldable pub viewIn : List ℕ → ℕ → Answer View

@@ -7,8 +7,9 @@ use lib.ListN.{length, length-replicate}
 use lib.Seq.{sets}
 use Rattle.values.specs.declared.Meaning.{Meaning}
 use Rattle.values.specs.Told.{toldOf}
-use Rattle.view.proofs.Lying.{lies-in}
-use Rattle.bulk.specs.Samples.{bitsFrom, bitsSeen}
+use Rattle.view.proofs.Lying.{seen-lies}
+use Rattle.strides.specs.Spread.{bitsFrom}
+use Rattle.bulk.specs.Samples.{bitsSeen}
 use Rattle.bulk.specs.Walked.{kindsTold, wholesTold}
 use Rattle.bulk.proofs.Telling.{Pieces, pieces-begin, pieces-turn, pieces-end, seen-piece, seen-long}
 use borrow.Author.Needs.{needs}
@@ -87,7 +88,7 @@ loop-again c =
     let k = at-smaller .smaller .result in
     let long = seen-long (a .s .now) (a .v) _ (at-loop .loop .bits) (at-seen .seen .ensures .1) ∙ at-loop .loop .inv .1 .1 in
     let fits : done + k ≤ a .n = omega (arith, at-smaller .smaller .ensures, at-loop-test .loop-test .taken) in
-    let bits = seen-piece (a .s .now) (a .v) (a .first + done) (length (at-loop .loop .bits)) k (at-loop .loop .bits) (lies-in (at-args .pre .lies)) (omega (arith, at-args .pre .number, at-loop-test .loop-test .taken)) (omega (arith, at-smaller .smaller .ensures, at-args .pre .number, at-loop-test .loop-test .taken, at-loop .loop .inv .1 .1)) (at-seen .seen .ensures .1) in (
+    let bits = seen-piece (a .s .now) (a .v) (a .first + done) (length (at-loop .loop .bits)) k (at-loop .loop .bits) (seen-lies (at-args .pre .lies)) (omega (arith, at-args .pre .number, at-loop-test .loop-test .taken)) (omega (arith, at-smaller .smaller .ensures, at-args .pre .number, at-loop-test .loop-test .taken, at-loop .loop .inv .1 .1)) (at-seen .seen .ensures .1) in (
       pieces-turn _ _ _ _ k fits (at-tell .tell .ensures .0 ∙ ap (λ (l : List ℕ). sets (at-loop .loop .kinds) done (kindsTold (at-of-type .of-type .result) l)) bits) (at-loop .loop .inv .0),
       (pieces-turn _ _ _ _ k fits (at-tell .tell .ensures .1 ∙ ap (λ (l : List ℕ). sets (at-loop .loop .wholes) done (wholesTold (at-of-type .of-type .result) l)) bits) (at-loop .loop .inv .1 .0), long),
     )

@@ -7,9 +7,10 @@ use lib.Seq.{sets}
 use Rattle.octets.specs.Number.{Octets}
 use Rattle.heads.specs.Answer.{answered, mapAnswer}
 use Rattle.view.specs.View.{countSeen}
-use Rattle.view.proofs.Lying.{in-lies, found-in, found-asked, unfound}
-use Rattle.bulk.specs.Samples.{bitsFrom, bitsSeen, readSeen, valuesBy, valuesSeen, kindsIn, wholesIn}
-use Rattle.bulk.proofs.Walks.{length-bits}
+use Rattle.view.proofs.Lying.{lies-seen, found-in, found-asked, unfound}
+use Rattle.strides.specs.Spread.{bitsFrom}
+use Rattle.bulk.specs.Samples.{bitsSeen, readSeen, valuesBy, valuesSeen, kindsIn, wholesIn}
+use Rattle.strides.proofs.Walks.{length-bits}
 use Rattle.bulk.proofs.Reading.{kept, filled}
 use Rattle.bulk.proofs.Telling.{kinds-told, wholes-told}
 use borrow.Author.Needs.{needs}
@@ -25,6 +26,9 @@ enum-known-x c = search needs
 enum-told : tie.Need-enum-told
 enum-told c = search needs
 
+spread-requires : tie.Need-spread-requires
+spread-requires c κs = search needs
+
 smaller-requires : tie.Need-smaller-requires
 smaller-requires c κs = search needs
 
@@ -33,12 +37,13 @@ count-requires c κs = search needs
 
 sub-fitting : tie.Need-sub-fitting
 sub-fitting c =
-    let at-enum-told = c .before .before in
+    let at-spread = c .before .before in
+    let at-enum-told = at-spread .before in
     let at-find = at-enum-told .before .before in
     let at-start = at-find .before .before .before in
     let a = at-start .args in
     let m = found-in (length (a .s .now)) (a .v) (a .first) (at-find .find .ensures) (at-enum-told .enum-told .given .1) in
-    omega (arith, m .number, c .count .ensures)
+    omega (arith, m .number, rw (at-spread .spread .ensures) at (c .count .ensures))
 
 fitting-requires : tie.Need-fitting-requires
 fitting-requires c κs = search needs
@@ -48,16 +53,17 @@ tell-samples-requires c κs =
     let at-fitting = c .before .before in
     let at-count = at-fitting .before in
     let at-smaller = at-count .before in
-    let at-enum-told = at-smaller .before in
+    let at-spread = at-smaller .before in
+    let at-enum-told = at-spread .before in
     let at-find = at-enum-told .before .before in
     let at-start = at-find .before .before .before in
     let a = at-start .args in
     let m = found-in (length (a .s .now)) (a .v) (a .first) (at-find .find .ensures) (at-enum-told .enum-told .given .1) in
     let n = at-fitting .fitting .ensures in
     let room = at-smaller .smaller .ensures in
-    let count = at-count .count .ensures in
+    let count = rw (at-spread .spread .ensures) at (at-count .count .ensures) in
     let number : a .first + at-fitting .fitting .result ≤ countSeen (a .v) = omega (arith, m .number) in
-    record { lies = in-lies (m .lies); number = number; small = omega arith; kindsFit = omega arith; wholesFit = omega arith }
+    record { lies = lies-seen (m .lies); number = number; small = omega arith; kindsFit = omega arith; wholesFit = omega arith }
 
 returns : tie.Need-returns
 unfolding valuesSeen readSeen
@@ -83,7 +89,8 @@ returns-2 c =
     let at-fitting = at-tell-samples .before .before .before in
     let at-count = at-fitting .before in
     let at-smaller = at-count .before in
-    let at-enum-told = at-smaller .before in
+    let at-spread = at-smaller .before in
+    let at-enum-told = at-spread .before in
     let at-find = at-enum-told .before .before in
     let at-shared-slice-known = at-find .before .before in
     let at-start = at-shared-slice-known .before in
@@ -91,7 +98,7 @@ returns-2 c =
     let m = found-in (length (a .s .now)) (a .v) (a .first) (at-find .find .ensures) (at-enum-told .enum-told .given .1) in
     let n = at-fitting .fitting .result in
     let room = ap (λ (k : ℕ). min k (at-count .count .result - a .first)) (at-smaller .smaller .ensures) in
-    let left = ap (λ (k : ℕ). min (min (length (a .kinds .now)) (length (a .wholes .now))) (k - a .first)) (at-count .count .ensures) in
+    let left = ap (λ (k : ℕ). min (min (length (a .kinds .now)) (length (a .wholes .now))) (k - a .first)) (rw (at-spread .spread .ensures) at (at-count .count .ensures)) in
     let many = at-fitting .fitting .ensures ∙ room ∙ left in
     let bits = bitsFrom (bitsSeen (a .s .now) (a .v)) (a .first) n in
     let read = ap (λ (k : ℕ). answered (bitsFrom (bitsSeen (a .s .now) (a .v)) (a .first) k)) many ∙ sym (found-asked _ m) in
@@ -111,6 +118,7 @@ values-seen-spec =
     find-requires
     enum-known-x
     enum-told
+    spread-requires
     smaller-requires
     count-requires
     sub-fitting

@@ -1,46 +1,59 @@
--- By the two tests; a sample of a view that lies in a file has a small place.
+-- By the two tests; a sample that lies in a file has a small place.
 use mathlib.Core.Path.{sym, _∙_}
 use Prim.Native.Nat.{_≤_, _<_}
 use native.Mathlib.Omega.{arith}
 use borrow.Author.Tests.{lt-ltb, le-ltb}
-use Rattle.view.specs.View.{countSeen}
-use Rattle.view.proofs.Lying.{lies-in, block-some, seen-inside}
+use Rattle.layout.proofs.Rows.{cells-some}
+use Rattle.strides.proofs.Lying.{lies-in, spread-inside}
+use Rattle.view.specs.View.{spreadOf, countSeen, placeSeen, liesIn}
 use borrow.Author.Needs.{needs}
 use Rattle.view.proofs.View.find.Statement.{statement}
 use Rattle.view.proofs.View.find.Tie as tie
+
+spread-requires : tie.Need-spread-requires
+spread-requires c κs = search needs
 
 count-requires : tie.Need-count-requires
 count-requires c κs = search needs
 
 returns : tie.Need-returns
 returns c =
-    let a = c .before .before .args in
-    let k : countSeen (a .self) ≤ a .number = omega arith in
+    let a = c .before .before .before .args in
+    let k : countSeen (a .self) ≤ a .number = omega (arith, c .if1 .taken, rw (c .before .before .spread .ensures) at (c .before .count .ensures)) in
     simp (le-ltb _ _ k)
 
 lies-requires : tie.Need-lies-requires
 lies-requires c κs = search needs
 
-place-seen-requires : tie.Need-place-seen-requires
-place-seen-requires c κs =
-    let a = c .before .before .before .before .args in
-    let k : a .number < countSeen (a .self) = omega arith in
-    let l = lies-in (sym (c .before .lies .ensures) ∙ c .if2 .taken) in
-    (block-some (a .self) (a .number) k, omega (arith, l .small, seen-inside l (a .number) k))
+place-of-requires : tie.Need-place-of-requires
+place-of-requires c κs =
+    let a = c .before .before .before .before .before .args in
+    let k : a .number < countSeen (a .self) = omega (arith, c .before .before .if1 .left, rw (c .before .before .before .before .spread .ensures) at (c .before .before .before .count .ensures)) in
+    let l = lies-in {size = c .before .before .before .before .before .args .size} {x = spreadOf (a .self)} (sym (rw (c .before .before .before .before .spread .ensures) at (c .before .lies .ensures)) ∙ c .if2 .taken) in
+    rw (c .before .before .before .before .spread .ensures) (cells-some (a .self .sequences) (a .self .settings .block) (a .number) k, omega (arith, l .small, spread-inside l (a .number) k))
 
 returns-2 : tie.Need-returns-2
+unfolding placeSeen liesIn
 returns-2 c =
-    let a = c .before .before .before .before .before .args in
-    let k : a .number < countSeen (a .self) = omega arith in
-    simp (lt-ltb _ _ k, sym (c .before .before .lies .ensures) ∙ c .before .if2 .taken, c .place-seen .ensures)
+    let a = c .before .before .before .before .before .before .args in
+    let k : a .number < countSeen (a .self) = omega (arith, c .before .before .before .if1 .left, rw (c .before .before .before .before .before .spread .ensures) at (c .before .before .before .before .count .ensures)) in
+    simp (lt-ltb _ _ k, sym (rw (c .before .before .before .before .before .spread .ensures) at (c .before .before .lies .ensures)) ∙ c .before .if2 .taken, rw (c .before .before .before .before .before .spread .ensures) at (c .place-of .ensures))
 
 returns-3 : tie.Need-returns-3
+unfolding liesIn
 returns-3 c =
-    let a = c .before .before .before .before .args in
-    let k : a .number < countSeen (a .self) = omega arith in
-    simp (lt-ltb _ _ k, sym (c .before .lies .ensures) ∙ c .if2 .left)
+    let a = c .before .before .before .before .before .args in
+    let k : a .number < countSeen (a .self) = omega (arith, c .before .before .if1 .left, rw (c .before .before .before .before .spread .ensures) at (c .before .before .before .count .ensures)) in
+    simp (lt-ltb _ _ k, sym (rw (c .before .before .before .before .spread .ensures) at (c .before .lies .ensures)) ∙ c .if2 .left)
 
 pub find-spec : {M : Type 1} → statement M
 find-spec =
     tie.close
-    (tie.spec count-requires returns lies-requires place-seen-requires returns-2 returns-3)
+    (tie.spec
+    spread-requires
+    count-requires
+    returns
+    lies-requires
+    place-of-requires
+    returns-2
+    returns-3)

@@ -1,0 +1,143 @@
+-- Laws of where the samples of a channel lie.
+--     rest-test       a sum that fits
+--     lies-in, in-lies            the test whether samples lie in a file
+--     lies-narrow, lies-tests     and that test as it is computed
+--     spread-inside   a sample that lies in a file ends there
+--     width-wide      the widths of samples
+--     lays-in, in-lays    samples that can be laid
+--     no-bits        no samples
+--     block-start, block-rest, in-blocks, laid-bits    they lie in the file in blocks, from the block of the first one on
+-- Assumes nothing.
+use mathlib.Core.Path.{_≡_, refl, sym, ap, _∙_}
+use mathlib.Core.Bool.{Bool, true, false}
+use mathlib.Core.Logic.{inl, inr}
+use mathlib.Core.List.{List}
+use Prim.Native.Nat.{ℕ, _+_, _-_, _*_, _/_, _%_, _≤_, _<_}
+use native.Mathlib.Nat.{zero-mul, zero-add, add-mul, mod-lt, div-add-mod', mul-add-div-right, mul-add-mod-self-right}
+use native.Mathlib.Decide.{decLt}
+use native.Mathlib.Omega.{arith}
+use borrow.Author.Tests.{ltb-true, leb-true, leb-false, lt-ltb, le-ltb, le-leb, lt-leb}
+use lib.Dec.{ltb, leb}
+use lib.ListN.{length}
+use lib.Seq.{sets}
+use Rattle.octets.specs.Pick.{both}
+use Rattle.octets.proofs.Pick.{both-split}
+use Rattle.values.specs.Sample.{widthOf}
+use Rattle.values.proofs.Laws.{width-cases, width-other}
+use Rattle.layout.proofs.Rows.{row-fits, rows-some, cells-some, cell-inside}
+use Rattle.standing.specs.Standing.{octetsLimit}
+use Rattle.strides.specs.declared.Spread.{Spread}
+use Rattle.strides.specs.Spread.{widthSpread, countSpread, placeSpread, liesSpread, bitsSpread, bitsFrom, laysIn}
+use Rattle.strides.specs.Walked.{bitsHere, blocked, Wide, InBlocks, Lies, Layable}
+use Rattle.strides.proofs.Walks.{bits-same}
+
+-- What is left of n behind b holds a where n holds both.
+pub rest-test : (a b n : ℕ) → b ≤ n → leb a (n - b) ≡ leb (a + b) n
+rest-test a b n h = by (leb a (n - b)) refl
+  where
+    by : (t : Bool) → leb a (n - b) ≡ t → t ≡ leb (a + b) n
+    by true e = sym (le-leb (a + b) n (omega (arith, leb-true a (n - b) e)))
+    by false e = sym (lt-leb (a + b) n (omega (arith, leb-false a (n - b) e)))
+
+module _ {size : ℕ} {x : Spread} where
+  pub lies-in : liesSpread size x ≡ true → Lies size x
+  lies-in e =
+      let a = both-split (leb size octetsLimit) _ e in
+      let b = both-split (ltb 0 (widthSpread x)) _ (a .1) in
+      let c = both-split (leb (x .below + x .block * widthSpread x) (x .octets)) _ (b .1) in
+      record { small = leb-true _ _ (a .0); wide = ltb-true _ _ (b .0); block = leb-true _ _ (c .0); inside = leb-true _ _ (c .1) }
+
+  pub in-lies : Lies size x → liesSpread size x ≡ true
+  in-lies l = simp (le-leb _ _ (l .small), lt-ltb _ _ (l .wide), le-leb _ _ (l .block), le-leb _ _ (l .inside))
+
+-- The tests as they are computed, with the width as it was read.
+module _ (size : ℕ) (x : Spread) {w : ℕ} (e : w ≡ widthSpread x) (h : size ≤ octetsLimit) where
+  pub lies-narrow : w ≡ 0 → false ≡ liesSpread size x
+  lies-narrow z = let k : widthSpread x ≤ 0 = omega arith in simp (le-leb _ _ h, le-ltb _ _ k)
+
+  pub lies-tests : (w ≡ 0 → ⊥) → {t : Bool} → t ≡ leb (x .below + x .block * w) (x .octets) → both t (leb (x .place + x .sequences * x .octets) size) ≡ liesSpread size x
+  lies-tests n f =
+      let k : 0 < widthSpread x = omega arith in
+      simp (le-leb _ _ h, lt-ltb _ _ k, f, e)
+
+-- A sample that lies in a file ends there.
+pub spread-inside : {size : ℕ} {x : Spread} → Lies size x → (n : ℕ) → n < countSpread x → placeSpread x n + widthSpread x ≤ size
+spread-inside {x = x} l n h = omega (arith, l .inside, cell-inside (x .block) (widthSpread x) (x .octets) (x .below) (x .sequences) n (l .block) h)
+
+-- The widths of samples.
+pub width-wide : (k : ℕ) → 0 < widthOf k → Wide (widthOf k)
+width-wide k h = by (decLt 8 k)
+  where
+    by : Dec (8 < k) → Wide (widthOf k)
+    by (yes l) = let z : ⊥ = omega (arith, width-other k l) in absurd z
+    by (no l) = width-cases Wide (inl refl) (inr (inl refl)) (inr (inr (inl refl))) (inr (inr (inr refl))) k (omega arith)
+
+-- ---- samples, block by block
+
+-- The place of a sample that is j after another, from that one's block.
+walk-place : (place b G below w first j : ℕ) → 0 < b
+    → place + (first / b * G + below) + ((first % b + j) / b * G + (first % b + j) % b * w)
+    ≡ place + ((first + j) / b * G + below + (first + j) % b * w)
+walk-place place b G below w first j h =
+    let e : first + j ≡ first / b * b + (first % b + j) = omega (arith, div-add-mod' first b) in
+    let d : (first + j) / b ≡ first / b + (first % b + j) / b = ap (λ (n : ℕ). n / b) e ∙ mul-add-div-right h (first / b) (first % b + j) in
+    let m : (first + j) % b ≡ (first % b + j) % b = ap (λ (n : ℕ). n % b) e ∙ mul-add-mod-self-right (first / b) b (first % b + j) in
+    rw (d, m, add-mul) (omega arith)
+
+-- Samples that can be laid.
+pub lays-in : (size room : ℕ) (x : Spread) (first n at : ℕ) → laysIn size room x first n at ≡ true → Layable size room x first n at
+lays-in size room x first n at e =
+    let a = both-split (leb (at + n) room) _ e in
+    let b = both-split (leb (first + n) (countSpread x)) _ (a .1) in
+    record { fits = leb-true _ _ (a .0); there = leb-true _ _ (b .0); lies = lies-in (b .1) }
+
+pub in-lays : {size room : ℕ} {x : Spread} {first n at : ℕ} → Layable size room x first n at → laysIn size room x first n at ≡ true
+in-lays k = simp (le-leb _ _ (k .fits), le-leb _ _ (k .there), in-lies (k .lies))
+
+-- The first octet of the block of a sample.
+abbrev pub block-start : Spread → ℕ → ℕ
+block-start x first = x .place + (first / x .block * x .octets + x .below)
+
+module _ {size room : ℕ} {x : Spread} {first n at : ℕ} (h : 0 < n) (k : Layable size room x first n at) where
+  l : Lies size x
+  l = k .lies
+
+  one : first < countSpread x
+  one = omega (arith, k .there)
+
+  pub block-some : 0 < x .block
+  block-some = cells-some (x .sequences) (x .block) first one
+
+  walked : (j : ℕ) → block-start x first + ((first % x .block + j) / x .block * x .octets + (first % x .block + j) % x .block * widthSpread x) ≡ placeSpread x (first + j)
+  walked j = walk-place (x .place) (x .block) (x .octets) (x .below) (widthSpread x) first j block-some
+
+  pub start-inside : block-start x first + first % x .block * widthSpread x ≤ octetsLimit
+  start-inside = omega (arith, spread-inside l first one, l .small)
+
+  -- The number of the sample in its block, as it is computed.
+  pub block-rest : (first / x .block * x .block ≤ first) × (first - first / x .block * x .block ≡ first % x .block)
+  block-rest = let e = div-add-mod' first (x .block) in (omega arith, omega arith)
+
+  pub in-blocks : InBlocks size (block-start x first) (first % x .block) (x .block) (x .octets) (widthSpread x) n
+  in-blocks =
+      let row = row-fits (x .octets) 0 (x .sequences) (rows-some (x .sequences) (x .block) first one) in
+      record {
+        small = l .small;
+        apart = omega (arith, rw (zero-mul, zero-add) at row, l .small, l .inside);
+        low = mod-lt first block-some;
+        block = omega (arith, l .block);
+        starts = omega (arith, spread-inside l first one);
+        each = λ j i. rw (walked j) (spread-inside l (first + j) (omega (arith, k .there)));
+      }
+
+  -- The samples of the blocks are those of the channel.
+  pub laid-bits : (s : List ℕ) → bitsFrom (blocked (x .little) (widthSpread x) s (block-start x first) (x .block) (x .octets)) (first % x .block) n ≡ bitsFrom (bitsSpread s x) first n
+  unfolding blocked
+  laid-bits s =
+      bits-same (blocked (x .little) (widthSpread x) s (block-start x first) (x .block) (x .octets)) (bitsSpread s x) (first % x .block) first n
+      (λ j i. ap (bitsHere (x .little) (widthSpread x) s) (walked j))
+
+-- No samples leave a buffer as it is.
+pub no-bits : (g : ℕ → ℕ) (first n at : ℕ) {out : List ℕ} → n ≤ 0 → out ≡ sets out at (bitsFrom g first n)
+unfolding bitsFrom
+no-bits g first n at {out} h = let e : n ≡ 0 = omega arith in rw e

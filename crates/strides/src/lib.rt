@@ -1,0 +1,370 @@
+// Where the samples of a channel lie, and their bits read into a buffer.
+//
+// For whoever knows a frame and one of its channels: `Spread` is where the channel's samples lie, and `lay` reads many of them, with nothing else read.
+// Promises, whatever numbers a spread holds: `count` is how many samples it has, `lies` whether they lie in a file of so many octets, and `lay` lays the
+// bits of samples into a buffer where they do and the buffer holds them, and else leaves it as it is.
+// Read first: specs/Spread.antt, then `lay` and upwards. A change to a loop wants its speed measured again: each width has a loop
+// of its own, with straight-line reads, because the compiler makes one wide load of them only so.
+ghost use mathlib.Core.Path.{_≡_};
+ghost use Prim.Native.Nat.{_+_, _*_, _/_, _≤_, _<_, min};
+ghost use lib.ListN.{length};
+ghost use lib.Dec.{leb};
+ghost use lib.Seq.{sets};
+ghost use Rattle.octets.specs.Pick.{pick, both};
+ghost use Rattle.strides.specs.Spread.{countSpread, liesSpread, bitsSpread, bitsFrom, laysIn};
+ghost use Rattle.strides.specs.Walked.{bitsHere, spaced, blocked, Wide, InFile, InBlocks, Layable};
+use standing::Standing;
+
+// Where the samples of a channel lie: `place` is that of the waveform's first octet, `octets` are those of a sequence, `below` those below the
+// channel.
+pub struct Spread {
+    pub sequences: u32,
+    pub little: bool,
+    pub place: usize,
+    pub octets: u64,
+    pub below: u64,
+    pub block: u32,
+    pub datatype: u8,
+}
+
+// Whether a block behind so many octets ends by the end of a sequence.
+fn block_inside(below: u64, block: u64, octets: u64) -> bool
+    ensures { λ r. ⌜ r ≡ leb (below + block) octets ⌝ }
+{
+    if octets < block {
+        return false;
+    }
+    below <= octets - block
+}
+
+// Whether sequences from a place on end by the end of a file.
+fn sequences_inside(place: usize, sequences: u32, octets: u64, size: usize) -> bool
+    ensures { λ r. ⌜ r ≡ leb (place + sequences * octets) size ⌝ }
+{
+    if size < place {
+        return false;
+    }
+    layout::holds((size - place) as u64, sequences, octets)
+}
+
+impl Spread {
+    // How many samples the channel has.
+    pub fn count(self) -> u64
+        ensures { λ r. ⌜ r ≡ countSpread self ⌝ }
+    {
+        self.sequences as u64 * self.block as u64
+    }
+
+    // Whether the samples lie in a file of `size` octets.
+    pub fn lies(self, size: usize) -> bool
+        ensures { λ r. ⌜ r ≡ liesSpread size self ⌝ }
+    {
+        let w = values::width(self.datatype) as u64;
+        if Standing::OCTETS < size {
+            return false;
+        }
+        if w == 0 {
+            return false;
+        }
+        if block_inside(self.below, self.block as u64 * w, self.octets) {
+            return sequences_inside(self.place, self.sequences, self.octets, size);
+        }
+        false
+    }
+}
+
+// The number of one octet.
+fn one_octet(a: u8) -> u64
+    ensures { λ r. ⌜ r ≡ a ⌝ }
+{
+    a as u64
+}
+
+// The number of eight octets, the highest first.
+fn eight_octets(a: u8, b: u8, c: u8, d: u8, e: u8, f: u8, g: u8, h: u8) -> u64
+    ensures { λ r. ⌜ r ≡ ((((((a * 256 + b) * 256 + c) * 256 + d) * 256 + e) * 256 + f) * 256 + g) * 256 + h ⌝ }
+{
+    octets::four_octets(a, b, c, d) * 0x1_0000_0000 + octets::four_octets(e, f, g, h)
+}
+
+// The bits of the sample at a place.
+fn one(s: &[u8], at: usize, little: bool) -> u64
+    requires { ⌜ at + 1 ≤ length (now s) ⌝ }
+    ensures { λ r. ⌜ r ≡ bitsHere «little» 1 (now (s .entry)) at ⌝ }
+{
+    one_octet(s[at])
+}
+
+fn two(s: &[u8], at: usize, little: bool) -> u64
+    requires { ⌜ at + 2 ≤ length (now s) ⌝ }
+    ensures { λ r. ⌜ r ≡ bitsHere «little» 2 (now (s .entry)) at ⌝ }
+{
+    let a = s[at];
+    let b = s[at + 1];
+    if little {
+        return octets::two_octets(b, a);
+    }
+    octets::two_octets(a, b)
+}
+
+fn four(s: &[u8], at: usize, little: bool) -> u64
+    requires { ⌜ at + 4 ≤ length (now s) ⌝ }
+    ensures { λ r. ⌜ r ≡ bitsHere «little» 4 (now (s .entry)) at ⌝ }
+{
+    let a = s[at];
+    let b = s[at + 1];
+    let c = s[at + 2];
+    let d = s[at + 3];
+    if little {
+        return octets::four_octets(d, c, b, a);
+    }
+    octets::four_octets(a, b, c, d)
+}
+
+fn eight(s: &[u8], at: usize, little: bool) -> u64
+    requires { ⌜ at + 8 ≤ length (now s) ⌝ }
+    ensures { λ r. ⌜ r ≡ bitsHere «little» 8 (now (s .entry)) at ⌝ }
+{
+    let a = s[at];
+    let b = s[at + 1];
+    let c = s[at + 2];
+    let d = s[at + 3];
+    let e = s[at + 4];
+    let f = s[at + 5];
+    let g = s[at + 6];
+    let h = s[at + 7];
+    if little {
+        return eight_octets(h, g, f, e, d, c, b, a);
+    }
+    eight_octets(a, b, c, d, e, f, g, h)
+}
+
+// The bits of n samples, each `step` octets after the one before it, from `at` on in the buffer.
+fn run1(s: &[u8], from: usize, step: usize, n: usize, little: bool, out: &mut [u64], at: usize)
+    requires { ⌜ InFile (length (now s)) from step n 1 ⌝ }
+    requires { ⌜ at + n ≤ length (now out) ⌝ }
+    ensures { λ _. ⌜ now (out .exit) ≡ sets (now (out .entry)) at (spaced «little» 1 (now (s .entry)) step from n) ⌝ }
+{
+    let mut q = from;
+    let mut p = at;
+    let mut left = n;
+    while 0 < left {
+        out[p] = one(s, q, little);
+        p += 1;
+        q += step;
+        left -= 1;
+    }
+}
+
+fn run2(s: &[u8], from: usize, step: usize, n: usize, little: bool, out: &mut [u64], at: usize)
+    requires { ⌜ InFile (length (now s)) from step n 2 ⌝ }
+    requires { ⌜ at + n ≤ length (now out) ⌝ }
+    ensures { λ _. ⌜ now (out .exit) ≡ sets (now (out .entry)) at (spaced «little» 2 (now (s .entry)) step from n) ⌝ }
+{
+    let mut q = from;
+    let mut p = at;
+    let mut left = n;
+    while 0 < left {
+        out[p] = two(s, q, little);
+        p += 1;
+        q += step;
+        left -= 1;
+    }
+}
+
+fn run4(s: &[u8], from: usize, step: usize, n: usize, little: bool, out: &mut [u64], at: usize)
+    requires { ⌜ InFile (length (now s)) from step n 4 ⌝ }
+    requires { ⌜ at + n ≤ length (now out) ⌝ }
+    ensures { λ _. ⌜ now (out .exit) ≡ sets (now (out .entry)) at (spaced «little» 4 (now (s .entry)) step from n) ⌝ }
+{
+    let mut q = from;
+    let mut p = at;
+    let mut left = n;
+    while 0 < left {
+        out[p] = four(s, q, little);
+        p += 1;
+        q += step;
+        left -= 1;
+    }
+}
+
+fn run8(s: &[u8], from: usize, step: usize, n: usize, little: bool, out: &mut [u64], at: usize)
+    requires { ⌜ InFile (length (now s)) from step n 8 ⌝ }
+    requires { ⌜ at + n ≤ length (now out) ⌝ }
+    ensures { λ _. ⌜ now (out .exit) ≡ sets (now (out .entry)) at (spaced «little» 8 (now (s .entry)) step from n) ⌝ }
+{
+    let mut q = from;
+    let mut p = at;
+    let mut left = n;
+    while 0 < left {
+        out[p] = eight(s, q, little);
+        p += 1;
+        q += step;
+        left -= 1;
+    }
+}
+
+// The same for samples of any width.
+fn run(
+    s: &[u8],
+    from: usize,
+    step: usize,
+    n: usize,
+    w: usize,
+    little: bool,
+    out: &mut [u64],
+    at: usize,
+)
+    requires { ⌜ Wide w ⌝ }
+    requires { ⌜ InFile (length (now s)) from step n w ⌝ }
+    requires { ⌜ at + n ≤ length (now out) ⌝ }
+    ensures { λ _. ⌜ now (out .exit) ≡ sets (now (out .entry)) at (spaced «little» w (now (s .entry)) step from n) ⌝ }
+{
+    if w == 1 {
+        run1(s, from, step, n, little, out, at);
+        return;
+    }
+    if w == 2 {
+        run2(s, from, step, n, little, out, at);
+        return;
+    }
+    if w == 4 {
+        run4(s, from, step, n, little, out, at);
+        return;
+    }
+    run8(s, from, step, n, little, out, at);
+}
+
+// The smaller of two.
+pub fn smaller(a: usize, b: usize) -> usize
+    ensures { λ r. ⌜ r ≡ min a b ⌝ }
+{
+    if a < b { a } else { b }
+}
+
+// The bits of n samples of blocks of b samples that lie g octets apart, from sample `first` of the block at `from` on, from `at` on in the buffer.
+fn blocks(
+    s: &[u8],
+    from: usize,
+    first: usize,
+    b: usize,
+    g: usize,
+    w: usize,
+    little: bool,
+    out: &mut [u64],
+    at: usize,
+    n: usize,
+)
+    requires { ⌜ Wide w ⌝ }
+    requires { ⌜ InBlocks (length (now s)) from first b g w n ⌝ }
+    requires { ⌜ at + n ≤ length (now out) ⌝ }
+    ensures { λ _. ⌜ now (out .exit) ≡ sets (now (out .entry)) at (bitsFrom (blocked «little» w (now (s .entry)) from b g) first n) ⌝ }
+{
+    let mut start = from;
+    let mut r = first;
+    let mut p = 0usize;
+    while p < n {
+        let m = smaller(b - r, n - p);
+        run(s, start + r * w, w, m, w, little, out, at + p);
+        p += m;
+        start += g;
+        r = 0;
+    }
+}
+
+// The same, in one run where the samples are evenly spaced.
+fn fill(
+    s: &[u8],
+    start: usize,
+    r: usize,
+    b: usize,
+    g: usize,
+    w: usize,
+    little: bool,
+    out: &mut [u64],
+    at: usize,
+    n: usize,
+)
+    requires { ⌜ Wide w ⌝ }
+    requires { ⌜ InBlocks (length (now s)) start r b g w n ⌝ }
+    requires { ⌜ at + n ≤ length (now out) ⌝ }
+    ensures { λ _. ⌜ now (out .exit) ≡ sets (now (out .entry)) at (bitsFrom (blocked «little» w (now (s .entry)) start b g) r n) ⌝ }
+{
+    if b * w == g {
+        run(s, start + r * w, w, n, w, little, out, at);
+        return;
+    }
+    if b == 1 {
+        run(s, start + r * w, g, n, w, little, out, at);
+        return;
+    }
+    blocks(s, start, r, b, g, w, little, out, at, n);
+}
+
+// The block of sample `first`.
+fn block_of(first: u64, b: u64) -> u64
+    requires { ⌜ 0 < b ⌝ }
+    ensures { λ r. ⌜ r ≡ first / b ⌝ }
+{
+    if first < b {
+        return 0;
+    }
+    first / b
+}
+
+// Whether n things from number `first` on are among `count`.
+fn among(first: u64, n: usize, count: u64) -> bool
+    ensures { λ r. ⌜ r ≡ leb (first + n) count ⌝ }
+{
+    if count < first {
+        return false;
+    }
+    n as u64 <= count - first
+}
+
+// Whether n samples from number `first` on can be laid from `at` on in a buffer of `room` words.
+fn lays(size: usize, room: usize, x: Spread, first: u64, n: usize, at: usize) -> bool
+    ensures { λ r. ⌜ r ≡ laysIn size room x first n at ⌝ }
+{
+    if among(at as u64, n, room as u64) {
+        if among(first, n, x.count()) {
+            return x.lies(size);
+        }
+    }
+    false
+}
+
+// They are laid there, from the block of the first one on.
+fn lay_blocks(s: &[u8], x: Spread, first: u64, n: usize, out: &mut [u64], at: usize)
+    requires { ⌜ 0 < n ⌝ }
+    requires { ⌜ Layable (length (now s)) (length (now out)) x first n at ⌝ }
+    ensures { λ _. ⌜ now (out .exit) ≡ sets (now (out .entry)) at (bitsFrom (bitsSpread (now (s .entry)) x) first n) ⌝ }
+{
+    let b = x.block as u64;
+    let block = block_of(first, b);
+    let start = x.place + (block * x.octets + x.below) as usize;
+    fill(
+        s,
+        start,
+        (first - block * b) as usize,
+        b as usize,
+        x.octets as usize,
+        values::width(x.datatype),
+        x.little,
+        out,
+        at,
+        n,
+    );
+}
+
+// The bits of n samples from number `first` on, from `at` on in the buffer; nothing where they do not all lie in the file, where the channel has not so many,
+// or where the buffer does not hold them.
+pub fn lay(s: &[u8], x: Spread, first: u64, n: usize, out: &mut [u64], at: usize)
+    ensures { λ _. ⌜ now (out .exit) ≡ pick (laysIn (length (now (s .entry))) (length (now (out .entry))) x first n at) (sets (now (out .entry)) at (bitsFrom (bitsSpread (now (s .entry)) x) first n)) (now (out .entry)) ⌝ }
+{
+    if lays(s.len(), out.len(), x, first, n, at) {
+        if 0 < n {
+            lay_blocks(s, x, first, n, out, at);
+        }
+    }
+}

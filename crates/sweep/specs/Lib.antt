@@ -1,0 +1,3 @@
+-- All samples of a frame.
+pub mod Sweep
+pub mod Swept
