@@ -2,8 +2,8 @@
 --     Counting, counting-begins, counting-turns, counting-unlaid, counting-full, counting-ends    a loop that counts the samples of channels
 --     swept-long        as many samples as were counted, and no more than there is room for
 --     Laying, laying-begins, laying-first, laying-turns, laying-ends    a loop that lays them
---     frame-held, frame-few, frame-none    the test whether words hold a frame
---     sweep-counted, sweep-refused, sweep-none    the answer
+--     frame-held, frame-few, frame-none, frame-room    the test whether words hold a frame
+--     sweep-none, sweep-refused, sweep-count, sweep-left    the answer
 -- Assumes nothing.
 use mathlib.Core.Path.{_≡_, refl, sym, ap, _∙_}
 use mathlib.Core.Bool.{Bool, true, false}
@@ -17,6 +17,7 @@ use lib.Dec.{leb}
 use lib.ListN.{length, drop, length-append}
 use lib.Seq.{sets, length-sets}
 use Rattle.octets.specs.Pick.{pick}
+use Rattle.octets.proofs.Pick.{both-split}
 use Rattle.heads.specs.Refusals.{noFrame, noRoom}
 use Rattle.heads.specs.Answer.{Answer, answered, refusedAs, mapAnswer, leftBy}
 use Rattle.strides.specs.Spread.{bitsSpread, bitsFrom, laysIn}
@@ -61,9 +62,6 @@ module _ (size room : ℕ) (t : List ℕ) (v : Waveform) where
       record { part = omega arith; fits = omega arith; rest = map-nothing (sweptCount size (room - 0) (viewsFrom t v 0 (v .channels - 0))) ∙ rw (e, f) }
 
   module _ {k n : ℕ} (c : Counting k n) (h : k < v .channels) where
-    others : List View
-    others = viewsFrom t v (suc k) (v .channels - suc k)
-
     here : viewsFrom t v k (v .channels - k) ≡ viewAt t v k ∷ viewsFrom t v (suc k) (v .channels - suc k)
     unfolding viewsFrom
     here = let e : v .channels - k ≡ suc (v .channels - suc k) = omega arith in rw e
@@ -190,6 +188,10 @@ module _ (u : List ℕ) where
   pub frame-none : headWords ≤ length u → waveformIn u .channels ≡ 0 → false ≡ holdsFrame u
   unfolding holdsFrame
   frame-none h e = let z : waveformIn u .channels ≤ 0 = omega arith in simp (le-leb _ _ h, le-ltb _ _ z)
+
+  pub frame-room : holdsFrame u ≡ true → headWords ≤ length u
+  unfolding holdsFrame
+  frame-room e = leb-true _ _ (both-split (leb headWords (length u)) _ e .0)
 
   pub frame-held : headWords ≤ length u → (waveformIn u .channels ≡ 0 → ⊥) → leb (waveformIn u .channels) (recordsHeld (drop headWords u)) ≡ holdsFrame u
   unfolding holdsFrame

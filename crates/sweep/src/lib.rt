@@ -48,7 +48,7 @@ fn count_all(size: usize, t: &[u64], v: Waveform, room: usize) -> Read
         let x = spread_at(t, v, channel);
         if x.lies(size) {
             let count = x.count();
-            if (room - n) as u64 < count {
+            if ((room - n) as u64) < count {
                 return Read::Refused(Refusal {
                     number: Refusal::NO_ROOM,
                     place: 0,
