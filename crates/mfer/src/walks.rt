@@ -1,7 +1,7 @@
 // A walk over a file, held by a caller in C as an array of words.
 //
 // `mfer_walk_open` checks the file and begins the walk, `mfer_walk_next` goes to its next frame, `mfer_walk_channel`, `mfer_walk_samples` and `mfer_walk_values` tell of
-// the channels of the frame that it stands behind, with nothing read again. Any words at all are some walk.
+// a channel of the frame that it stands behind and `mfer_walk_frame` of all of them, with nothing read again. Any words at all are some walk.
 // Read first: specs/Walks.antt, and specs/Steps.antt and specs/Views.antt of crate walking.
 ghost use mathlib.Core.Path.{_≡_};
 ghost use Prim.Native.Nat.{min};
@@ -11,6 +11,7 @@ ghost use Rattle.verdict.specs.Verdict.{checkOf};
 ghost use Rattle.bulk.specs.Samples.{kindsIn, wholesIn};
 ghost use Rattle.walking.specs.Steps.{Opened};
 ghost use Rattle.walking.specs.Views.{viewIn};
+ghost use Rattle.sweep.specs.Sweep.{sweepIn};
 ghost use Rattle.mfer.specs.Walks.{flagNumber, frameNumbers, frameValues, WalkNext, channelValues, channelOut, walkRead, walkValues};
 ghost use Rattle.mfer.specs.Answers.{outputs, countOut};
 use bulk::Read;
@@ -150,6 +151,22 @@ pub extern "C" fn mfer_walk_samples(
         LookedUp::Refused(x) => crate::read_out(Read::Refused(x), count, place),
         LookedUp::Channel(v) => crate::read_out(bulk::seen(file, v, first, out), count, place),
     }
+}
+
+// The bits of all samples of the frame that a walk stands behind: those of channel 0, then those of channel 1, at the front of `out`. It is refusal 23 where
+// `out` does not hold them. Nothing of the file is read but these samples.
+#[no_mangle]
+pub extern "C" fn mfer_walk_frame(
+    file: &[u8],
+    walk: &[u64; Walking::WORDS],
+    out: &mut [u64],
+    count: &mut u64,
+    place: &mut u64,
+) -> u32
+    ensures { λ r. ⌜ outputs r (now (place .exit)) (now (count .exit)) ≡ countOut (mapAnswer length (sweepIn (now (file .entry)) (now (walk .entry)) (length (now (out .entry))))) ⌝ }
+    ensures { λ _. ⌜ now (out .exit) ≡ leftBy (sweepIn (now (file .entry)) (now (walk .entry)) (length (now (out .entry)))) (now (out .entry)) ⌝ }
+{
+    crate::read_out(sweep::sweep(file, walk, out), count, place)
 }
 
 // Their values: the kinds and the whole numbers of a channel's samples as mfer_sample tells them, of the frame that a walk stands behind.

@@ -374,7 +374,7 @@ fn walks(course: &mut Course) {
         let sum = parsed(&file, &mut vec![0; sequences]);
         course.with_buffers(
             row,
-            || vec![0; sequences],
+            || vec![0; sequences * channels as usize],
             |out| assert_eq!(native::walked(black_box(&file), out), sum),
             |out| assert_eq!(parsed(black_box(&file), out), sum),
         );

@@ -1,4 +1,4 @@
-/* All samples of all channels of an accepted file, by a walk, added up; each channel's attributes are asked for too. */
+/* All samples of all channels of an accepted file, by a walk, added up. */
 #include "mfer.h"
 
 static uint64_t summed(uint64_t sum, const uint64_t *bits, uint64_t count)
@@ -11,16 +11,13 @@ static uint64_t summed(uint64_t sum, const uint64_t *bits, uint64_t count)
 
 uint64_t walked(const uint8_t *file, size_t file_len, uint64_t *out, size_t out_len)
 {
-    uint64_t walk[MFER_WALK], frame[MFER_FRAME_NUMBERS], bits[2], below, frames, count, place, sum = 0;
-    int64_t start, numbers[MFER_NUMBERS];
-    uint32_t channel;
+    uint64_t walk[MFER_WALK], frame[MFER_FRAME_NUMBERS], frames, count, place, sum = 0;
+    int64_t start;
     if (mfer_walk_open(file, file_len, walk, &frames, &place) != MFER_OK)
         return 0;
-    while (mfer_walk_next(file, file_len, walk, &start, frame, &place) == MFER_OK)
-        for (channel = 0; channel < frame[MFER_FRAME_CHANNELS]; channel++) {
-            mfer_walk_channel(walk, channel, numbers, bits, &below, &place);
-            mfer_walk_samples(file, file_len, walk, channel, 0, out, out_len, &count, &place);
-            sum = summed(sum, out, count);
-        }
+    while (mfer_walk_next(file, file_len, walk, &start, frame, &place) == MFER_OK) {
+        mfer_walk_frame(file, file_len, walk, out, out_len, &count, &place);
+        sum = summed(sum, out, count);
+    }
     return sum;
 }
