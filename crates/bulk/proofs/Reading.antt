@@ -1,8 +1,7 @@
 -- What reading many samples answers, over the place of the first.
 --     none-asked, laid-asked, unlaid-asked    a question for a sample, by the two tests
 --     read-located, values-located    the answers for a frame of the file
---     kept, filled    the buffer
---     read-count, read-left    samples that are laid at its front
+--     read-count, read-left    samples that are laid at the front of the buffer
 -- Assumes nothing.
 use mathlib.Core.Path.{_≡_, sym, ap, _∙_}
 use mathlib.Core.Bool.{true, false}
@@ -14,7 +13,6 @@ use lib.ListN.{length}
 use lib.Seq.{sets}
 use Rattle.octets.specs.Pick.{pick}
 use Rattle.octets.specs.Number.{Octets}
-use Rattle.stores.proofs.Stores.{sets-front}
 use Rattle.heads.specs.Refusals.{noFrame, noSample}
 use Rattle.heads.specs.Answer.{Answer, answered, refusedAs, mapAnswer, leftBy}
 use Rattle.layout.specs.Frame.{channelIn, samplesOf}
@@ -23,6 +21,7 @@ use Rattle.strides.specs.Spread.{bitsSpread, bitsFrom, laysIn}
 use Rattle.strides.specs.Walked.{Layable}
 use Rattle.strides.proofs.Walks.{length-bits, bits-same}
 use Rattle.strides.proofs.Lying.{in-lays}
+use Rattle.strides.proofs.Channels.{filled}
 use Rattle.view.specs.declared.View.{View}
 use Rattle.view.specs.View.{spreadOf, countSeen, placeSeen, liesIn, askedSeen}
 use Rattle.view.proofs.Lying.{seen-lies, map-seen}
@@ -62,16 +61,6 @@ module _ {s : List ℕ} {frame channel : ℕ} {v : View} (o : Octets s) (l : Loc
       map-seen (valuesBy (v .settings)) (length s) v first (bitsFrom (bitsSeen s v) first (min room (countSeen v - first)))
       ∙ (λ i. askedSeen (length s) v first (valuesBy (settings-seen l i) (same-bits i)))
       ∙ sym (asked-seen l o (λ f. valuesBy (channelIn channel (f .channels)) (bitsFrom (sampleBits f channel) first (min room (samplesOf channel f - first)))) first)
-
--- The buffer, and how many samples are answered, by what is read.
-module _ {A : Type 0} {a : Answer (List A)} (out : List A) where
-  pub kept : {number place : ℕ} → refusedAs number place ≡ a → out ≡ leftBy a out
-  unfolding leftBy
-  kept e = ap (λ (x : Answer (List A)). leftBy x out) e
-
-  pub filled : {x new : List A} → answered x ≡ a → length x ≤ length out → new ≡ sets out 0 x → new ≡ leftBy a out
-  unfolding leftBy
-  filled {x} e h f = f ∙ sets-front x out h ∙ ap (λ (y : Answer (List A)). leftBy y out) e
 
 -- The samples of a channel that is seen, where it lies in the file, are laid at the front of the buffer.
 module _ (s : List ℕ) (v : View) (first : ℕ) (out : List ℕ) {n : ℕ} (h : first < countSeen v) (e : liesIn (length s) v ≡ true) (m : n ≡ min (length out) (countSeen v - first)) where

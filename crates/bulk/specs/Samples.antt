@@ -3,7 +3,7 @@ use mathlib.Core.List.{List, map}
 use Prim.Native.Nat.{ℕ, _-_, min}
 use lib.IntN.{ℤ}
 use lib.ListN.{length}
-use Rattle.heads.specs.Answer.{Answer, answered, refusedBy, mapAnswer}
+use Rattle.heads.specs.Answer.{Answer, mapAnswer}
 use Rattle.values.specs.Sample.{Said, valueOf}
 use Rattle.settings.specs.declared.Settings.{Settings}
 use Rattle.layout.specs.Frame.{channelIn, samplesOf}
@@ -13,13 +13,6 @@ use Rattle.strides.specs.Spread.{bitsSpread, bitsFrom}
 use Rattle.view.specs.View.{spreadOf, countSeen, askedSeen}
 use Rattle.verdict.specs.Verdict.{verdict}
 use Rattle.reader.specs.Answer.{askedSample}
-use Rattle.bulk.specs.declared.Read.{Read}
-use Rattle.bulk.specs.declared.Read.the-variants.{Samples}
-
--- What the answer says: how many samples were written.
-abbrev pub readSays : Read → Answer ℕ
-readSays (Samples n) = answered n
-readSays (Read.Refused r) = refusedBy r
 
 -- The bits of the samples from number `first` on: as many as there is room for, or as there are. The file's refusal, and 20, 21, 22 where there
 -- is no sample `first`, come as for the question for that sample.

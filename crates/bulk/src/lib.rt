@@ -9,10 +9,12 @@ ghost use Prim.Native.Nat.{_+_, _≤_, min};
 ghost use lib.ListN.{length, take};
 ghost use lib.Seq.{sets};
 ghost use Rattle.heads.specs.Answer.{mapAnswer, leftBy};
-ghost use Rattle.bulk.specs.Samples.{readSays, readOf, readSeen, valuesOf, valuesSeen, kindsIn, wholesIn, countRead};
+ghost use Rattle.strides.specs.Channels.{readSays};
+ghost use Rattle.bulk.specs.Samples.{readOf, readSeen, valuesOf, valuesSeen, kindsIn, wholesIn, countRead};
 ghost use Rattle.bulk.specs.Walked.{ToTell, kindsTold, wholesTold, kindsSeen, wholesSeen};
 use heads::Refusal;
 use reader::LookedUp;
+use strides::Read;
 use values::Meaning;
 use view::SamplePlace;
 use view::View;
@@ -25,12 +27,6 @@ fn fitting(room: usize, left: u64) -> usize
         return left as usize;
     }
     room
-}
-
-// The answer to reading many samples: how many were written, or why none.
-pub enum Read {
-    Samples(usize),
-    Refused(Refusal),
 }
 
 // The bits of the samples of a channel that is seen, from number `first` on, at the front of the buffer: as many as fit or there are.

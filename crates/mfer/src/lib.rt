@@ -8,7 +8,8 @@ ghost use Rattle.values.specs.Sample.{valueSays};
 ghost use Rattle.heads.specs.Answer.{mapAnswer, leftBy};
 ghost use Rattle.verdict.specs.Verdict.{checkOf};
 ghost use Rattle.reader.specs.Answer.{attributesOf, sampleOf};
-ghost use Rattle.bulk.specs.Samples.{readSays, readOf, valuesOf, kindsIn, wholesIn, countRead};
+ghost use Rattle.strides.specs.Channels.{readSays};
+ghost use Rattle.bulk.specs.Samples.{readOf, valuesOf, kindsIn, wholesIn, countRead};
 ghost use Rattle.canonical.specs.Write.{canonicalLengthOf};
 ghost use Rattle.mfer.specs.Answers.{outputs, countOut, CanonicalOut, numbersOf, bitPairOf, attributesValues, attributesOut, sampleValues, sampleOut};
 ghost use Prim.Native.Nat.{min};
@@ -16,7 +17,7 @@ ghost use lib.ListN.{length};
 
 mod walks;
 
-use bulk::Read;
+use strides::Read;
 use canonical::Written;
 use reader::Attributes;
 use reader::Described;

@@ -14,7 +14,7 @@ ghost use Rattle.walking.specs.Views.{viewIn};
 ghost use Rattle.sweep.specs.Sweep.{sweepIn};
 ghost use Rattle.mfer.specs.Walks.{flagNumber, frameNumbers, frameValues, WalkNext, channelValues, channelOut, walkRead, walkValues};
 ghost use Rattle.mfer.specs.Answers.{outputs, countOut};
-use bulk::Read;
+use strides::Read;
 use heads::Refusal;
 use reader::LookedUp;
 use verdict::Checked;

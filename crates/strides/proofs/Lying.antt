@@ -6,6 +6,7 @@
 --     width-wide      the widths of samples
 --     lays-in, in-lays    samples that can be laid
 --     no-bits        no samples
+--     whole-small, whole-blocks, whole-bits    all samples of a channel
 --     block-start, block-rest, in-blocks, laid-bits    they lie in the file in blocks, from the block of the first one on
 -- Assumes nothing.
 use mathlib.Core.Path.{_≡_, refl, sym, ap, _∙_}
@@ -13,7 +14,7 @@ use mathlib.Core.Bool.{Bool, true, false}
 use mathlib.Core.Logic.{inl, inr}
 use mathlib.Core.List.{List}
 use Prim.Native.Nat.{ℕ, _+_, _-_, _*_, _/_, _%_, _≤_, _<_}
-use native.Mathlib.Nat.{zero-mul, zero-add, add-mul, mod-lt, div-add-mod', mul-add-div-right, mul-add-mod-self-right}
+use native.Mathlib.Nat.{zero-mul, zero-add, add-mul, mod-lt, div-eq-of-lt, mod-eq-of-lt, div-add-mod', mul-add-div-right, mul-add-mod-self-right}
 use native.Mathlib.Decide.{decLt}
 use native.Mathlib.Omega.{arith}
 use borrow.Author.Tests.{ltb-true, leb-true, leb-false, lt-ltb, le-ltb, le-leb, lt-leb}
@@ -136,6 +137,20 @@ module _ {size room : ℕ} {x : Spread} {first n at : ℕ} (h : 0 < n) (k : Laya
   laid-bits s =
       bits-same (blocked (x .little) (widthSpread x) s (block-start x first) (x .block) (x .octets)) (bitsSpread s x) (first % x .block) first n
       (λ j i. ap (bitsHere (x .little) (widthSpread x) s) (walked j))
+
+-- All samples of a channel, from its first block on.
+module _ {size room : ℕ} {x : Spread} {n at : ℕ} (h : 0 < n) (k : Layable size room x 0 n at) where
+  front : block-start x 0 ≡ x .place + x .below
+  front = rw (div-eq-of-lt (block-some h k), zero-mul, zero-add)
+
+  pub whole-small : x .place + x .below ≤ octetsLimit
+  whole-small = omega (arith, start-inside h k, front)
+
+  pub whole-blocks : InBlocks size (x .place + x .below) 0 (x .block) (x .octets) (widthSpread x) n
+  whole-blocks = rw (front, mod-eq-of-lt (block-some h k)) at (in-blocks h k)
+
+  pub whole-bits : (s : List ℕ) → bitsFrom (blocked (x .little) (widthSpread x) s (x .place + x .below) (x .block) (x .octets)) 0 n ≡ bitsFrom (bitsSpread s x) 0 n
+  whole-bits s = rw (front, mod-eq-of-lt (block-some h k)) at (laid-bits h k s)
 
 -- No samples leave a buffer as it is.
 pub no-bits : (g : ℕ → ℕ) (first n at : ℕ) {out : List ℕ} → n ≤ 0 → out ≡ sets out at (bitsFrom g first n)

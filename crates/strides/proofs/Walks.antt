@@ -5,10 +5,10 @@
 --     spaced-is                  bits whose places are evenly spaced
 --     wide-eight, wide-small     widths
 --     Blocking, blocks-begin, piece-some, block-within, blocks-turn, blocks-end    a loop over blocks
---     joined-within, joined-is, single-within, single-is    blocks whose samples are evenly spaced
+--     even-there, even-within, even-is    blocks whose samples are evenly spaced
 -- Assumes nothing.
-use mathlib.Core.Path.{_≡_, refl, sym, ap, _∙_}
-use mathlib.Core.Logic.{⊎-elim}
+use mathlib.Core.Path.{_≡_, refl, sym, ap, subst, _∙_}
+use mathlib.Core.Logic.{_⊎_, ⊎-elim}
 use mathlib.Core.List.{List, _∷_, _++_}
 use mathlib.Core.Bool.{Bool}
 use Prim.Native.Nat.{ℕ, zero, suc, _+_, _-_, _*_, _/_, _%_, _≤_, _<_, min}
@@ -20,7 +20,7 @@ use lib.Seq.{sets, length-sets}
 use Rattle.standing.specs.Standing.{octetsLimit}
 use Rattle.stores.proofs.Stores.{sets-append}
 use Rattle.strides.specs.Spread.{bitsFrom}
-use Rattle.strides.specs.Walked.{bitsHere, spaced, blocked, Wide, InFile, InBlocks}
+use Rattle.strides.specs.Walked.{bitsHere, spaced, blocked, Wide, InFile, InBlocks, Even}
 
 -- ---- lists of bits
 
@@ -195,17 +195,20 @@ module _ (little : Bool) (w : ℕ) (s : List ℕ) (b g : ℕ) where
 
 -- ---- blocks whose samples are evenly spaced
 
+pub even-there : (b g w : ℕ) {step : ℕ} → (step ≡ 0) ⊎ Even b g w step → 0 < step → Even b g w step
+even-there b g w e h = ⊎-elim (λ z. let n : ⊥ = omega arith in absurd n) (λ x. x) e
+
 module _ (size start r b g w n : ℕ) (h : InBlocks size start r b g w n) where
   -- The blocks lie one behind the other.
   module _ (e : b * w ≡ g) where
     joined-place : (j : ℕ) → start + ((r + j) / b * g + (r + j) % b * w) ≡ start + r * w + j * w
     joined-place j = rw (← e, ← mul-assoc, ← add-mul, div-add-mod' (r + j) b, add-mul, ← add-assoc)
 
-    pub joined-within : Wide w → InFile size (start + r * w) w n w
+    joined-within : Wide w → InFile size (start + r * w) w n w
     joined-within v =
         record { small = h .small; apart = omega (arith, wide-small v); starts = h .starts; each = λ j l. rw (joined-place j) at (h .each j l) }
 
-    pub joined-is : (little : Bool) (s : List ℕ) → spaced little w s w (start + r * w) n ≡ bitsFrom (blocked little w s start b g) r n
+    joined-is : (little : Bool) (s : List ℕ) → spaced little w s w (start + r * w) n ≡ bitsFrom (blocked little w s start b g) r n
     unfolding blocked
     joined-is little s = sym (spaced-is little w s w (blocked little w s start b g) r (start + r * w) n (λ j l. ap (bitsHere little w s) (joined-place j)))
 
@@ -216,9 +219,17 @@ module _ (size start r b g w n : ℕ) (h : InBlocks size start r b g w n) where
         let z : r ≡ 0 = omega (arith, h .low) in
         simp (e, z, zero-add, div-one, mod-one, zero-mul, add-zero)
 
-    pub single-within : InFile size (start + r * w) g n w
+    single-within : InFile size (start + r * w) g n w
     single-within = record { small = h .small; apart = h .apart; starts = h .starts; each = λ j l. rw (single-place j) at (h .each j l) }
 
-    pub single-is : (little : Bool) (s : List ℕ) → spaced little w s g (start + r * w) n ≡ bitsFrom (blocked little w s start b g) r n
+    single-is : (little : Bool) (s : List ℕ) → spaced little w s g (start + r * w) n ≡ bitsFrom (blocked little w s start b g) r n
     unfolding blocked
     single-is little s = sym (spaced-is little w s g (blocked little w s start b g) r (start + r * w) n (λ j l. ap (bitsHere little w s) (single-place j)))
+
+  -- Either.
+  module _ {step : ℕ} (e : Even b g w step) where
+    pub even-within : Wide w → InFile size (start + r * w) step n w
+    even-within v = ⊎-elim (λ x. subst (λ (k : ℕ). InFile size (start + r * w) k n w) (sym (x .1)) (single-within (x .0))) (λ x. subst (λ (k : ℕ). InFile size (start + r * w) k n w) (sym (x .1)) (joined-within (x .0) v)) e
+
+    pub even-is : (little : Bool) (s : List ℕ) → spaced little w s step (start + r * w) n ≡ bitsFrom (blocked little w s start b g) r n
+    even-is little s = ⊎-elim (λ x. ap (λ (k : ℕ). spaced little w s k (start + r * w) n) (x .1) ∙ single-is (x .0) little s) (λ x. ap (λ (k : ℕ). spaced little w s k (start + r * w) n) (x .1) ∙ joined-is (x .0) little s) e

@@ -43,6 +43,10 @@ pub record InBlocks (size start r b g w n : ℕ) : Type 0 where
   pub starts : start + r * w ≤ size
   pub each : (j : ℕ) → j < n → start + ((r + j) / b * g + (r + j) % b * w) + w ≤ size
 
+-- Samples of blocks of b that lie g octets apart are `step` octets apart: one to a block, or blocks one behind the other.
+abbrev pub Even : ℕ → ℕ → ℕ → ℕ → Type 0
+Even b g w step = ((b ≡ 1) × (step ≡ g)) ⊎ ((b * w ≡ g) × (step ≡ w))
+
 -- The samples lie in a file of `size` octets.
 pub record Lies (size : ℕ) (x : Spread) : Type 0 where
   pub small : size ≤ octetsLimit

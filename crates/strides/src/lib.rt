@@ -1,18 +1,24 @@
 // Where the samples of a channel lie, and their bits read into a buffer.
 //
-// For whoever knows a frame and one of its channels: `Spread` is where the channel's samples lie, and `lay` reads many of them, with nothing else read.
-// Promises, whatever numbers a spread holds: `count` is how many samples it has, `lies` whether they lie in a file of so many octets, and `lay` lays the
-// bits of samples into a buffer where they do and the buffer holds them, and else leaves it as it is.
-// Read first: specs/Spread.antt, then `lay` and upwards. A change to a loop wants its speed measured again: each width has a loop
+// For whoever knows a frame: `Spread` is where the samples of a channel lie, `lay` reads many of them, and `lay_channels` all of all channels, with nothing
+// else read.
+// Promises, whatever numbers a spread holds: `count` is how many samples it has, `lies` whether they lie in a file of so many octets. `lay` and
+// `lay_channels` lay the bits of samples into a buffer where they do and the buffer holds them, and else leave it as it is.
+// Read first: specs/Spread.antt and specs/Channels.antt, then `lay` and upwards. A change to a loop wants its speed measured again: each width has a loop
 // of its own, with straight-line reads, because the compiler makes one wide load of them only so.
 ghost use mathlib.Core.Path.{_≡_};
+ghost use mathlib.Core.Logic.{_⊎_};
 ghost use Prim.Native.Nat.{_+_, _*_, _/_, _≤_, _<_, min};
+ghost use Rattle.standing.specs.Standing.{octetsLimit};
 ghost use lib.ListN.{length};
 ghost use lib.Dec.{leb};
 ghost use lib.Seq.{sets};
 ghost use Rattle.octets.specs.Pick.{pick, both};
 ghost use Rattle.strides.specs.Spread.{countSpread, liesSpread, bitsSpread, bitsFrom, laysIn};
-ghost use Rattle.strides.specs.Walked.{bitsHere, spaced, blocked, Wide, InFile, InBlocks, Layable};
+ghost use Rattle.heads.specs.Answer.{mapAnswer, leftBy};
+ghost use Rattle.strides.specs.Channels.{readSays, spreadAt, spreadsFrom, sweptCount, sweptBits, sweptOf, Countable};
+ghost use Rattle.strides.specs.Walked.{bitsHere, spaced, blocked, Wide, InFile, InBlocks, Even, Layable};
+use heads::Refusal;
 use standing::Standing;
 
 // Where the samples of a channel lie: `place` is that of the waveform's first octet, `octets` are those of a sequence, `below` those below the
@@ -25,6 +31,20 @@ pub struct Spread {
     pub below: u64,
     pub block: u32,
     pub datatype: u8,
+}
+
+// The sequences of a frame: how many, their byte order, the place of the first one's first octet, and the octets of one.
+pub struct Sequences {
+    pub count: u32,
+    pub little: bool,
+    pub place: usize,
+    pub octets: u64,
+}
+
+// The answer to reading samples: how many were written, or why none.
+pub enum Read {
+    Samples(usize),
+    Refused(Refusal),
 }
 
 // Whether a block behind so many octets ends by the end of a sequence.
@@ -272,6 +292,21 @@ fn blocks(
     }
 }
 
+// How far apart the samples of blocks are where they are evenly spaced, and 0 where they are not: one to a block, or blocks one behind the other.
+fn even(b: usize, g: usize, w: usize) -> usize
+    requires { ⌜ b * w ≤ g ⌝ }
+    requires { ⌜ g ≤ octetsLimit ⌝ }
+    ensures { λ r. ⌜ (r ≡ 0) ⊎ Even b g w r ⌝ }
+{
+    if b == 1 {
+        return g;
+    }
+    if b * w == g {
+        return w;
+    }
+    0
+}
+
 // The same, in one run where the samples are evenly spaced.
 fn fill(
     s: &[u8],
@@ -290,15 +325,12 @@ fn fill(
     requires { ⌜ at + n ≤ length (now out) ⌝ }
     ensures { λ _. ⌜ now (out .exit) ≡ sets (now (out .entry)) at (bitsFrom (blocked «little» w (now (s .entry)) start b g) r n) ⌝ }
 {
-    if b * w == g {
-        run(s, start + r * w, w, n, w, little, out, at);
-        return;
+    let step = even(b, g, w);
+    if 0 < step {
+        run(s, start + r * w, step, n, w, little, out, at);
+    } else {
+        blocks(s, start, r, b, g, w, little, out, at, n);
     }
-    if b == 1 {
-        run(s, start + r * w, g, n, w, little, out, at);
-        return;
-    }
-    blocks(s, start, r, b, g, w, little, out, at, n);
 }
 
 // The block of sample `first`.
@@ -365,6 +397,101 @@ pub fn lay(s: &[u8], x: Spread, first: u64, n: usize, out: &mut [u64], at: usize
     if lays(s.len(), out.len(), x, first, n, at) {
         if 0 < n {
             lay_blocks(s, x, first, n, out, at);
+        }
+    }
+}
+
+// Where the samples of a channel of a frame lie, by the words of the channels' records.
+fn spread_at(t: &[u64], q: Sequences, channel: usize) -> Spread
+    ensures { λ r. ⌜ r ≡ spreadAt (now (t .entry)) q channel ⌝ }
+{
+    let c = records::held(t, channel);
+    Spread {
+        sequences: q.count,
+        little: q.little,
+        place: q.place,
+        octets: q.octets,
+        below: records::below(t, channel),
+        block: c.block,
+        datatype: c.datatype,
+    }
+}
+
+// How many samples channels have, in a file of `size` octets and a buffer of `room` words: 20 or 23, whichever a channel gives first.
+fn count_channels(size: usize, t: &[u64], q: Sequences, channels: u32, room: usize) -> Read
+    ensures { λ r. ⌜ readSays r ≡ sweptCount size room (spreadsFrom (now (t .entry)) q 0 channels) ⌝ }
+{
+    let mut channel = 0usize;
+    let mut n = 0usize;
+    while channel < channels as usize {
+        let x = spread_at(t, q, channel);
+        if x.lies(size) {
+            let count = x.count();
+            if ((room - n) as u64) < count {
+                return Read::Refused(Refusal {
+                    number: Refusal::NO_ROOM,
+                    place: 0,
+                });
+            }
+            n += count as usize;
+            channel += 1;
+        } else {
+            return Read::Refused(Refusal {
+                number: Refusal::NO_FRAME,
+                place: 0,
+            });
+        }
+    }
+    Read::Samples(n)
+}
+
+// All n samples of a channel, from `at` on in the buffer.
+fn lay_whole(s: &[u8], x: Spread, n: usize, out: &mut [u64], at: usize)
+    requires { ⌜ Layable (length (now s)) (length (now out)) x 0 n at ⌝ }
+    ensures { λ _. ⌜ now (out .exit) ≡ sets (now (out .entry)) at (bitsFrom (bitsSpread (now (s .entry)) x) 0 n) ⌝ }
+{
+    if 0 < n {
+        fill(
+            s,
+            x.place + x.below as usize,
+            0,
+            x.block as usize,
+            x.octets as usize,
+            values::width(x.datatype),
+            x.little,
+            out,
+            at,
+            n,
+        );
+    }
+}
+
+// The samples of channels, which were counted, at the front of the buffer.
+fn lay_counted(s: &[u8], t: &[u64], q: Sequences, channels: u32, out: &mut [u64])
+    requires { ⌜ Countable (length (now s)) (length (now out)) (spreadsFrom (now t) q 0 channels) ⌝ }
+    ensures { λ _. ⌜ now (out .exit) ≡ sets (now (out .entry)) 0 (sweptBits (now (s .entry)) (spreadsFrom (now (t .entry)) q 0 channels)) ⌝ }
+{
+    let mut channel = 0usize;
+    let mut at = 0usize;
+    while channel < channels as usize {
+        let x = spread_at(t, q, channel);
+        let n = x.count() as usize;
+        lay_whole(s, x, n, out, at);
+        at += n;
+        channel += 1;
+    }
+}
+
+// The bits of all samples of the first `channels` channels of a frame, those of one channel after those of another, at the front of the buffer.
+pub fn lay_channels(s: &[u8], t: &[u64], q: Sequences, channels: u32, out: &mut [u64]) -> Read
+    ensures { λ r. ⌜ readSays r ≡ mapAnswer length (sweptOf (now (s .entry)) (length (now (out .entry))) (spreadsFrom (now (t .entry)) q 0 channels)) ⌝ }
+    ensures { λ _. ⌜ now (out .exit) ≡ leftBy (sweptOf (now (s .entry)) (length (now (out .entry))) (spreadsFrom (now (t .entry)) q 0 channels)) (now (out .entry)) ⌝ }
+{
+    match count_channels(s.len(), t, q, channels, out.len()) {
+        Read::Refused(x) => Read::Refused(x),
+        Read::Samples(n) => {
+            lay_counted(s, t, q, channels, out);
+            Read::Samples(n)
         }
     }
 }

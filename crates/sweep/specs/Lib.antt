@@ -1,3 +1,2 @@
 -- All samples of a frame.
 pub mod Sweep
-pub mod Swept

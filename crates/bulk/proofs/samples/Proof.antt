@@ -6,7 +6,8 @@ use lib.ListN.{length}
 use Rattle.heads.specs.Answer.{Answer, mapAnswer, leftBy}
 use Rattle.reader.proofs.Answers.{located, unseen}
 use Rattle.bulk.specs.Samples.{readOf, countRead}
-use Rattle.bulk.proofs.Reading.{read-located, kept}
+use Rattle.strides.proofs.Channels.{kept}
+use Rattle.bulk.proofs.Reading.{read-located}
 use borrow.Author.Needs.{needs}
 use Rattle.bulk.proofs.samples.Statement.{statement}
 use Rattle.bulk.proofs.samples.Tie as tie

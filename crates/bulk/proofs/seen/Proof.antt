@@ -7,7 +7,8 @@ use Rattle.heads.specs.Answer.{mapAnswer}
 use Rattle.strides.specs.Spread.{bitsFrom}
 use Rattle.view.specs.View.{countSeen, liesIn}
 use Rattle.bulk.specs.Samples.{bitsSeen, readSeen}
-use Rattle.bulk.proofs.Reading.{none-asked, unlaid-asked, kept, read-count, read-left}
+use Rattle.strides.proofs.Channels.{kept}
+use Rattle.bulk.proofs.Reading.{none-asked, unlaid-asked, read-count, read-left}
 use borrow.Author.Needs.{needs}
 use Rattle.bulk.proofs.seen.Statement.{statement}
 use Rattle.bulk.proofs.seen.Tie as tie

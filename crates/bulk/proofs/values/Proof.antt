@@ -7,7 +7,8 @@ use Rattle.heads.specs.Answer.{Answer, mapAnswer, leftBy}
 use Rattle.values.specs.Sample.{Said}
 use Rattle.reader.proofs.Answers.{located, unseen}
 use Rattle.bulk.specs.Samples.{valuesOf, kindsIn, wholesIn}
-use Rattle.bulk.proofs.Reading.{values-located, kept}
+use Rattle.strides.proofs.Channels.{kept}
+use Rattle.bulk.proofs.Reading.{values-located}
 use borrow.Author.Needs.{needs}
 use Rattle.bulk.proofs.values.Statement.{statement}
 use Rattle.bulk.proofs.values.Tie as tie

@@ -11,7 +11,7 @@ use Rattle.view.proofs.Lying.{lies-seen, found-in, found-asked, unfound}
 use Rattle.strides.specs.Spread.{bitsFrom}
 use Rattle.bulk.specs.Samples.{bitsSeen, readSeen, valuesBy, valuesSeen, kindsIn, wholesIn}
 use Rattle.strides.proofs.Walks.{length-bits}
-use Rattle.bulk.proofs.Reading.{kept, filled}
+use Rattle.strides.proofs.Channels.{kept, filled}
 use Rattle.bulk.proofs.Telling.{kinds-told, wholes-told}
 use borrow.Author.Needs.{needs}
 use Rattle.bulk.proofs.values_seen.Statement.{statement}

@@ -1,7 +1,7 @@
 -- By the answer of the reading.
 use mathlib.Core.Path.{sym, ap}
-use Rattle.bulk.specs.declared.Read.{Read}
-use Rattle.bulk.specs.Samples.{readSays}
+use Rattle.strides.specs.declared.Read.{Read}
+use Rattle.strides.specs.Channels.{readSays}
 use Rattle.mfer.specs.Answers.{handedOut, countOut}
 use borrow.Author.Needs.{needs}
 use Rattle.mfer.proofs.read_out.Statement.{statement}

@@ -1,7 +1,6 @@
 -- What is kept with the channel's record.
-use Rattle.strides.specs.declared.Spread.{Spread}
-use Rattle.sweep.proofs.spread_at.Statement.{statement}
-use Rattle.sweep.proofs.spread_at.Tie as tie
+use Rattle.strides.proofs.spread_at.Statement.{statement}
+use Rattle.strides.proofs.spread_at.Tie as tie
 use borrow.Author.Needs.{needs}
 
 held-requires : tie.Need-held-requires
@@ -12,12 +11,12 @@ below-requires c κs = search needs
 
 returns : tie.Need-returns
 returns c =
-    let v = c .before .before .before .args .v in
+    let q = c .before .before .before .args .q in
     λ i. record {
-      sequences = v .sequences;
-      little = v .little;
-      place = v .place;
-      octets = v .octets;
+      sequences = q .count;
+      little = q .little;
+      place = q .place;
+      octets = q .octets;
       below = c .below .ensures i;
       block = c .before .held .ensures i .block;
       datatype = c .before .held .ensures i .datatype;
