@@ -2,10 +2,10 @@
 use mathlib.Core.Path.{sym, ap}
 use Rattle.bulk.specs.declared.Read.{Read}
 use Rattle.bulk.specs.Samples.{readSays}
-use Rattle.mfer.specs.Answers.{handedOut, countOut}
+use Rattle.outputs.specs.Outputs.{handedOut, countOut}
 use borrow.Author.Needs.{needs}
-use Rattle.mfer.proofs.read_out.Statement.{statement}
-use Rattle.mfer.proofs.read_out.Tie as tie
+use Rattle.outputs.proofs.read_out.Statement.{statement}
+use Rattle.outputs.proofs.read_out.Tie as tie
 
 enum-known-r : tie.Need-enum-known-r
 enum-known-r c = search needs

@@ -7,10 +7,10 @@ use lib.IntN.{pos}
 use mir.Syntax.{w8, w32, w64}
 use mir.Val.{toZ}
 use mir.Facts.{toZ-ofZ, toZ-pos}
-use Rattle.mfer.specs.Answers.{numbersOf}
+use Rattle.outputs.specs.Outputs.{numbersOf}
 use Rattle.octets.proofs.Machine.{widens, widened}
-use Rattle.mfer.proofs.numbers_of.Statement.{statement}
-use Rattle.mfer.proofs.numbers_of.Tie as tie
+use Rattle.outputs.proofs.numbers_of.Statement.{statement}
+use Rattle.outputs.proofs.numbers_of.Tie as tie
 
 -- A number of the lower half of the bits is itself.
 plain : (n : ℕ) → n < 2 ^ 63 → toZ w64 n ≡ pos n
