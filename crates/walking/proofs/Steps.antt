@@ -29,7 +29,8 @@ use Rattle.items.specs.declared.Within.the-variants.{Root}
 use Rattle.items.specs.Walk.{cursor}
 use Rattle.dated.specs.declared.Dated.{Dated}
 use Rattle.walk.specs.Advance.{Stand, stand, stop, advanceOf, standOf, firstHead, BelowKept, Advances}
-use Rattle.walking.specs.Words.{headWords, headIn, waveformIn, standIn, Keeping}
+use Rattle.kept.specs.Words.{headWords, headIn, waveformIn, Keeping}
+use Rattle.walking.specs.Words.{standIn}
 use Rattle.walking.specs.Steps.{noWaveform, frameTold, holdsHead, walkBegins, begunIn, Begins, Opens, Goes}
 
 -- ---- whether words can hold a head

@@ -25,7 +25,8 @@ use Rattle.walk.specs.declared.Waveform.{Waveform}
 use Rattle.walk.specs.declared.Step.{Step}
 use Rattle.walk.specs.Joined.{frameBy}
 use Rattle.walk.proofs.Joins.{Counts}
-use Rattle.walking.specs.Words.{headWords, waveformIn, standIn}
+use Rattle.kept.specs.Words.{headWords, waveformIn}
+use Rattle.walking.specs.Words.{standIn}
 use Rattle.walking.specs.Steps.{holdsHead, Goes}
 use Rattle.walking.specs.Views.{viewBy, viewKept, viewIn}
 use Rattle.walking.proofs.Steps.{can-hold}

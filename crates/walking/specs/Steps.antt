@@ -18,7 +18,8 @@ use Rattle.verdict.specs.Verdict.{checkedSays, checkOf}
 use Rattle.walk.specs.declared.Waveform.{Waveform}
 use Rattle.walk.specs.declared.Step.{Step}
 use Rattle.walk.specs.Advance.{Stand, stand, Stop, stop, advanceOf, BelowKept}
-use Rattle.walking.specs.Words.{headWords, waveformIn, standIn}
+use Rattle.kept.specs.Words.{headWords, waveformIn}
+use Rattle.walking.specs.Words.{standIn}
 
 -- No frame: every number is 0, and so it has no channels.
 abbrev pub noWaveform : Waveform

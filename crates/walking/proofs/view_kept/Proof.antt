@@ -8,7 +8,7 @@ use mir.Facts.{toZ-ofZ}
 use lib.ListN.{getD}
 use Rattle.dated.specs.Dated.{zeroDated}
 use Rattle.records.specs.Records.{recordsIn, belowIn}
-use Rattle.walking.specs.Words.{headWords}
+use Rattle.kept.specs.Words.{headWords}
 use Rattle.walking.specs.Views.{viewBy}
 use Rattle.walking.proofs.Steps.{lent-all}
 use borrow.Author.Needs.{needs}
