@@ -1,4 +1,4 @@
--- Laws of a walk kept in words.
+-- Laws of a head and a frame kept in words.
 --     keeping-none      words too few for a head
 --     keeping-stored    the numbers of a head and of a frame stored
 -- Assumes nothing.

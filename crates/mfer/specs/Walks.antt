@@ -11,6 +11,8 @@ use Rattle.walking.specs.Views.{viewIn}
 use Rattle.outputs.specs.Outputs.{Outputs}
 use Rattle.outputs.specs.Walks.{FrameOut, frameOut}
 
+-- ---- mfer_walk_next
+
 -- A call of mfer_walk_next: the file s and the words u of the walk, and then what is handed out and the words as the call leaves them.
 pub record WalkNext (s u : List ℕ) (out : Outputs FrameOut) (v : List ℕ) : Type 0 where
   pub answers : out ≡ frameOut (stepSays (stepIn s u .step))
