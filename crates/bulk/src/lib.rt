@@ -114,7 +114,10 @@ pub fn values_seen(s: &[u8], v: View, first: u64, kinds: &mut [u8], wholes: &mut
         SamplePlace::Refused(x) => Read::Refused(x),
         SamplePlace::At(_) => {
             let x = v.spread();
-            let n = fitting(strides::smaller(kinds.len(), wholes.len()), x.count() - first);
+            let n = fitting(
+                strides::smaller(kinds.len(), wholes.len()),
+                x.count() - first,
+            );
             tell_samples(s, v, first, n, kinds, wholes);
             Read::Samples(n)
         }

@@ -15,13 +15,14 @@ use Rattle.walk.specs.Advance.{Stop}
 use Rattle.walk.specs.Says.{stepSays}
 use Rattle.walking.specs.Steps.{Goes}
 use Rattle.walking.specs.Views.{viewIn}
-use Rattle.mfer.specs.Answers.{Outputs}
-use Rattle.mfer.specs.Walks.{FrameOut, frameOut, WalkNext}
+use Rattle.outputs.specs.Outputs.{Outputs}
+use Rattle.outputs.specs.Walks.{FrameOut, frameOut}
+use Rattle.mfer.specs.Walks.{WalkNext}
 
-pub next-handed : {s u v : List ℕ} {j k : Step} {out : Outputs FrameOut} → Goes s u j v → j ≡ k → out ≡ frameOut (stepSays k) → WalkNext s u out v
-next-handed {s} {u} {v} g b e =
+pub next-handed : {s u v : List ℕ} {k : Step} {out : Outputs FrameOut} → Goes s u k v → out ≡ frameOut (stepSays k) → WalkNext s u out v
+next-handed {s} {u} {v} g e =
     let same = ap (λ (z : Stop). z .step) (g .same) in
-    record { answers = e ∙ ap (λ (k : Step). frameOut (stepSays k)) (sym b ∙ same); words = subst (λ (k : Step). Goes s u k v) same g }
+    record { answers = e ∙ ap (λ (k : Step). frameOut (stepSays k)) same; words = subst (λ (k : Step). Goes s u k v) same g }
 
 -- What is asked of a channel of the frame that the words u tell of.
 module _ {A : Type 0} (g : View → Answer A) (u : List ℕ) (channel : ℕ) {r : LookedUp} (a : lookedUpSays r ≡ viewIn u channel) where

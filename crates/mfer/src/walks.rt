@@ -12,14 +12,11 @@ ghost use Rattle.bulk.specs.Samples.{kindsIn, wholesIn};
 ghost use Rattle.walking.specs.Steps.{Opened};
 ghost use Rattle.walking.specs.Views.{viewIn};
 ghost use Rattle.sweep.specs.Sweep.{sweepIn};
-ghost use Rattle.mfer.specs.Walks.{flagNumber, frameNumbers, frameValues, WalkNext, channelValues, channelOut, walkRead, walkValues};
-ghost use Rattle.mfer.specs.Answers.{outputs, countOut};
-use strides::Read;
-use heads::Refusal;
+ghost use Rattle.outputs.specs.Outputs.{outputs, countOut};
+ghost use Rattle.outputs.specs.Walks.{frameValues, channelValues, channelOut};
+ghost use Rattle.mfer.specs.Walks.{WalkNext, walkRead, walkValues};
 use reader::LookedUp;
-use verdict::Checked;
-use walk::Step;
-use walk::Waveform;
+use strides::Read;
 use walking::Walking;
 
 // Opens a walk over a file, which is checked: how many frames it has. The words of `walk` begin the walk; at a refusal they keep what they held.
@@ -33,38 +30,7 @@ pub extern "C" fn mfer_walk_open(
     ensures { λ r. ⌜ outputs r (now (place .exit)) (now (frames .exit)) ≡ countOut (checkOf (now (file .entry))) ⌝ }
     ensures { λ _. ⌜ Opened (now (file .entry)) (now (walk .entry)) (now (walk .exit)) ⌝ }
 {
-    match walking::open(file, walk) {
-        Checked::Frames(n) => {
-            *frames = n as u64;
-            *place = 0;
-            0
-        }
-        Checked::Refused(x) => {
-            *frames = 0;
-            *place = x.place as u64;
-            x.number as u32
-        }
-    }
-}
-
-fn flag_number(b: bool) -> u64
-    ensures { λ r. ⌜ r ≡ flagNumber b ⌝ }
-{
-    if b { 1 } else { 0 }
-}
-
-// The numbers of a frame, besides its start pointer.
-fn frame_numbers(v: Waveform) -> [u64; 6]
-    ensures { λ r. ⌜ r ≡ frameNumbers v ⌝ }
-{
-    [
-        v.channels as u64,
-        v.sequences as u64,
-        flag_number(v.little),
-        v.place as u64,
-        v.len as u64,
-        v.octets,
-    ]
+    outputs::checked_out(walking::open(file, walk), frames, place)
 }
 
 // The next frame of a walk: its start pointer, and in `frame` its channels, sequences, byte order (1: little-endian), the place and the length of its
@@ -74,32 +40,12 @@ pub extern "C" fn mfer_walk_next(
     file: &[u8],
     walk: &mut [u64; Walking::WORDS],
     start: &mut i64,
-    frame: &mut [u64; 6],
+    frame: &mut [u64; outputs::FRAME_NUMBERS],
     place: &mut u64,
 ) -> u32
     ensures { λ r. ⌜ WalkNext (now (file .entry)) (now (walk .entry)) (outputs r (now (place .exit)) (frameValues (now (start .exit)) (now (frame .exit)))) (now (walk .exit)) ⌝ }
 {
-    match walking::next(file, walk) {
-        Step::Frame(v) => {
-            let from = v.start;
-            *start = from;
-            *frame = frame_numbers(v);
-            *place = 0;
-            0
-        }
-        Step::Ended => {
-            *start = 0;
-            *frame = [0; 6];
-            *place = 0;
-            Refusal::NO_FRAME as u32
-        }
-        Step::Refused(x) => {
-            *start = 0;
-            *frame = [0; 6];
-            *place = x.place as u64;
-            x.number as u32
-        }
-    }
+    outputs::step_out(walking::next(file, walk), start, frame, place)
 }
 
 // A channel of the frame that a walk stands behind: its attributes, as mfer_attributes has them, and the octets of a sequence that lie below it.
@@ -107,30 +53,14 @@ pub extern "C" fn mfer_walk_next(
 pub extern "C" fn mfer_walk_channel(
     walk: &[u64; Walking::WORDS],
     channel: u32,
-    numbers: &mut [i64; 15],
+    numbers: &mut [i64; outputs::NUMBERS],
     bits: &mut [u64; 2],
     below: &mut u64,
     place: &mut u64,
 ) -> u32
     ensures { λ r. ⌜ outputs r (now (place .exit)) (channelValues (now (numbers .exit)) (now (bits .exit)) (now (below .exit))) ≡ channelOut (viewIn (now (walk .entry)) channel) ⌝ }
 {
-    match walking::view_at(walk, channel) {
-        LookedUp::Channel(v) => {
-            let a = reader::attributes_seen(v);
-            *numbers = crate::numbers_of(a);
-            *bits = crate::bit_pair_of(a);
-            *below = v.below;
-            *place = 0;
-            0
-        }
-        LookedUp::Refused(x) => {
-            *numbers = [0; 15];
-            *bits = [0; 2];
-            *below = 0;
-            *place = x.place as u64;
-            x.number as u32
-        }
-    }
+    outputs::looked_up_out(walking::view_at(walk, channel), numbers, bits, below, place)
 }
 
 // The bits of a channel's samples as mfer_samples tells them, of the frame that a walk stands behind. Nothing of the file is read but these samples.
@@ -148,8 +78,8 @@ pub extern "C" fn mfer_walk_samples(
     ensures { λ _. ⌜ now (out .exit) ≡ leftBy (walkRead (now (file .entry)) (now (walk .entry)) channel first (length (now (out .entry)))) (now (out .entry)) ⌝ }
 {
     match walking::view_at(walk, channel) {
-        LookedUp::Refused(x) => crate::read_out(Read::Refused(x), count, place),
-        LookedUp::Channel(v) => crate::read_out(bulk::seen(file, v, first, out), count, place),
+        LookedUp::Refused(x) => outputs::read_out(Read::Refused(x), count, place),
+        LookedUp::Channel(v) => outputs::read_out(bulk::seen(file, v, first, out), count, place),
     }
 }
 
@@ -166,7 +96,7 @@ pub extern "C" fn mfer_walk_frame(
     ensures { λ r. ⌜ outputs r (now (place .exit)) (now (count .exit)) ≡ countOut (mapAnswer length (sweepIn (now (file .entry)) (now (walk .entry)) (length (now (out .entry))))) ⌝ }
     ensures { λ _. ⌜ now (out .exit) ≡ leftBy (sweepIn (now (file .entry)) (now (walk .entry)) (length (now (out .entry)))) (now (out .entry)) ⌝ }
 {
-    crate::read_out(sweep::sweep(file, walk, out), count, place)
+    outputs::read_out(sweep::sweep(file, walk, out), count, place)
 }
 
 // Their values: the kinds and the whole numbers of a channel's samples as mfer_sample tells them, of the frame that a walk stands behind.
@@ -186,8 +116,8 @@ pub extern "C" fn mfer_walk_values(
     ensures { λ _. ⌜ now (wholes .exit) ≡ leftBy (wholesIn (walkValues (now (file .entry)) (now (walk .entry)) channel first (min (length (now (kinds .entry))) (length (now (wholes .entry)))))) (now (wholes .entry)) ⌝ }
 {
     match walking::view_at(walk, channel) {
-        LookedUp::Refused(x) => crate::read_out(Read::Refused(x), count, place),
-        LookedUp::Channel(v) => crate::read_out(
+        LookedUp::Refused(x) => outputs::read_out(Read::Refused(x), count, place),
+        LookedUp::Channel(v) => outputs::read_out(
             bulk::values_seen(file, v, first, kinds, wholes),
             count,
             place,

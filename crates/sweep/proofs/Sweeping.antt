@@ -16,7 +16,7 @@ use Rattle.heads.specs.Refusals.{noFrame}
 use Rattle.heads.specs.Answer.{Answer, refusedAs}
 use Rattle.records.specs.Records.{recordsHeld}
 use Rattle.strides.specs.Channels.{sweptOf}
-use Rattle.walking.specs.Words.{headWords, waveformIn}
+use Rattle.kept.specs.Words.{headWords, waveformIn}
 use Rattle.sweep.specs.Sweep.{holdsFrame, spreadsIn, sweepIn}
 
 module _ (u : List ℕ) where

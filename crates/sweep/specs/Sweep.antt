@@ -12,8 +12,7 @@ use Rattle.strides.specs.declared.Spread.{Spread}
 use Rattle.strides.specs.declared.Sequences.{Sequences}
 use Rattle.strides.specs.Channels.{spreadsFrom, sweptOf}
 use Rattle.walk.specs.declared.Waveform.{Waveform}
-use Rattle.walking.specs.Words.{headWords, waveformIn}
-use Rattle.walking.specs.Steps.{holdsHead}
+use Rattle.kept.specs.Words.{headWords, holdsHead, waveformIn}
 
 -- Words hold a frame with a record for each of its channels.
 unfoldable pub holdsFrame : List ℕ → Bool

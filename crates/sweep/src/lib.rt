@@ -3,30 +3,30 @@
 // For programs that take a frame whole: `sweep` writes the bits of all samples of the first channel, then those of the next, into a buffer that the caller
 // lends, with nothing of the file read but these samples.
 // Promises, for any words and any octets: the whole answer is a definition of specs/, refusals too, and so is the buffer afterwards.
-// Read first: crates strides and walking, then specs/Sweep.antt.
+// Read first: crates strides and kept, then specs/Sweep.antt.
 ghost use mathlib.Core.Path.{_≡_};
 ghost use lib.ListN.{length};
 ghost use Rattle.heads.specs.Answer.{mapAnswer, leftBy};
 ghost use Rattle.strides.specs.Channels.{readSays};
 ghost use Rattle.sweep.specs.Sweep.{holdsFrame, sweepIn};
 use heads::Refusal;
+use kept::Kept;
 use records::Records;
 use strides::Read;
 use strides::Sequences;
-use walking::Walking;
 
 // Whether words hold a frame with a record for each of its channels.
 fn holds_frame(w: &[u64]) -> bool
     ensures { λ r. ⌜ r ≡ holdsFrame (now (w .entry)) ⌝ }
 {
-    if w.len() < Walking::HEAD {
+    if w.len() < Kept::HEAD {
         return false;
     }
-    let v = walking::waveform_at(w);
+    let v = kept::waveform_at(w);
     if v.channels == 0 {
         return false;
     }
-    v.channels as usize <= (w.len() - Walking::HEAD) / Records::WORDS
+    v.channels as usize <= (w.len() - Kept::HEAD) / Records::WORDS
 }
 
 // The bits of all samples of the frame that the last step told of, channel after channel, at the front of the buffer.
@@ -35,8 +35,8 @@ pub fn sweep(s: &[u8], w: &[u64], out: &mut [u64]) -> Read
     ensures { λ _. ⌜ now (out .exit) ≡ leftBy (sweepIn (now (s .entry)) (now (w .entry)) (length (now (out .entry)))) (now (out .entry)) ⌝ }
 {
     if holds_frame(w) {
-        let v = walking::waveform_at(w);
-        let rest = Walking::HEAD;
+        let v = kept::waveform_at(w);
+        let rest = Kept::HEAD;
         let q = Sequences {
             count: v.sequences,
             little: v.little,

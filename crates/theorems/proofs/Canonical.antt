@@ -28,7 +28,8 @@ use Rattle.canonical.specs.Write.{framesIn, recordingOf, outputIn, writtenOf, c
 use Rattle.canonical.proofs.Room.{Fitting, Writes, writes, output-fits}
 use Rattle.canonical.proofs.ReadBack.{Reads, read-back}
 use Rattle.canonical.proofs.Accepted.{accepted-recorded}
-use Rattle.mfer.specs.Answers.{Outputs, outputs, handedOut, countOut, CanonicalOut}
+use Rattle.outputs.specs.Outputs.{Outputs, outputs, handedOut, countOut}
+use Rattle.mfer.specs.Answers.{CanonicalOut}
 use Rattle.theorems.proofs.EntryPoints.{refused-answers}
 use Rattle.theorems.proofs.Exactly.{refused-numbered}
 

@@ -20,7 +20,8 @@ use Rattle.view.specs.View.{viewOf}
 use Rattle.bulk.specs.Samples.{readOf, valuesOf}
 use Rattle.canonical.specs.Canonical.{canonical}
 use Rattle.canonical.specs.Write.{recordingOf, writtenOf, canonicalLengthOf, Wrote}
-use Rattle.mfer.specs.Answers.{outputs, CanonicalOut}
+use Rattle.outputs.specs.Outputs.{outputs}
+use Rattle.mfer.specs.Answers.{CanonicalOut}
 use Rattle.reader.proofs.Ordered.{endOf}
 use Rattle.reader.proofs.Checks.{check-accepted, check-refused}
 use Rattle.canonical.proofs.Room.{Writes}

@@ -24,8 +24,10 @@ use Rattle.bulk.specs.Samples.{readOf, valuesOf, kindsIn, wholesIn, countRead}
 use Rattle.walk.specs.Says.{stepSays}
 use Rattle.walking.specs.Steps.{stepIn}
 use Rattle.walking.specs.Views.{viewIn}
-use Rattle.mfer.specs.Walks.{frameOut, noFrameValues, zeroChannel, channelOut, walkRead, walkValues}
-use Rattle.mfer.specs.Answers.{Outputs, outputs, handedOut, countOut, CanonicalOut, zeroAttributes, attributesOut, zeroSample, sampleOut}
+use Rattle.outputs.specs.Outputs.{Outputs, outputs, handedOut, countOut, zeroAttributes, attributesOut, zeroSample, sampleOut}
+use Rattle.outputs.specs.Walks.{frameOut, noFrameValues, zeroChannel, channelOut}
+use Rattle.mfer.specs.Walks.{walkRead, walkValues}
+use Rattle.mfer.specs.Answers.{CanonicalOut}
 
 -- ---- a refused file
 

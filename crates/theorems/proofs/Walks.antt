@@ -29,8 +29,9 @@ use Rattle.walking.specs.Steps.{stepIn, Goes}
 use Rattle.walking.specs.Views.{viewIn}
 use Rattle.walking.proofs.Walked.{Walked, walked-open, walked-frame, walked-ended, walked-never}
 use Rattle.walking.proofs.Told.{walked-seen}
-use Rattle.mfer.specs.Answers.{Outputs, outputs, handedOut}
-use Rattle.mfer.specs.Walks.{FrameOut, frameOut, noFrameValues, WalkNext}
+use Rattle.outputs.specs.Outputs.{Outputs, outputs, handedOut}
+use Rattle.outputs.specs.Walks.{FrameOut, frameOut, noFrameValues}
+use Rattle.mfer.specs.Walks.{WalkNext}
 use Rattle.theorems.specs.Walks.{Walks, opened, stepped, Tells}
 
 -- What a walk over an accepted file with the frames fs tells.

@@ -9,8 +9,9 @@ use Rattle.bulk.specs.Samples.{readOf, valuesOf}
 use Rattle.walking.specs.Words.{walkWords}
 use Rattle.walking.specs.Steps.{Opened}
 use Rattle.walking.specs.Views.{viewIn}
-use Rattle.mfer.specs.Answers.{Outputs}
-use Rattle.mfer.specs.Walks.{FrameOut, WalkNext, walkRead, walkValues}
+use Rattle.outputs.specs.Outputs.{Outputs}
+use Rattle.outputs.specs.Walks.{FrameOut}
+use Rattle.mfer.specs.Walks.{WalkNext, walkRead, walkValues}
 
 -- The words that a walk over a file s is left in by mfer_walk_open, whatever they held, and then by n calls of mfer_walk_next, each of which handed a frame
 -- out.

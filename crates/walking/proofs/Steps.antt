@@ -1,6 +1,5 @@
 -- Laws of a walk begun and gone on with, in words.
 --     can-hold              words that can hold a head
---     lent-all              the words from a place on
 --     begun                 a walk begun
 --     begins-when           words that begin a walk
 --     opens-refused, opens-few, opens-begun    the words of a refused file, too few words, and words that begin a walk
@@ -29,8 +28,10 @@ use Rattle.items.specs.declared.Within.the-variants.{Root}
 use Rattle.items.specs.Walk.{cursor}
 use Rattle.dated.specs.declared.Dated.{Dated}
 use Rattle.walk.specs.Advance.{Stand, stand, stop, advanceOf, standOf, firstHead, BelowKept, Advances}
-use Rattle.walking.specs.Words.{headWords, headIn, waveformIn, standIn, Keeping}
-use Rattle.walking.specs.Steps.{noWaveform, frameTold, holdsHead, walkBegins, begunIn, Begins, Opens, Goes}
+use Rattle.kept.specs.Words.{headWords, holdsHead, headIn, waveformIn, Keeping}
+use Rattle.kept.proofs.Laws.{lent, lent-all}
+use Rattle.walking.specs.Words.{standIn}
+use Rattle.walking.specs.Steps.{noWaveform, frameTold, walkBegins, begunIn, Begins, Opens, Goes}
 
 -- ---- whether words can hold a head
 
@@ -43,16 +44,9 @@ module _ (u : List ℕ) {A : Type 0} (a b : A) where
 
 -- ---- the words from a place on, lent and given back
 
--- They are lent to their end.
-abbrev lent : ℕ → List ℕ → List ℕ
-lent n u = take (length u - n) (drop n u)
-
 -- The words once x are given back.
 abbrev given-back : ℕ → List ℕ → List ℕ → List ℕ
 given-back n u x = take n u ++ (x ++ drop (length u - n) (drop n u))
-
-pub lent-all : (n : ℕ) (u : List ℕ) → lent n u ≡ drop n u
-lent-all n u = take-all (length u - n) (drop n u) (omega (arith, length-drop n u))
 
 module _ (n : ℕ) (u x : List ℕ) (room : n ≤ length u) where
   nothing-behind : drop (length u - n) (drop n u) ≡ []

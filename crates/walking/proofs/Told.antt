@@ -24,7 +24,8 @@ use Rattle.walk.specs.declared.Waveform.{Waveform}
 use Rattle.walk.specs.declared.Step.{Step}
 use Rattle.walk.specs.Joined.{frameBy}
 use Rattle.walk.proofs.Joins.{reaches-grown}
-use Rattle.walking.specs.Words.{standIn, waveformIn}
+use Rattle.kept.specs.Words.{waveformIn}
+use Rattle.walking.specs.Words.{standIn}
 use Rattle.walking.specs.Steps.{Goes}
 use Rattle.walking.specs.Views.{viewIn}
 use Rattle.walking.proofs.Walked.{Walked, walked-frame, walked-counts}

@@ -25,8 +25,9 @@ use Rattle.walk.specs.declared.Waveform.{Waveform}
 use Rattle.walk.specs.declared.Step.{Step}
 use Rattle.walk.specs.Joined.{frameBy}
 use Rattle.walk.proofs.Joins.{Counts}
-use Rattle.walking.specs.Words.{headWords, waveformIn, standIn}
-use Rattle.walking.specs.Steps.{holdsHead, Goes}
+use Rattle.kept.specs.Words.{headWords, holdsHead, waveformIn}
+use Rattle.walking.specs.Words.{standIn}
+use Rattle.walking.specs.Steps.{Goes}
 use Rattle.walking.specs.Views.{viewBy, viewKept, viewIn}
 use Rattle.walking.proofs.Steps.{can-hold}
 use Rattle.walking.proofs.Walked.{Walked, walked-counts}

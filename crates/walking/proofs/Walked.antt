@@ -24,7 +24,8 @@ use Rattle.walk.specs.Joined.{frameBy}
 use Rattle.walk.proofs.Joins.{Reaches, Counts, StepReaches, reaches-cleared, advance-reaches}
 use Rattle.reader.proofs.Ordered.{accepted-small}
 use Rattle.reader.proofs.Checks.{check-accepted}
-use Rattle.walking.specs.Words.{headWords, walkWords, standIn}
+use Rattle.kept.specs.Words.{headWords}
+use Rattle.walking.specs.Words.{walkWords, standIn}
 use Rattle.walking.specs.Steps.{begunIn, Opens, Goes}
 use Rattle.walking.proofs.Steps.{can-hold, begins-when}
 

@@ -3,7 +3,6 @@ use mathlib.Core.Path.{_≡_}
 use mathlib.Core.Bool.{Bool, false}
 use mathlib.Core.List.{List, map}
 use Prim.Native.Nat.{ℕ}
-use lib.Dec.{leb}
 use lib.IntN.{pos}
 use lib.ListN.{length, drop}
 use Rattle.octets.specs.Pick.{pick}
@@ -18,7 +17,8 @@ use Rattle.verdict.specs.Verdict.{checkedSays, checkOf}
 use Rattle.walk.specs.declared.Waveform.{Waveform}
 use Rattle.walk.specs.declared.Step.{Step}
 use Rattle.walk.specs.Advance.{Stand, stand, Stop, stop, advanceOf, BelowKept}
-use Rattle.walking.specs.Words.{headWords, waveformIn, standIn}
+use Rattle.kept.specs.Words.{headWords, holdsHead, waveformIn}
+use Rattle.walking.specs.Words.{standIn}
 
 -- No frame: every number is 0, and so it has no channels.
 abbrev pub noWaveform : Waveform
@@ -29,10 +29,6 @@ abbrev pub frameTold : Step → Waveform
 frameTold (Step.Frame v) = v
 frameTold Step.Ended = noWaveform
 frameTold (Step.Refused r) = noWaveform
-
--- Fewer words cannot hold a head.
-abbrev pub holdsHead : List ℕ → Bool
-holdsHead u = leb headWords (length u)
 
 -- Words begin a walk over a file that is accepted, if they can hold a head.
 abbrev pub walkBegins : Answer ℕ → List ℕ → Bool

@@ -11,8 +11,7 @@ use Rattle.dated.specs.Dated.{zeroDated}
 use Rattle.view.specs.declared.View.{View}
 use Rattle.records.specs.Records.{recordsIn, belowIn}
 use Rattle.walk.specs.declared.Waveform.{Waveform}
-use Rattle.walking.specs.Words.{headWords, waveformIn}
-use Rattle.walking.specs.Steps.{holdsHead}
+use Rattle.kept.specs.Words.{headWords, holdsHead, waveformIn}
 
 -- A channel of a frame, with the octets of a sequence below it and its settings.
 abbrev pub viewBy : Waveform → ℕ → Settings → View

@@ -1,7 +1,6 @@
 -- By the answer of the check.
-use mathlib.Core.Path.{sym, ap, _∙_}
-use Rattle.verdict.specs.Verdict.{checkedSays}
-use Rattle.mfer.specs.Answers.{handedOut, countOut}
+use mathlib.Core.Path.{ap, _∙_}
+use Rattle.outputs.specs.Outputs.{countOut}
 use borrow.Author.Needs.{needs}
 use Rattle.mfer.proofs.mfer_check.Statement.{statement}
 use Rattle.mfer.proofs.mfer_check.Tie as tie
@@ -9,27 +8,11 @@ use Rattle.mfer.proofs.mfer_check.Tie as tie
 check-requires : tie.Need-check-requires
 check-requires c κs = search needs
 
-enum-known-n : tie.Need-enum-known-n
-enum-known-n c = search needs
-
-cast-frames : tie.Need-cast-frames
-cast-frames c = search needs
-
-enum-known-x : tie.Need-enum-known-x
-enum-known-x c = search needs
-
-cast-result : tie.Need-cast-result
-cast-result c = search needs
+checked-out-requires : tie.Need-checked-out-requires
+checked-out-requires c κs = search needs
 
 returns : tie.Need-returns
-unfolding handedOut
-returns c = ap countOut (ap checkedSays (sym (c .before .n .given .1)) ∙ c .before .before .before .check .ensures)
-
-returns-2 : tie.Need-returns-2
-unfolding handedOut
-returns-2 c = ap countOut (ap checkedSays (sym (c .before .before .x .given .1)) ∙ c .before .before .before .before .check .ensures)
+returns c = c .checked-out .ensures ∙ ap countOut (c .before .before .before .check .ensures)
 
 pub mfer-check-spec : {M : Type 1} → statement M
-mfer-check-spec =
-    tie.close
-    (tie.spec check-requires enum-known-n cast-frames enum-known-x cast-result returns returns-2)
+mfer-check-spec = tie.close (tie.spec check-requires checked-out-requires returns)

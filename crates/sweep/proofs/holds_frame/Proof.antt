@@ -5,7 +5,7 @@ use native.Mathlib.Omega.{arith}
 use lib.Dec.{leb}
 use lib.ListN.{length-drop}
 use Rattle.walk.specs.declared.Waveform.{Waveform}
-use Rattle.walking.specs.Words.{headWords}
+use Rattle.kept.specs.Words.{headWords}
 use Rattle.sweep.proofs.Sweeping.{frame-few, frame-none, frame-held}
 use borrow.Author.Needs.{needs}
 use Rattle.sweep.proofs.holds_frame.Statement.{statement}

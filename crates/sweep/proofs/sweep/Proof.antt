@@ -7,8 +7,8 @@ use Rattle.heads.specs.Answer.{Answer, mapAnswer, leftBy}
 use Rattle.strides.specs.declared.Spread.{Spread}
 use Rattle.strides.specs.Channels.{spreadsFrom, sweptOf}
 use Rattle.strides.proofs.Channels.{kept}
-use Rattle.walking.specs.Words.{headWords}
-use Rattle.walking.proofs.Steps.{lent-all}
+use Rattle.kept.specs.Words.{headWords}
+use Rattle.kept.proofs.Laws.{lent-all}
 use Rattle.sweep.specs.Sweep.{sequencesBy, spreadsIn, sweepIn}
 use Rattle.sweep.proofs.Sweeping.{frame-room, sweep-none, sweep-held}
 use borrow.Author.Needs.{needs}

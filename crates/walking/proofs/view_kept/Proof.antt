@@ -8,9 +8,9 @@ use mir.Facts.{toZ-ofZ}
 use lib.ListN.{getD}
 use Rattle.dated.specs.Dated.{zeroDated}
 use Rattle.records.specs.Records.{recordsIn, belowIn}
-use Rattle.walking.specs.Words.{headWords}
+use Rattle.kept.specs.Words.{headWords}
 use Rattle.walking.specs.Views.{viewBy}
-use Rattle.walking.proofs.Steps.{lent-all}
+use Rattle.kept.proofs.Laws.{lent-all}
 use borrow.Author.Needs.{needs}
 use Rattle.walking.proofs.view_kept.Statement.{statement}
 use Rattle.walking.proofs.view_kept.Tie as tie

@@ -5,7 +5,7 @@ use Prim.Native.Nat.{ℕ}
 use lib.ListN.{length}
 use Rattle.heads.specs.Answer.{Answer, mapAnswer, leftBy}
 use Rattle.bulk.specs.Samples.{readSeen}
-use Rattle.mfer.specs.Answers.{Outputs, countOut}
+use Rattle.outputs.specs.Outputs.{Outputs, countOut}
 use Rattle.mfer.proofs.Handed.{walk-refused, walk-seen}
 use borrow.Author.Needs.{needs}
 use Rattle.mfer.proofs.walks.mfer_walk_samples.Statement.{statement}

@@ -6,7 +6,7 @@ use lib.ListN.{length}
 use Rattle.values.specs.Sample.{Said}
 use Rattle.heads.specs.Answer.{Answer, mapAnswer, leftBy}
 use Rattle.bulk.specs.Samples.{valuesSeen, kindsIn, wholesIn}
-use Rattle.mfer.specs.Answers.{Outputs, countOut}
+use Rattle.outputs.specs.Outputs.{Outputs, countOut}
 use Rattle.mfer.proofs.Handed.{walk-refused, walk-seen}
 use borrow.Author.Needs.{needs}
 use Rattle.mfer.proofs.walks.mfer_walk_values.Statement.{statement}
