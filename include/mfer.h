@@ -56,8 +56,8 @@
  * A walk over a whole file goes through its items twice, once in mfer_walk_open and once in all calls
  * of mfer_walk_next together, each of which goes from one frame to the next. It looks at each channel
  * of each frame once. mfer_walk_channel, mfer_walk_samples, mfer_walk_frame and mfer_walk_values go
- * through no items: the first takes the same short time in any file, and the others the time to copy the
- * samples that they read.
+ * through no items: the first takes the same short time in any file, and the others the time to copy
+ * the samples that they read.
  *
  * Every other function goes through all items of the file, whatever it asks for: the time grows with
  * the number of items and not with the length of the waveforms, which are stepped over.
@@ -316,11 +316,11 @@ uint32_t mfer_values(const uint8_t *file, size_t file_len, uint32_t frame, uint3
  * A walk: the frames of a file one after another, each with its channels and samples.
  *
  * mfer_walk_open checks the file and begins the walk, mfer_walk_next goes to the next frame,
- * mfer_walk_channel, mfer_walk_samples and mfer_walk_values tell of a channel of the frame that the walk
- * is at, and mfer_walk_frame of all of them. The walk is kept in an array of the caller's, `uint64_t walk[MFER_WALK]`, 33,280 octets:
- * nothing has to be set in it before it is opened, and nothing freed afterwards. It holds numbers and
- * no pointers. A copy of it is a walk of its own that goes on from the same frame, and it may be
- * opened again, for the same file or another.
+ * mfer_walk_channel, mfer_walk_samples and mfer_walk_values tell of a channel of the frame that the
+ * walk is at, and mfer_walk_frame of all of them. The walk is kept in an array of the caller's,
+ * `uint64_t walk[MFER_WALK]`, 33,280 octets: nothing has to be set in it before it is opened, and
+ * nothing freed afterwards. It holds numbers and no pointers. A copy of it is a walk of its own that
+ * goes on from the same frame, and it may be opened again, for the same file or another.
  *
  * What is told of an opened file is what mfer_attributes, mfer_samples and mfer_values tell of it,
  * frame by frame. For this the file must have the same octets in every call as in mfer_walk_open; it
@@ -397,11 +397,11 @@ uint32_t mfer_walk_samples(const uint8_t *file, size_t file_len, const uint64_t 
                            uint64_t *count, uint64_t *place);
 
 /*
- * The bits of all samples of the frame that the walk is at: those of channel 0, then those of channel 1,
- * and so on, each channel's in their order, at the front of `out`. The rest of `out`, and at a refusal
- * all of it, keeps what it held. A channel has as many samples as the frame has sequences, times the
- * channel's block length; together they are at most frame[MFER_FRAME_LENGTH], so a buffer of that many
- * always holds them.
+ * The bits of all samples of the frame that the walk is at: those of channel 0, then those of channel
+ * 1, and so on, each channel's in their order, at the front of `out`. The rest of `out`, and at a
+ * refusal all of it, keeps what it held. A channel has as many samples as the frame has sequences,
+ * times the channel's block length; together they are at most frame[MFER_FRAME_LENGTH], so a buffer of
+ * that many always holds them.
  *
  * This is the fastest way to read a file whole: one call a frame.
  *

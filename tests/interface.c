@@ -447,7 +447,26 @@ static void expect_walk_lacks_values(const uint8_t *file, size_t file_len, const
     EXPECT(count == 0 && place == 0);
 }
 
-/* The walk answers this refusal to the questions for a channel and its samples. */
+/* All samples of a frame are refused so, in a buffer with room for some and in none. */
+static void expect_walk_lacks_frame(const uint8_t *file, size_t file_len, const uint64_t *walk,
+                                    uint32_t refusal)
+{
+    uint64_t place = UNSET, count = UNSET, out[3];
+    size_t i;
+
+    memset(out, 0xA5, sizeof out);
+    EXPECT(mfer_walk_frame(file, file_len, walk, out, SIZE(out), &count, &place) == refusal);
+    EXPECT(count == 0 && place == 0);
+    for (i = 0; i < SIZE(out); i++)
+        EXPECT(out[i] == UNSET);
+
+    place = count = UNSET;
+    EXPECT(mfer_walk_frame(file, file_len, walk, NULL, 0, &count, &place) == refusal);
+    EXPECT(count == 0 && place == 0);
+}
+
+/* The walk answers this refusal to the questions for a channel and its samples; where it is at no
+   frame, to that for all samples too. */
 static void expect_walk_lacks(const uint8_t *file, size_t file_len, const uint64_t *walk,
                               uint32_t channel, uint64_t first, uint32_t refusal)
 {
@@ -477,6 +496,8 @@ static void expect_walk_lacks(const uint8_t *file, size_t file_len, const uint64
            refusal);
     EXPECT(count == 0 && place == 0);
     expect_walk_lacks_values(file, file_len, walk, channel, first, refusal);
+    if (refusal == MFER_NO_FRAME)
+        expect_walk_lacks_frame(file, file_len, walk, refusal);
 }
 
 /* The place of a sample by what a walk says of its frame and its channel. */
@@ -576,6 +597,53 @@ static void same_channel(const uint8_t *file, size_t file_len, const uint64_t *w
     }
 }
 
+/* All samples of a frame in a buffer of this length, whose memory ends with it: they are the `samples`
+   words at `expected`, or there is no room for them. */
+static void expect_frame(const uint8_t *file, size_t file_len, const uint64_t *walk,
+                         const uint64_t *expected, size_t samples, size_t room)
+{
+    uint64_t *out = (uint64_t *)malloc(room * sizeof *out);
+    uint64_t count = UNSET, place = UNSET;
+    size_t told = samples <= room ? samples : 0, i;
+
+    for (i = 0; i < room; i++)
+        out[i] = UNSET;
+    EXPECT(mfer_walk_frame(file, file_len, walk, out, room, &count, &place) ==
+           (samples <= room ? MFER_OK : MFER_NO_ROOM));
+    EXPECT(count == told && place == 0);
+    for (i = 0; i < room; i++)
+        EXPECT(out[i] == (i < told ? expected[i] : UNSET));
+    free(out);
+}
+
+/* All samples of a frame by the walk are what mfer_samples tells of one channel after another. */
+static void same_frame(const uint8_t *file, size_t file_len, const uint64_t *walk, uint32_t number,
+                       const uint64_t *frame)
+{
+    const size_t room = (size_t)frame[MFER_FRAME_LENGTH] + 1;
+    uint64_t *expected = (uint64_t *)malloc(room * sizeof *expected);
+    uint64_t count, place;
+    size_t samples = 0;
+    uint32_t channel;
+
+    for (channel = 0; channel < frame[MFER_FRAME_CHANNELS]; channel++)
+        if (mfer_samples(file, file_len, number, channel, 0, expected + samples, room - samples, &count,
+                         &place) == MFER_OK)
+            samples += (size_t)count;
+    EXPECT(samples < room);
+    expect_frame(file, file_len, walk, expected, samples, samples);
+    expect_frame(file, file_len, walk, expected, samples, samples + 3);
+    expect_frame(file, file_len, walk, expected, samples, room - 1);
+    if (samples > 0) {
+        expect_frame(file, file_len, walk, expected, samples, samples - 1);
+        count = place = UNSET;
+        EXPECT(mfer_walk_frame(file, file_len, walk, NULL, 0, &count, &place) == MFER_NO_ROOM);
+    } else
+        EXPECT(mfer_walk_frame(file, file_len, walk, NULL, 0, &count, &place) == MFER_OK);
+    EXPECT(count == 0 && place == 0);
+    free(expected);
+}
+
 /* All of a file by the walk is what the single questions tell. The walk's array is not set before. */
 static void same_by_walk(const uint8_t *file, size_t file_len)
 {
@@ -604,6 +672,7 @@ static void same_by_walk(const uint8_t *file, size_t file_len)
         EXPECT(frame[MFER_FRAME_SEQUENCES] * frame[MFER_FRAME_OCTETS] <= frame[MFER_FRAME_LENGTH]);
         for (channel = 0; channel < frame[MFER_FRAME_CHANNELS]; channel++)
             same_channel(file, file_len, walk, number, frame, channel);
+        same_frame(file, file_len, walk, number, frame);
         expect_walk_lacks(file, file_len, walk, channel, 0, MFER_NO_CHANNEL);
         expect_walk_lacks(file, file_len, walk, UINT32_MAX, UINT64_MAX, MFER_NO_CHANNEL);
     }
@@ -713,6 +782,38 @@ static void walk_values(void)
     EXPECT(count == 0 && place == 0 && wholes[0] == -1);
 }
 
+/* Channel after channel, each sample with its bits, and a frame of no sequences. */
+static void walk_frame(void)
+{
+    static const uint64_t blocks[] = {0, 1, 6, 7, 2, 8, 3, 4, 5, 9, 10, 11};
+    static const uint64_t one[] = {0xFF, 0x80}, little[] = {1, 2, 0xFFFF};
+    static const uint64_t singles[] = {0x80000000u, 0x7FC00001u, 0x3F800000u};
+    static const uint64_t doubles[] = {0xFFF0000000000000u};
+    uint64_t walk[MFER_WALK], frames, frame[MFER_FRAME_NUMBERS], place;
+    int64_t start;
+    size_t room;
+
+    EXPECT(mfer_walk_open(BLOCKS, sizeof BLOCKS, walk, &frames, &place) == MFER_OK);
+    EXPECT(mfer_walk_next(BLOCKS, sizeof BLOCKS, walk, &start, frame, &place) == MFER_OK);
+    for (room = 0; room < 20; room++)
+        expect_frame(BLOCKS, sizeof BLOCKS, walk, blocks, SIZE(blocks), room);
+    EXPECT(mfer_walk_next(BLOCKS, sizeof BLOCKS, walk, &start, frame, &place) == MFER_OK);
+    for (room = 0; room < 5; room++)
+        expect_frame(BLOCKS, sizeof BLOCKS, walk, one, SIZE(one), room);
+    EXPECT(mfer_walk_next(BLOCKS, sizeof BLOCKS, walk, &start, frame, &place) == MFER_OK);
+    for (room = 0; room < 3; room++)
+        expect_frame(BLOCKS, sizeof BLOCKS, walk, NULL, 0, room);
+
+    EXPECT(mfer_walk_open(P2, sizeof P2, walk, &frames, &place) == MFER_OK);
+    EXPECT(mfer_walk_next(P2, sizeof P2, walk, &start, frame, &place) == MFER_OK);
+    expect_frame(P2, sizeof P2, walk, little, SIZE(little), 3);
+    EXPECT(mfer_walk_open(FLOATS, sizeof FLOATS, walk, &frames, &place) == MFER_OK);
+    EXPECT(mfer_walk_next(FLOATS, sizeof FLOATS, walk, &start, frame, &place) == MFER_OK);
+    expect_frame(FLOATS, sizeof FLOATS, walk, singles, SIZE(singles), 4);
+    EXPECT(mfer_walk_next(FLOATS, sizeof FLOATS, walk, &start, frame, &place) == MFER_OK);
+    expect_frame(FLOATS, sizeof FLOATS, walk, doubles, SIZE(doubles), 4);
+}
+
 /* As many frames as there may be, of as many channels. */
 static void walk_over_the_most_frames(void)
 {
@@ -720,6 +821,7 @@ static void walk_over_the_most_frames(void)
     size_t i, length = sizeof head + 2 * MFER_MAX_FRAMES;
     uint8_t *file = (uint8_t *)malloc(length);
     uint64_t walk[MFER_WALK], frames = 0, place, frame[MFER_FRAME_NUMBERS], met = 0, bits[2], below;
+    uint64_t count;
     int64_t start, numbers[MFER_NUMBERS];
     memcpy(file, head, sizeof head);
     for (i = sizeof head; i < length; i += 2) {
@@ -731,6 +833,8 @@ static void walk_over_the_most_frames(void)
     while (mfer_walk_next(file, length, walk, &start, frame, &place) == MFER_OK) {
         EXPECT(frame[MFER_FRAME_CHANNELS] == MFER_MAX_CHANNELS && frame[MFER_FRAME_OCTETS] == 512);
         EXPECT(mfer_walk_channel(walk, 255, numbers, bits, &below, &place) == MFER_OK && below == 510);
+        count = UNSET;
+        EXPECT(mfer_walk_frame(file, length, walk, NULL, 0, &count, &place) == MFER_OK && count == 0);
         met++;
     }
     EXPECT(met == frames);
@@ -782,6 +886,7 @@ static void walk_over_another_file(void)
         EXPECT(mfer_walk_samples(P2, i, walk, 0, 2, out, SIZE(out), &count, &place) == MFER_NO_SAMPLE);
         expect_walk_lacks_values(P2, i, walk, 0, 0, MFER_NO_FRAME);
         expect_walk_lacks_values(P2, i, walk, 0, 2, MFER_NO_SAMPLE);
+        expect_walk_lacks_frame(P2, i, walk, MFER_NO_FRAME);
     }
     expect_walk_end(NULL, 0, walk);
 }
@@ -874,6 +979,67 @@ static void expect_safe(const uint8_t *file, size_t file_len, const uint64_t *wa
     expect_safe_values(file, file_len, walk, channel, first, refusal, count);
 }
 
+/*
+ * All samples by the walk's questions for each channel, channel after channel: how many, in a buffer with
+ * this room, or the refusal. Of a channel without samples they do not tell whether it is refused; then
+ * *certain is 0.
+ */
+static uint32_t channel_by_channel(const uint8_t *file, size_t file_len, const uint64_t *walk,
+                                   uint64_t *out, size_t room, size_t *samples, int *certain)
+{
+    int64_t numbers[MFER_NUMBERS];
+    uint64_t bits[2], below, place, count;
+    uint32_t channel = 0, refusal;
+
+    *samples = 0;
+    *certain = 1;
+    if (mfer_walk_channel(walk, 0, numbers, bits, &below, &place) != MFER_OK ||
+        numbers[MFER_NUMBER_CHANNELS] > (int64_t)MFER_MAX_CHANNELS)
+        return MFER_NO_FRAME;
+    while (mfer_walk_channel(walk, channel, numbers, bits, &below, &place) == MFER_OK) {
+        refusal = mfer_walk_samples(file, file_len, walk, channel, 0, out + *samples, room - *samples,
+                                    &count, &place);
+        if (refusal == MFER_NO_FRAME)
+            return MFER_NO_FRAME;
+        if (refusal == MFER_NO_SAMPLE)
+            *certain = 0;
+        else if ((uint64_t)numbers[MFER_NUMBER_SEQUENCES] * (uint64_t)numbers[MFER_NUMBER_BLOCK] >
+                 room - *samples)
+            return MFER_NO_ROOM;
+        *samples += (size_t)count;
+        channel++;
+    }
+    return MFER_OK;
+}
+
+/* How often a frame of any words was told whole and had samples. */
+static int whole;
+
+/* Whatever the words are: all samples of the frame are what the questions for each channel tell. The
+   buffer's memory ends with it. */
+static void expect_safe_frame(const uint8_t *file, size_t file_len, const uint64_t *walk, size_t room)
+{
+    uint64_t *out = (uint64_t *)malloc(room * sizeof *out);
+    uint64_t *expected = (uint64_t *)malloc(room * sizeof *expected);
+    uint64_t count = UNSET, place = UNSET;
+    size_t samples, i;
+    int certain;
+    uint32_t known = channel_by_channel(file, file_len, walk, expected, room, &samples, &certain), refusal;
+
+    for (i = 0; i < room; i++)
+        out[i] = UNSET;
+    refusal = mfer_walk_frame(file, file_len, walk, out, room, &count, &place);
+    EXPECT(refusal == known || (refusal == MFER_NO_FRAME && !certain));
+    if (refusal != MFER_OK)
+        samples = 0;
+    EXPECT(count == samples && place == 0);
+    for (i = 0; i < room; i++)
+        EXPECT(out[i] == (i < samples ? expected[i] : UNSET));
+    whole += samples > 0;
+    free(expected);
+    free(out);
+}
+
 /* Goes on from any words for some steps. How many steps told of a frame. */
 static int goes_on_safely(const uint8_t *file, size_t file_len, uint64_t *walk)
 {
@@ -881,6 +1047,7 @@ static int goes_on_safely(const uint8_t *file, size_t file_len, uint64_t *walk)
     int64_t start;
     int step, told = 0;
     expect_safe(file, file_len, walk, (uint32_t)random_word(), NULL);
+    expect_safe_frame(file, file_len, walk, 40);
     for (step = 0; step < 3; step++) {
         uint32_t refusal = mfer_walk_next(file, file_len, walk, &start, frame, &place);
         EXPECT(refusal <= MFER_LONG_FILE || refusal == MFER_NO_FRAME);
@@ -893,6 +1060,8 @@ static int goes_on_safely(const uint8_t *file, size_t file_len, uint64_t *walk)
         told++;
         expect_safe(file, file_len, walk, (uint32_t)random_word(), frame);
         expect_safe(file, file_len, walk, 0, frame);
+        expect_safe_frame(file, file_len, walk, 40);
+        expect_safe_frame(file, file_len, walk, random_number() % 8);
     }
     return told;
 }
@@ -904,6 +1073,7 @@ static void walk_of_any_words(void)
     uint8_t *file = many_frames(20, &length);
     uint64_t *walk = (uint64_t *)malloc(MFER_WALK * sizeof *walk);
     int round, told = 0;
+    whole = 0;
     for (i = 0; i < MFER_WALK; i++)
         walk[i] = random_word();
     for (round = 0; round < 10000; round++) {
@@ -913,7 +1083,7 @@ static void walk_of_any_words(void)
             walk[random_number() % MFER_WALK] = random_word();
         told += goes_on_safely(file, length, walk);
     }
-    EXPECT(told > 100);
+    EXPECT(told > 100 && whole > 100);
     free(walk);
     free(file);
 }
@@ -928,6 +1098,7 @@ static void walk_with_one_word_changed(void)
     uint64_t frames, place, frame[MFER_FRAME_NUMBERS];
     int64_t start;
     int round, told = 0;
+    whole = 0;
     for (round = 0; round < 10000; round++) {
         if (round % 20 == 0)
             EXPECT(mfer_walk_open(file, length, walk, &frames, &place) == MFER_OK && frames == 20);
@@ -936,7 +1107,7 @@ static void walk_with_one_word_changed(void)
         told += goes_on_safely(file, length, changed);
         EXPECT(mfer_walk_next(file, length, walk, &start, frame, &place) == MFER_OK);
     }
-    EXPECT(told > 1000);
+    EXPECT(told > 1000 && whole > 1000);
     free(changed);
     free(walk);
     free(file);
@@ -1050,6 +1221,7 @@ int main(int argc, char **argv)
     run("walk_tells_the_same", walk_tells_the_same);
     run("walk_numbers", walk_numbers);
     run("walk_values", walk_values);
+    run("walk_frame", walk_frame);
     run("walk_over_the_most_frames", walk_over_the_most_frames);
     run("walk_copied", walk_copied);
     run("walk_over_another_file", walk_over_another_file);

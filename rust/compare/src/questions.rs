@@ -196,14 +196,19 @@ fn ask_walk(file: &[u8], checked: &Result<u32, Refusal>) -> Agreed {
     Ok(())
 }
 
-/// A walk that is at no frame has no channel.
+/// A walk that is at no frame has no channel and no samples.
 fn ask_no_frame(file: &[u8], walk: &Walk) -> Agreed {
     let no_frame = Refusal {
         number: Refusal::NO_FRAME,
         place: 0,
     };
     ask_no_channel(file, walk, 0, no_frame)?;
-    ask_no_channel(file, walk, u32::MAX, no_frame)
+    ask_no_channel(file, walk, u32::MAX, no_frame)?;
+    for room in [0, 2] {
+        let question = || format!("all samples of no frame, room for {room}");
+        same_frame(file, walk, room, question, |_| Err(no_frame))?;
+    }
+    Ok(())
 }
 
 fn ask_no_channel(file: &[u8], walk: &Walk, channel: u32, refusal: Refusal) -> Agreed {
@@ -222,7 +227,7 @@ fn ask_no_channel(file: &[u8], walk: &Walk, channel: u32, refusal: Refusal) -> A
     )
 }
 
-/// The next frame of a walk, with all its channels.
+/// The next frame of a walk, with all its channels and all samples at once.
 fn ask_frame(file: &[u8], walk: &mut Walk, number: u32, met: Met, channels: &[Series]) -> Agreed {
     let stepped = ffi::walk_next(file, walk);
     let expected = Stepped {
@@ -245,12 +250,33 @@ fn ask_frame(file: &[u8], walk: &mut Walk, number: u32, met: Met, channels: &[Se
         same(question, seen, expected_channel(Ok(series)))?;
         ask_series(file, walk, channel, series, question)?;
     }
+    let count = channels.iter().map(Series::samples).sum::<u64>() as usize;
+    for room in [0, count.saturating_sub(1), count, count + 3] {
+        let question = || format!("all samples of frame {number}, room for {room}");
+        let all = |out: &mut [u64]| reader::all_samples(channels, out);
+        same_frame(file, walk, room, question, all)?;
+    }
     let no_channel = Refusal {
         number: Refusal::NO_CHANNEL,
         place: 0,
     };
     ask_no_channel(file, walk, channels.len() as u32, no_channel)?;
     ask_no_channel(file, walk, u32::MAX, no_channel)
+}
+
+/// Compares all samples of the frame that a walk is at, in a buffer of this length.
+fn same_frame(
+    file: &[u8],
+    walk: &Walk,
+    room: usize,
+    question: impl Fn() -> String,
+    second: impl FnOnce(&mut [u64]) -> Result<usize, Refusal>,
+) -> Agreed {
+    let (mut proved, mut expected) = (vec![PATTERN; room], vec![PATTERN; room]);
+    let answer = ffi::walk_frame(file, walk, &mut proved);
+    let filled = second(&mut expected);
+    same(&question, answer, expected_count(&filled))?;
+    same(&question, proved, expected)
 }
 
 /// All samples of a channel by the walk, as bits and as values: three, then as many as are read in one go, to the end.

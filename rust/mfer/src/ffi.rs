@@ -106,6 +106,16 @@ extern "C" {
         place: *mut u64,
     ) -> u32;
 
+    fn mfer_walk_frame(
+        file: *const u8,
+        file_len: usize,
+        walk: *const Walk,
+        out: *mut u64,
+        out_len: usize,
+        count: *mut u64,
+        place: *mut u64,
+    ) -> u32;
+
     fn mfer_walk_values(
         file: *const u8,
         file_len: usize,
@@ -408,6 +418,22 @@ pub fn walk_samples(file: &[u8], walk: &Walk, channel: u32, first: u64, out: &mu
             walk,
             channel,
             first,
+            out.as_mut_ptr(),
+            out.len(),
+            count,
+            place,
+        )
+    })
+}
+
+/// Asks `mfer_walk_frame`.
+pub fn walk_frame(file: &[u8], walk: &Walk, out: &mut [u64]) -> Filled {
+    // SAFETY: see the module's first lines.
+    filled(|count, place| unsafe {
+        mfer_walk_frame(
+            file.as_ptr(),
+            file.len(),
+            walk,
             out.as_mut_ptr(),
             out.len(),
             count,

@@ -31,7 +31,7 @@
 //! The loop above goes through the file's items twice, once to check the file and once from frame to
 //! frame, and reads each sample once. A single question, as [`File::attributes`] or [`File::sample`],
 //! goes through all items, whatever it asks for, and steps over the waveforms: where many things are
-//! asked, [`File::frames`] is the way.
+//! asked, [`File::frames`] is the way. Where bits will do, [`Frame::samples`] reads a frame in one call.
 #![deny(unsafe_code)]
 #![warn(missing_docs)]
 

@@ -46,6 +46,12 @@ impl Walk {
         Refusal::or(filled.number, filled.place, filled.count as usize)
     }
 
+    /// Reads all samples of the frame that the walk is at, channel after channel.
+    pub fn frame(&self, file: File, out: &mut [u64]) -> Result<usize, Refusal> {
+        let filled = ffi::walk_frame(file.octets(), &self.0, out);
+        Refusal::or(filled.number, filled.place, filled.count as usize)
+    }
+
     /// Reads kinds and whole numbers of a channel of the frame that the walk is at.
     pub fn values(
         &self,

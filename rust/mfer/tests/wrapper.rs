@@ -79,6 +79,7 @@ fn frames_tell_what_the_questions_tell() {
         assert_eq!(waveform.len(), 2 * (number as usize % 256 % 100) + 2);
         assert_eq!(octets[waveform.start - 3], 0x1E);
         assert_eq!(frame.channels().len(), 2);
+        let mut all = Vec::new();
         for (channel, asked) in frame.channels().zip(0..) {
             let channel = channel.unwrap();
             assert_eq!((channel.frame(), channel.number()), (number, asked));
@@ -91,11 +92,25 @@ fn frames_tell_what_the_questions_tell() {
             let count = file.samples(number, asked, 0, &mut bits).unwrap_or(0);
             let read: Vec<u64> = channel.bits().map(Result::unwrap).collect();
             assert_eq!(read, bits[..count]);
+            all.extend(read);
         }
+        assert_eq!(frame.sample_count(), Ok(all.len()));
+        let mut bits = [7; 210];
+        assert_eq!(frame.samples(&mut bits), Ok(all.len()));
+        let (told, rest) = bits.split_at(all.len());
+        assert_eq!(told, all);
+        assert!(rest.iter().all(|word| *word == 7));
     }
     assert_eq!(frames.len(), 0);
     assert!(frames.next().is_none());
     assert!(frames.next().is_none());
+}
+
+/// The bits of all samples of a frame.
+fn read_whole(frame: &Frame) -> Vec<u64> {
+    let mut bits = vec![0; frame.sample_count().unwrap()];
+    assert_eq!(frame.samples(&mut bits), Ok(bits.len()));
+    bits
 }
 
 #[test]
@@ -105,12 +120,16 @@ fn frames_and_channels_can_be_kept() {
     let kept: Vec<Frame> = file.frames().unwrap().map(Result::unwrap).collect();
     let channels = kept.iter().map(|frame| frame.channel(1).unwrap());
     let channels: Vec<Channel> = channels.collect();
+    let all = kept.iter().map(|frame| read_whole(frame));
+    let all: Vec<Vec<u64>> = all.collect();
     drop(kept);
     for (channel, number) in channels.iter().zip(0..) {
         assert_eq!(*channel.attributes(), file.attributes(number, 1).unwrap());
         let again = file.channel(number, 1).unwrap();
         assert!(channel.values().eq(again.values()));
     }
+    let frames = file.frames().unwrap().map(Result::unwrap);
+    assert!(frames.map(|frame| read_whole(&frame)).eq(all));
     // A clone goes on by itself.
     let mut frames = file.frames().unwrap();
     let held = frames.next().unwrap().unwrap();
@@ -150,6 +169,32 @@ fn frames_and_channels_that_are_not_there() {
     assert_eq!((refusal.number, out), (Refusal::NO_SAMPLE, [1, 1, 2, 7]));
 }
 
+/// A frame is read whole or not at all.
+#[test]
+fn all_samples_of_a_frame() {
+    let octets = two_channels(3);
+    let frame = File::new(&octets).frame(0).unwrap();
+    assert_eq!(frame.sample_count(), Ok(9));
+    assert!(frame.waveform().len() >= 9);
+    let mut bits = [7; 11];
+    let no_room = Refusal {
+        number: Refusal::NO_ROOM,
+        place: 0,
+    };
+    for room in 0..9 {
+        assert_eq!(frame.samples(&mut bits[..room]), Err(no_room));
+        assert_eq!(bits, [7; 11]);
+    }
+    assert_eq!(frame.samples(&mut bits[..9]), Ok(9));
+    assert_eq!(bits, [0, 1, 2, 0, 1, 1, 2, 2, 3, 7, 7]);
+    let empty = two_channels(0);
+    let frame = File::new(&empty).frame(0).unwrap();
+    assert_eq!(frame.sample_count(), Ok(0));
+    assert_eq!(frame.samples(&mut []), Ok(0));
+    assert_eq!(frame.samples(&mut bits[..1]), Ok(0));
+    assert_eq!(bits[0], 0);
+}
+
 /// As many frames as a file may have, of as many channels: the file is not gone through for each.
 #[test]
 fn the_most_frames_and_channels_are_read_at_once() {
@@ -157,7 +202,9 @@ fn the_most_frames_and_channels_are_read_at_once() {
     octets.extend([0x1E, 0].repeat(4096));
     let mut channels = 0;
     for frame in File::new(&octets).frames().unwrap() {
-        for channel in frame.unwrap().channels() {
+        let frame = frame.unwrap();
+        assert_eq!(frame.samples(&mut []), Ok(0));
+        for channel in frame.channels() {
             let channel = channel.unwrap();
             assert_eq!(channel.below(), u64::from(channel.number()));
             assert_eq!(channel.values().len(), 0);
@@ -385,6 +432,7 @@ fn a_call_needs_less_than_256_kib_of_stack() {
         assert!(file.canonical_vec().is_ok());
         assert_eq!(file.channel(0, 1).unwrap().bits().count(), 2000);
         assert_eq!(file.channel(0, 1).unwrap().values().count(), 2000);
+        assert_eq!(file.frame(0).unwrap().samples(&mut vec![0; 3000]), Ok(3000));
     };
     let thread = std::thread::Builder::new().stack_size(256 * 1024);
     thread.spawn(questions).unwrap().join().unwrap();

@@ -1,6 +1,6 @@
 //! The questions a file can be asked: the check with its frame count, the attributes of a channel
-//! in a frame, the place and value of a sample, samples in bulk, all frames in order, and every channel
-//! in turn.
+//! in a frame, the place and value of a sample, samples in bulk, all frames in order, all samples of a
+//! frame, and every channel in turn.
 
 use crate::items::bits;
 use crate::scan::{scan, Frame, Standing};
@@ -174,6 +174,23 @@ pub fn frames(octets: &[u8], mut visit: impl FnMut(Met, &[Series])) -> Result<u3
     })
 }
 
+/// Fills the front of `out` with the bits of all samples of the frame that has these channels, those of
+/// one channel after those of another, and answers how many. Where `out` does not hold them, it is left
+/// as it was.
+pub fn all_samples(channels: &[Series], out: &mut [u64]) -> Result<usize, Refusal> {
+    let count = channels.iter().map(Series::samples).sum::<u64>();
+    if count > out.len() as u64 {
+        return Err(Refusal::without_place(Refusal::NO_ROOM));
+    }
+    let mut rest = out;
+    for series in channels.iter().filter(|series| series.samples() > 0) {
+        let (own, others) = rest.split_at_mut(series.samples() as usize);
+        series.fill(0, own);
+        rest = others;
+    }
+    Ok(count as usize)
+}
+
 /// Shows `visit` every channel of every frame in turn, in one pass: its attributes and the bits of its
 /// samples, which `out` holds meanwhile, as many as fit. Answers the number of frames. A channel may be
 /// shown before a later item refuses the file.
@@ -256,7 +273,8 @@ impl Series<'_> {
         Ok(count)
     }
 
-    fn samples(&self) -> u64 {
+    /// How many samples there are.
+    pub fn samples(&self) -> u64 {
         u64::from(self.frame.sequences) * u64::from(self.record.block)
     }
 

@@ -4,7 +4,9 @@ mod common;
 
 use common::{canonical, refused};
 use second::papers::*;
-use second::reader::{attributes, check, sample, samples, Attributes, Scale, Value};
+use second::reader::{
+    all_samples, attributes, check, frames, sample, samples, Attributes, Scale, Value,
+};
 use second::shrink::hex;
 
 /// A channel for which nothing was defined, in a frame of one channel without sequences.
@@ -258,6 +260,26 @@ fn each_channel_steps_with_its_own_block() {
                 assert!(bits[filled..].iter().all(|bits| *bits == 99));
             }
         }
+    }
+}
+
+#[test]
+fn all_samples_of_a_frame_come_channel_by_channel() {
+    let expected = [0, 1, 6, 7, 2, 8, 3, 4, 5, 9, 10, 11];
+    for room in 0..15 {
+        let mut bits = vec![99; room];
+        let mut answers = Vec::new();
+        let visited = frames(&octets(BLOCKS), |_, channels| {
+            answers.push(all_samples(channels, &mut bits));
+        });
+        assert_eq!(visited, Ok(1));
+        let (answer, filled) = match room < expected.len() {
+            true => (refused(23, 0), 0),
+            false => (Ok(expected.len()), expected.len()),
+        };
+        assert_eq!(answers, [answer]);
+        assert_eq!(bits[..filled], expected[..filled]);
+        assert!(bits[filled..].iter().all(|bits| *bits == 99));
     }
 }
 
