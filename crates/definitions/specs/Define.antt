@@ -126,17 +126,22 @@ readAs value refused fits n ranged base x =
     (pick (eqb n 0) (value base)
     (pick ranged (value x) refused))
 
+-- A block length.
 abbrev pub blockRead : Bool → ℕ → List ℕ → BlockRead
 blockRead little base v = let n = numberOf little (take 4 v) in readAs BlockRead.Value BlockRead.Refused (lengthFits Attribute.Block (length v)) (length v) (blockFits n) base n
 
+-- A class or a lead code.
 abbrev pub codeRead : Bool → ℕ → List ℕ → CodeRead
 codeRead little base v = readAs CodeRead.Value CodeRead.Refused (lengthFits Attribute.Class (length v)) (length v) true base (codeOf little v)
 
+-- A data type.
 abbrev pub typeRead : ℕ → List ℕ → TypeRead
 typeRead base v = let n = getD v 0 0 in readAs TypeRead.Value TypeRead.Refused (lengthFits Attribute.DataType (length v)) (length v) (leb n lastDataType) base n
 
+-- An interval or a resolution, whose last unit is `last`.
 abbrev pub scaleRead : ℕ → Bool → Scale → List ℕ → ScaleRead
 scaleRead last little base v = let x = scaleOf little v in readAs ScaleRead.Value ScaleRead.Refused (scaleLength (length v)) (length v) (scaleFits last x) base x
 
+-- An offset or a null.
 abbrev pub bitsRead : Bool → Bits → List ℕ → BitsRead
 bitsRead little base v = readAs BitsRead.Value BitsRead.Refused (bitsLength (length v)) (length v) true base (bitsOf little v)

@@ -1,7 +1,9 @@
 -- Laws of a run of items.
 --     step-none, -long, -past, -here    the item at a place of u, by its octets
---     RunningStretch                           the loop's invariant: what is left of u gives the stretch
+--     RunningStretch                    the loop's invariant: what is left of u gives the stretch
 --     running-first, -ends, -goes       at the front; where the stretch ends; after an item
+--     value-here                        the value of the item at a place
+--     leaves-read                       what was read of an attribute leaves what its definition does
 --     block-step and its like           what an attribute leaves, by what was read of it
 --     leaves-block and its like         what a definition leaves
 --     leaves-same, -nothing             what another item leaves
@@ -132,7 +134,7 @@ three f false false true a b c d = refl
 three f false false false a b c d = refl
 
 -- What was read of an attribute leaves what its definition does.
-leaves-read : (a : Attribute) (little : Bool) (base held : Settings) (v : List ℕ) {A R : Type 0} (f : R → Step) (value : A → R) (refused : R) (g : Bool) (b x : A)
+pub leaves-read : (a : Attribute) (little : Bool) (base held : Settings) (v : List ℕ) {A R : Type 0} (f : R → Step) (value : A → R) (refused : R) (g : Bool) (b x : A)
     → f refused ≡ ends → f (value b) ≡ leaves (applied (standingIn a base) held) → f (value x) ≡ leaves (applied (changeOf a little v) held) → g ≡ inRange (changeOf a little v)
     → f (readAs value refused (lengthFits a (length v)) (length v) g b x) ≡ leavesBy held (defined a little base v)
 unfolding readAs defined leavesBy
@@ -141,6 +143,7 @@ leaves-read a little base held v f value refused g b x none back new fits =
     ∙ (λ i. pick (not (lengthFits a (length v))) (none i) (pick (eqb (length v) 0) (back i) (pick (fits i) (new i) (none i))))
     ∙ sym (three (leavesBy held) (not (lengthFits a (length v))) (eqb (length v) 0) (inRange (changeOf a little v)) (Defined.Refused unfitLength) (Defined.Changed (standingIn a base)) (Defined.Changed (changeOf a little v)) (Defined.Refused unfitValue))
 
+-- What an attribute leaves, by what was read of it.
 abbrev pub block-step : Settings → BlockRead → Step
 block-step held (BlockRead.Value n) = leaves (applied (Change.Block n) held)
 block-step held BlockRead.Refused = ends

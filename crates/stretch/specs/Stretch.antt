@@ -37,6 +37,7 @@ unfoldable pub leavesBy : Settings → Defined → Step
 leavesBy held (Defined.Changed c) = leaves (applied c held)
 leavesBy held (Defined.Refused number) = ends
 
+-- An item goes by what its tag defines.
 unfoldable pub stepBy : Bool → Settings → Settings → ℕ → List ℕ → Tagged → Step
 stepBy little base held tag v (Tagged.Defines a) = leavesBy held (defined a little base v)
 stepBy little base held tag v Tagged.Other = pick (steppedOver tag) (leaves held) ends

@@ -65,7 +65,8 @@ fn renewed(s: Settings) -> Settings
     }
 }
 
-// The stretch at the front of u; `at` counts from there.
+// The stretch at the front of u; `at` counts from there. The record is changed in place, one field at a time: each copy of it would make the
+// next item wait.
 fn run(u: &[u8], little: bool, base: Settings, held: Settings) -> Stretch
     ensures { λ r. ⌜ (r ≡ runOf «little» base held (now (u .entry))) × (r .at ≤ length (now (u .entry))) ⌝ }
 {
@@ -75,10 +76,10 @@ fn run(u: &[u8], little: bool, base: Settings, held: Settings) -> Stretch
         let tag = u[at];
         let n = u[at + 1] as usize;
         if 127 < n {
-            return Stretch { at, settings };
+            break;
         }
         if u.len() - at - 2 < n {
-            return Stretch { at, settings };
+            break;
         }
         let from = at + 2;
         let next = from + n;
@@ -87,74 +88,52 @@ fn run(u: &[u8], little: bool, base: Settings, held: Settings) -> Stretch
                 let v = &u[from..next];
                 match a {
                     Attribute::Block => match definitions::block_read(v, little, base.block) {
-                        BlockRead::Value(x) => {
-                            settings.block = x;
-                        }
-                        BlockRead::Refused => {
-                            return Stretch { at, settings };
-                        }
+                        BlockRead::Value(x) => settings.block = x,
+                        BlockRead::Refused => break,
                     },
                     Attribute::Class => match definitions::code_read(v, little, base.class) {
-                        CodeRead::Value(x) => {
-                            settings.class = x;
-                        }
-                        CodeRead::Refused => {
-                            return Stretch { at, settings };
-                        }
+                        CodeRead::Value(x) => settings.class = x,
+                        CodeRead::Refused => break,
                     },
                     Attribute::Lead => match definitions::code_read(v, little, base.lead) {
-                        CodeRead::Value(x) => {
-                            settings.lead = x;
-                        }
-                        CodeRead::Refused => {
-                            return Stretch { at, settings };
-                        }
+                        CodeRead::Value(x) => settings.lead = x,
+                        CodeRead::Refused => break,
                     },
                     Attribute::DataType => match definitions::type_read(v, base.datatype) {
-                        TypeRead::Value(x) => {
-                            settings.datatype = x;
-                        }
-                        TypeRead::Refused => {
-                            return Stretch { at, settings };
-                        }
+                        TypeRead::Value(x) => settings.datatype = x,
+                        TypeRead::Refused => break,
                     },
-                    Attribute::Interval => match definitions::scale_read(v, little, Settings::LAST_INTERVAL_UNIT, base.interval) {
-                        ScaleRead::Value(x) => {
-                            settings.interval = x;
-                        }
-                        ScaleRead::Refused => {
-                            return Stretch { at, settings };
-                        }
+                    Attribute::Interval => match definitions::scale_read(
+                        v,
+                        little,
+                        Settings::LAST_INTERVAL_UNIT,
+                        base.interval,
+                    ) {
+                        ScaleRead::Value(x) => settings.interval = x,
+                        ScaleRead::Refused => break,
                     },
-                    Attribute::Resolution => match definitions::scale_read(v, little, Settings::LAST_RESOLUTION_UNIT, base.resolution) {
-                        ScaleRead::Value(x) => {
-                            settings.resolution = x;
-                        }
-                        ScaleRead::Refused => {
-                            return Stretch { at, settings };
-                        }
+                    Attribute::Resolution => match definitions::scale_read(
+                        v,
+                        little,
+                        Settings::LAST_RESOLUTION_UNIT,
+                        base.resolution,
+                    ) {
+                        ScaleRead::Value(x) => settings.resolution = x,
+                        ScaleRead::Refused => break,
                     },
                     Attribute::Offset => match definitions::bits_read(v, little, base.offset) {
-                        BitsRead::Value(x) => {
-                            settings.offset = x;
-                        }
-                        BitsRead::Refused => {
-                            return Stretch { at, settings };
-                        }
+                        BitsRead::Value(x) => settings.offset = x,
+                        BitsRead::Refused => break,
                     },
                     Attribute::Null => match definitions::bits_read(v, little, base.null) {
-                        BitsRead::Value(x) => {
-                            settings.null = x;
-                        }
-                        BitsRead::Refused => {
-                            return Stretch { at, settings };
-                        }
+                        BitsRead::Value(x) => settings.null = x,
+                        BitsRead::Refused => break,
                     },
                 }
             }
             Tagged::Other => {
                 if !stepped_over(tag) {
-                    return Stretch { at, settings };
+                    break;
                 }
             }
         }

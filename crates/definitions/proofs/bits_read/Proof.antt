@@ -1,8 +1,8 @@
 -- Each way out is a law of what a definition gives.
 use mathlib.Core.Path.{ap, sym, refl, _∙_}
-use borrow.Author.Tests.{not-true, not-false, le-leb, lt-leb}
+use borrow.Author.Tests.{not-true, not-false}
 use Rattle.definitions.specs.declared.BitsRead.{BitsRead}
-use Rattle.definitions.proofs.Laws.{read-length, read-back, read-value, read-unfit}
+use Rattle.definitions.proofs.Laws.{read-length, read-back, read-value}
 use borrow.Author.Needs.{needs}
 use Rattle.definitions.proofs.bits_read.Statement.{statement}
 use Rattle.definitions.proofs.bits_read.Tie as tie

@@ -1,5 +1,5 @@
 -- Each way out is a law of what a definition gives.
-use mathlib.Core.Path.{ap, sym, refl, _∙_}
+use mathlib.Core.Path.{ap, sym, _∙_}
 use borrow.Author.Tests.{not-true, not-false, le-leb, lt-leb}
 use Rattle.definitions.specs.declared.TypeRead.{TypeRead}
 use Prim.Native.Nat.{ℕ}

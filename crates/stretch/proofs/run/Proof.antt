@@ -37,17 +37,11 @@ shared-slice-read-n c = search needs
 cast-n : tie.Need-cast-n Inv-loop μ-loop
 cast-n c = omega (arith, c .shared-slice-known3 .given (c .before .before .before .loop .at + 1))
 
-returns : tie.Need-returns Inv-loop μ-loop
-returns c = (running-ends (c .before .before .before .before .loop .inv) (c .before .before .before .before .before .renewed .ensures) (step-long _ _ _ _ _ refl (c .before .before .before .loop-test .taken) (c .if1 .taken)), c .before .before .before .before .loop .inv .low)
-
 sub-if2 : tie.Need-sub-if2 Inv-loop μ-loop
 sub-if2 c = search needs
 
 sub-if2-2 : tie.Need-sub-if2-2 Inv-loop μ-loop
 sub-if2-2 c = search needs
-
-returns-2 : tie.Need-returns-2 Inv-loop μ-loop
-returns-2 c = (running-ends (c .before .before .before .before .before .loop .inv) (c .before .before .before .before .before .before .renewed .ensures) (step-past _ _ _ _ _ refl (c .before .before .before .before .loop-test .taken) (c .before .if1 .left) (c .if2 .taken)), c .before .before .before .before .before .loop .inv .low)
 
 add-from : tie.Need-add-from Inv-loop μ-loop
 add-from c = search needs
@@ -82,9 +76,6 @@ enum-known-x c = search needs
 enum-told-2 : tie.Need-enum-told-2 Inv-loop μ-loop
 enum-told-2 c = search needs
 
-returns-3 : tie.Need-returns-3 Inv-loop μ-loop
-returns-3 c = (running-ends (c .before .before .before .before .before .before .before .before .before .before .before .before .before .before .before .loop .inv) (c .before .before .before .before .before .before .before .before .before .before .before .before .before .before .before .before .renewed .ensures) (step-here _ _ _ _ _ refl (c .before .before .before .before .before .before .before .before .before .before .before .before .before .before .loop-test .taken) (c .before .before .before .before .before .before .before .before .before .before .before .if1 .left) (c .before .before .before .before .before .before .before .before .before .before .if2 .left) ∙ leaves-block _ _ _ _ _ (c .before .before .before .before .before .before .before .before .before .attribute-of .ensures) (c .before .before .before .before .before .before .before .a .given .1 ∙ ap Tagged.Defines (c .before .before .before .enum-told .given .1)) (value-here (c .before .before .before .before .before .before .before .before .before .before .before .before .before .before .before .before .before .before .args .u .now) (c .before .before .before .before .before .before .before .before .before .before .before .before .before .before .before .loop .at)) (c .before .before .block-read .ensures) (c .enum-told2 .given .1)), c .before .before .before .before .before .before .before .before .before .before .before .before .before .before .before .loop .inv .low)
-
 enum-told-3 : tie.Need-enum-told-3 Inv-loop μ-loop
 enum-told-3 c = search needs
 
@@ -96,9 +87,6 @@ enum-known-x-2 c = search needs
 
 enum-told-4 : tie.Need-enum-told-4 Inv-loop μ-loop
 enum-told-4 c = search needs
-
-returns-4 : tie.Need-returns-4 Inv-loop μ-loop
-returns-4 c = (running-ends (c .before .before .before .before .before .before .before .before .before .before .before .before .before .before .before .loop .inv) (c .before .before .before .before .before .before .before .before .before .before .before .before .before .before .before .before .renewed .ensures) (step-here _ _ _ _ _ refl (c .before .before .before .before .before .before .before .before .before .before .before .before .before .before .loop-test .taken) (c .before .before .before .before .before .before .before .before .before .before .before .if1 .left) (c .before .before .before .before .before .before .before .before .before .before .if2 .left) ∙ leaves-class _ _ _ _ _ (c .before .before .before .before .before .before .before .before .before .attribute-of .ensures) (c .before .before .before .before .before .before .before .a .given .1 ∙ ap Tagged.Defines (c .before .before .before .enum-told3 .given .1)) (value-here (c .before .before .before .before .before .before .before .before .before .before .before .before .before .before .before .before .before .before .args .u .now) (c .before .before .before .before .before .before .before .before .before .before .before .before .before .before .before .loop .at)) (c .before .before .code-read .ensures) (c .enum-told4 .given .1)), c .before .before .before .before .before .before .before .before .before .before .before .before .before .before .before .loop .inv .low)
 
 enum-told-5 : tie.Need-enum-told-5 Inv-loop μ-loop
 enum-told-5 c = search needs
@@ -112,9 +100,6 @@ enum-known-x-3 c = search needs
 enum-told-6 : tie.Need-enum-told-6 Inv-loop μ-loop
 enum-told-6 c = search needs
 
-returns-5 : tie.Need-returns-5 Inv-loop μ-loop
-returns-5 c = (running-ends (c .before .before .before .before .before .before .before .before .before .before .before .before .before .before .before .loop .inv) (c .before .before .before .before .before .before .before .before .before .before .before .before .before .before .before .before .renewed .ensures) (step-here _ _ _ _ _ refl (c .before .before .before .before .before .before .before .before .before .before .before .before .before .before .loop-test .taken) (c .before .before .before .before .before .before .before .before .before .before .before .if1 .left) (c .before .before .before .before .before .before .before .before .before .before .if2 .left) ∙ leaves-lead _ _ _ _ _ (c .before .before .before .before .before .before .before .before .before .attribute-of .ensures) (c .before .before .before .before .before .before .before .a .given .1 ∙ ap Tagged.Defines (c .before .before .before .enum-told5 .given .1)) (value-here (c .before .before .before .before .before .before .before .before .before .before .before .before .before .before .before .before .before .before .args .u .now) (c .before .before .before .before .before .before .before .before .before .before .before .before .before .before .before .loop .at)) (c .before .before .code-read2 .ensures) (c .enum-told6 .given .1)), c .before .before .before .before .before .before .before .before .before .before .before .before .before .before .before .loop .inv .low)
-
 enum-told-7 : tie.Need-enum-told-7 Inv-loop μ-loop
 enum-told-7 c = search needs
 
@@ -126,9 +111,6 @@ enum-known-x-4 c = search needs
 
 enum-told-8 : tie.Need-enum-told-8 Inv-loop μ-loop
 enum-told-8 c = search needs
-
-returns-6 : tie.Need-returns-6 Inv-loop μ-loop
-returns-6 c = (running-ends (c .before .before .before .before .before .before .before .before .before .before .before .before .before .before .before .loop .inv) (c .before .before .before .before .before .before .before .before .before .before .before .before .before .before .before .before .renewed .ensures) (step-here _ _ _ _ _ refl (c .before .before .before .before .before .before .before .before .before .before .before .before .before .before .loop-test .taken) (c .before .before .before .before .before .before .before .before .before .before .before .if1 .left) (c .before .before .before .before .before .before .before .before .before .before .if2 .left) ∙ leaves-type _ _ _ _ _ (c .before .before .before .before .before .before .before .before .before .attribute-of .ensures) (c .before .before .before .before .before .before .before .a .given .1 ∙ ap Tagged.Defines (c .before .before .before .enum-told7 .given .1)) (value-here (c .before .before .before .before .before .before .before .before .before .before .before .before .before .before .before .before .before .before .args .u .now) (c .before .before .before .before .before .before .before .before .before .before .before .before .before .before .before .loop .at)) (c .before .before .type-read .ensures) (c .enum-told8 .given .1)), c .before .before .before .before .before .before .before .before .before .before .before .before .before .before .before .loop .inv .low)
 
 enum-told-9 : tie.Need-enum-told-9 Inv-loop μ-loop
 enum-told-9 c = search needs
@@ -142,9 +124,6 @@ enum-known-x-5 c = search needs
 enum-told-10 : tie.Need-enum-told-10 Inv-loop μ-loop
 enum-told-10 c = search needs
 
-returns-7 : tie.Need-returns-7 Inv-loop μ-loop
-returns-7 c = (running-ends (c .before .before .before .before .before .before .before .before .before .before .before .before .before .before .before .loop .inv) (c .before .before .before .before .before .before .before .before .before .before .before .before .before .before .before .before .renewed .ensures) (step-here _ _ _ _ _ refl (c .before .before .before .before .before .before .before .before .before .before .before .before .before .before .loop-test .taken) (c .before .before .before .before .before .before .before .before .before .before .before .if1 .left) (c .before .before .before .before .before .before .before .before .before .before .if2 .left) ∙ leaves-interval _ _ _ _ _ (c .before .before .before .before .before .before .before .before .before .attribute-of .ensures) (c .before .before .before .before .before .before .before .a .given .1 ∙ ap Tagged.Defines (c .before .before .before .enum-told9 .given .1)) (value-here (c .before .before .before .before .before .before .before .before .before .before .before .before .before .before .before .before .before .before .args .u .now) (c .before .before .before .before .before .before .before .before .before .before .before .before .before .before .before .loop .at)) (c .before .before .scale-read .ensures) (c .enum-told10 .given .1)), c .before .before .before .before .before .before .before .before .before .before .before .before .before .before .before .loop .inv .low)
-
 enum-told-11 : tie.Need-enum-told-11 Inv-loop μ-loop
 enum-told-11 c = search needs
 
@@ -156,9 +135,6 @@ enum-known-x-6 c = search needs
 
 enum-told-12 : tie.Need-enum-told-12 Inv-loop μ-loop
 enum-told-12 c = search needs
-
-returns-8 : tie.Need-returns-8 Inv-loop μ-loop
-returns-8 c = (running-ends (c .before .before .before .before .before .before .before .before .before .before .before .before .before .before .before .loop .inv) (c .before .before .before .before .before .before .before .before .before .before .before .before .before .before .before .before .renewed .ensures) (step-here _ _ _ _ _ refl (c .before .before .before .before .before .before .before .before .before .before .before .before .before .before .loop-test .taken) (c .before .before .before .before .before .before .before .before .before .before .before .if1 .left) (c .before .before .before .before .before .before .before .before .before .before .if2 .left) ∙ leaves-resolution _ _ _ _ _ (c .before .before .before .before .before .before .before .before .before .attribute-of .ensures) (c .before .before .before .before .before .before .before .a .given .1 ∙ ap Tagged.Defines (c .before .before .before .enum-told11 .given .1)) (value-here (c .before .before .before .before .before .before .before .before .before .before .before .before .before .before .before .before .before .before .args .u .now) (c .before .before .before .before .before .before .before .before .before .before .before .before .before .before .before .loop .at)) (c .before .before .scale-read2 .ensures) (c .enum-told12 .given .1)), c .before .before .before .before .before .before .before .before .before .before .before .before .before .before .before .loop .inv .low)
 
 enum-told-13 : tie.Need-enum-told-13 Inv-loop μ-loop
 enum-told-13 c = search needs
@@ -172,9 +148,6 @@ enum-known-x-7 c = search needs
 enum-told-14 : tie.Need-enum-told-14 Inv-loop μ-loop
 enum-told-14 c = search needs
 
-returns-9 : tie.Need-returns-9 Inv-loop μ-loop
-returns-9 c = (running-ends (c .before .before .before .before .before .before .before .before .before .before .before .before .before .before .before .loop .inv) (c .before .before .before .before .before .before .before .before .before .before .before .before .before .before .before .before .renewed .ensures) (step-here _ _ _ _ _ refl (c .before .before .before .before .before .before .before .before .before .before .before .before .before .before .loop-test .taken) (c .before .before .before .before .before .before .before .before .before .before .before .if1 .left) (c .before .before .before .before .before .before .before .before .before .before .if2 .left) ∙ leaves-offset _ _ _ _ _ (c .before .before .before .before .before .before .before .before .before .attribute-of .ensures) (c .before .before .before .before .before .before .before .a .given .1 ∙ ap Tagged.Defines (c .before .before .before .enum-told13 .given .1)) (value-here (c .before .before .before .before .before .before .before .before .before .before .before .before .before .before .before .before .before .before .args .u .now) (c .before .before .before .before .before .before .before .before .before .before .before .before .before .before .before .loop .at)) (c .before .before .bits-read .ensures) (c .enum-told14 .given .1)), c .before .before .before .before .before .before .before .before .before .before .before .before .before .before .before .loop .inv .low)
-
 enum-told-15 : tie.Need-enum-told-15 Inv-loop μ-loop
 enum-told-15 c = search needs
 
@@ -187,17 +160,11 @@ enum-known-x-8 c = search needs
 enum-told-16 : tie.Need-enum-told-16 Inv-loop μ-loop
 enum-told-16 c = search needs
 
-returns-10 : tie.Need-returns-10 Inv-loop μ-loop
-returns-10 c = (running-ends (c .before .before .before .before .before .before .before .before .before .before .before .before .before .before .before .loop .inv) (c .before .before .before .before .before .before .before .before .before .before .before .before .before .before .before .before .renewed .ensures) (step-here _ _ _ _ _ refl (c .before .before .before .before .before .before .before .before .before .before .before .before .before .before .loop-test .taken) (c .before .before .before .before .before .before .before .before .before .before .before .if1 .left) (c .before .before .before .before .before .before .before .before .before .before .if2 .left) ∙ leaves-null _ _ _ _ _ (c .before .before .before .before .before .before .before .before .before .attribute-of .ensures) (c .before .before .before .before .before .before .before .a .given .1 ∙ ap Tagged.Defines (c .before .before .before .enum-told15 .given .1)) (value-here (c .before .before .before .before .before .before .before .before .before .before .before .before .before .before .before .before .before .before .args .u .now) (c .before .before .before .before .before .before .before .before .before .before .before .before .before .before .before .loop .at)) (c .before .before .bits-read2 .ensures) (c .enum-told16 .given .1)), c .before .before .before .before .before .before .before .before .before .before .before .before .before .before .before .loop .inv .low)
-
 enum-told-17 : tie.Need-enum-told-17 Inv-loop μ-loop
 enum-told-17 c = search needs
 
 stepped-over-requires : tie.Need-stepped-over-requires Inv-loop μ-loop
 stepped-over-requires c κs = search needs
-
-returns-11 : tie.Need-returns-11 Inv-loop μ-loop
-returns-11 c = (running-ends (c .before .before .before .before .before .before .before .before .before .before .loop .inv) (c .before .before .before .before .before .before .before .before .before .before .before .renewed .ensures) (step-here _ _ _ _ _ refl (c .before .before .before .before .before .before .before .before .before .loop-test .taken) (c .before .before .before .before .before .before .if1 .left) (c .before .before .before .before .before .if2 .left) ∙ leaves-nothing _ _ _ _ _ (c .before .before .before .before .attribute-of .ensures) (c .before .before .enum-told17 .given .1) (sym (c .before .stepped-over .ensures) ∙ not-true _ (c .if3 .taken))), c .before .before .before .before .before .before .before .before .before .before .loop .inv .low)
 
 loop-less : tie.Need-loop-less Inv-loop μ-loop
 loop-less c = search needs
@@ -253,8 +220,41 @@ loop-less-9 c = search needs
 loop-again-9 : tie.Need-loop-again-9 Inv-loop μ-loop
 loop-again-9 c = running-goes (c .before .before .before .before .before .before .before .before .before .before .loop .inv) refl (c .before .before .before .before .before .before .before .before .before .loop-test .taken) (c .before .before .before .before .before .if2 .left) (step-here _ _ _ _ _ refl (c .before .before .before .before .before .before .before .before .before .loop-test .taken) (c .before .before .before .before .before .before .if1 .left) (c .before .before .before .before .before .if2 .left) ∙ leaves-same _ _ _ _ _ (c .before .before .before .before .attribute-of .ensures) (c .before .before .enum-told17 .given .1) (sym (c .before .stepped-over .ensures) ∙ not-false _ (c .if3 .left)))
 
+returns : tie.Need-returns Inv-loop μ-loop
+returns c = (running-ends (c .before .loop .inv) (c .before .before .renewed .ensures) (step-none _ _ _ _ _ (c .loop-test .left)), c .before .loop .inv .low)
+
+returns-2 : tie.Need-returns-2 Inv-loop μ-loop
+returns-2 c = (running-ends (c .before .before .before .before .loop .inv) (c .before .before .before .before .before .renewed .ensures) (step-long _ _ _ _ _ refl (c .before .before .before .loop-test .taken) (c .if1 .taken)), c .before .before .before .before .loop .inv .low)
+
+returns-3 : tie.Need-returns-3 Inv-loop μ-loop
+returns-3 c = (running-ends (c .before .before .before .before .before .loop .inv) (c .before .before .before .before .before .before .renewed .ensures) (step-past _ _ _ _ _ refl (c .before .before .before .before .loop-test .taken) (c .before .if1 .left) (c .if2 .taken)), c .before .before .before .before .before .loop .inv .low)
+
+returns-4 : tie.Need-returns-4 Inv-loop μ-loop
+returns-4 c = (running-ends (c .before .before .before .before .before .before .before .before .before .before .before .before .before .before .before .loop .inv) (c .before .before .before .before .before .before .before .before .before .before .before .before .before .before .before .before .renewed .ensures) (step-here _ _ _ _ _ refl (c .before .before .before .before .before .before .before .before .before .before .before .before .before .before .loop-test .taken) (c .before .before .before .before .before .before .before .before .before .before .before .if1 .left) (c .before .before .before .before .before .before .before .before .before .before .if2 .left) ∙ leaves-block _ _ _ _ _ (c .before .before .before .before .before .before .before .before .before .attribute-of .ensures) (c .before .before .before .before .before .before .before .a .given .1 ∙ ap Tagged.Defines (c .before .before .before .enum-told .given .1)) (value-here (c .before .before .before .before .before .before .before .before .before .before .before .before .before .before .before .before .before .before .args .u .now) (c .before .before .before .before .before .before .before .before .before .before .before .before .before .before .before .loop .at)) (c .before .before .block-read .ensures) (c .enum-told2 .given .1)), c .before .before .before .before .before .before .before .before .before .before .before .before .before .before .before .loop .inv .low)
+
+returns-5 : tie.Need-returns-5 Inv-loop μ-loop
+returns-5 c = (running-ends (c .before .before .before .before .before .before .before .before .before .before .before .before .before .before .before .loop .inv) (c .before .before .before .before .before .before .before .before .before .before .before .before .before .before .before .before .renewed .ensures) (step-here _ _ _ _ _ refl (c .before .before .before .before .before .before .before .before .before .before .before .before .before .before .loop-test .taken) (c .before .before .before .before .before .before .before .before .before .before .before .if1 .left) (c .before .before .before .before .before .before .before .before .before .before .if2 .left) ∙ leaves-class _ _ _ _ _ (c .before .before .before .before .before .before .before .before .before .attribute-of .ensures) (c .before .before .before .before .before .before .before .a .given .1 ∙ ap Tagged.Defines (c .before .before .before .enum-told3 .given .1)) (value-here (c .before .before .before .before .before .before .before .before .before .before .before .before .before .before .before .before .before .before .args .u .now) (c .before .before .before .before .before .before .before .before .before .before .before .before .before .before .before .loop .at)) (c .before .before .code-read .ensures) (c .enum-told4 .given .1)), c .before .before .before .before .before .before .before .before .before .before .before .before .before .before .before .loop .inv .low)
+
+returns-6 : tie.Need-returns-6 Inv-loop μ-loop
+returns-6 c = (running-ends (c .before .before .before .before .before .before .before .before .before .before .before .before .before .before .before .loop .inv) (c .before .before .before .before .before .before .before .before .before .before .before .before .before .before .before .before .renewed .ensures) (step-here _ _ _ _ _ refl (c .before .before .before .before .before .before .before .before .before .before .before .before .before .before .loop-test .taken) (c .before .before .before .before .before .before .before .before .before .before .before .if1 .left) (c .before .before .before .before .before .before .before .before .before .before .if2 .left) ∙ leaves-lead _ _ _ _ _ (c .before .before .before .before .before .before .before .before .before .attribute-of .ensures) (c .before .before .before .before .before .before .before .a .given .1 ∙ ap Tagged.Defines (c .before .before .before .enum-told5 .given .1)) (value-here (c .before .before .before .before .before .before .before .before .before .before .before .before .before .before .before .before .before .before .args .u .now) (c .before .before .before .before .before .before .before .before .before .before .before .before .before .before .before .loop .at)) (c .before .before .code-read2 .ensures) (c .enum-told6 .given .1)), c .before .before .before .before .before .before .before .before .before .before .before .before .before .before .before .loop .inv .low)
+
+returns-7 : tie.Need-returns-7 Inv-loop μ-loop
+returns-7 c = (running-ends (c .before .before .before .before .before .before .before .before .before .before .before .before .before .before .before .loop .inv) (c .before .before .before .before .before .before .before .before .before .before .before .before .before .before .before .before .renewed .ensures) (step-here _ _ _ _ _ refl (c .before .before .before .before .before .before .before .before .before .before .before .before .before .before .loop-test .taken) (c .before .before .before .before .before .before .before .before .before .before .before .if1 .left) (c .before .before .before .before .before .before .before .before .before .before .if2 .left) ∙ leaves-type _ _ _ _ _ (c .before .before .before .before .before .before .before .before .before .attribute-of .ensures) (c .before .before .before .before .before .before .before .a .given .1 ∙ ap Tagged.Defines (c .before .before .before .enum-told7 .given .1)) (value-here (c .before .before .before .before .before .before .before .before .before .before .before .before .before .before .before .before .before .before .args .u .now) (c .before .before .before .before .before .before .before .before .before .before .before .before .before .before .before .loop .at)) (c .before .before .type-read .ensures) (c .enum-told8 .given .1)), c .before .before .before .before .before .before .before .before .before .before .before .before .before .before .before .loop .inv .low)
+
+returns-8 : tie.Need-returns-8 Inv-loop μ-loop
+returns-8 c = (running-ends (c .before .before .before .before .before .before .before .before .before .before .before .before .before .before .before .loop .inv) (c .before .before .before .before .before .before .before .before .before .before .before .before .before .before .before .before .renewed .ensures) (step-here _ _ _ _ _ refl (c .before .before .before .before .before .before .before .before .before .before .before .before .before .before .loop-test .taken) (c .before .before .before .before .before .before .before .before .before .before .before .if1 .left) (c .before .before .before .before .before .before .before .before .before .before .if2 .left) ∙ leaves-interval _ _ _ _ _ (c .before .before .before .before .before .before .before .before .before .attribute-of .ensures) (c .before .before .before .before .before .before .before .a .given .1 ∙ ap Tagged.Defines (c .before .before .before .enum-told9 .given .1)) (value-here (c .before .before .before .before .before .before .before .before .before .before .before .before .before .before .before .before .before .before .args .u .now) (c .before .before .before .before .before .before .before .before .before .before .before .before .before .before .before .loop .at)) (c .before .before .scale-read .ensures) (c .enum-told10 .given .1)), c .before .before .before .before .before .before .before .before .before .before .before .before .before .before .before .loop .inv .low)
+
+returns-9 : tie.Need-returns-9 Inv-loop μ-loop
+returns-9 c = (running-ends (c .before .before .before .before .before .before .before .before .before .before .before .before .before .before .before .loop .inv) (c .before .before .before .before .before .before .before .before .before .before .before .before .before .before .before .before .renewed .ensures) (step-here _ _ _ _ _ refl (c .before .before .before .before .before .before .before .before .before .before .before .before .before .before .loop-test .taken) (c .before .before .before .before .before .before .before .before .before .before .before .if1 .left) (c .before .before .before .before .before .before .before .before .before .before .if2 .left) ∙ leaves-resolution _ _ _ _ _ (c .before .before .before .before .before .before .before .before .before .attribute-of .ensures) (c .before .before .before .before .before .before .before .a .given .1 ∙ ap Tagged.Defines (c .before .before .before .enum-told11 .given .1)) (value-here (c .before .before .before .before .before .before .before .before .before .before .before .before .before .before .before .before .before .before .args .u .now) (c .before .before .before .before .before .before .before .before .before .before .before .before .before .before .before .loop .at)) (c .before .before .scale-read2 .ensures) (c .enum-told12 .given .1)), c .before .before .before .before .before .before .before .before .before .before .before .before .before .before .before .loop .inv .low)
+
+returns-10 : tie.Need-returns-10 Inv-loop μ-loop
+returns-10 c = (running-ends (c .before .before .before .before .before .before .before .before .before .before .before .before .before .before .before .loop .inv) (c .before .before .before .before .before .before .before .before .before .before .before .before .before .before .before .before .renewed .ensures) (step-here _ _ _ _ _ refl (c .before .before .before .before .before .before .before .before .before .before .before .before .before .before .loop-test .taken) (c .before .before .before .before .before .before .before .before .before .before .before .if1 .left) (c .before .before .before .before .before .before .before .before .before .before .if2 .left) ∙ leaves-offset _ _ _ _ _ (c .before .before .before .before .before .before .before .before .before .attribute-of .ensures) (c .before .before .before .before .before .before .before .a .given .1 ∙ ap Tagged.Defines (c .before .before .before .enum-told13 .given .1)) (value-here (c .before .before .before .before .before .before .before .before .before .before .before .before .before .before .before .before .before .before .args .u .now) (c .before .before .before .before .before .before .before .before .before .before .before .before .before .before .before .loop .at)) (c .before .before .bits-read .ensures) (c .enum-told14 .given .1)), c .before .before .before .before .before .before .before .before .before .before .before .before .before .before .before .loop .inv .low)
+
+returns-11 : tie.Need-returns-11 Inv-loop μ-loop
+returns-11 c = (running-ends (c .before .before .before .before .before .before .before .before .before .before .before .before .before .before .before .loop .inv) (c .before .before .before .before .before .before .before .before .before .before .before .before .before .before .before .before .renewed .ensures) (step-here _ _ _ _ _ refl (c .before .before .before .before .before .before .before .before .before .before .before .before .before .before .loop-test .taken) (c .before .before .before .before .before .before .before .before .before .before .before .if1 .left) (c .before .before .before .before .before .before .before .before .before .before .if2 .left) ∙ leaves-null _ _ _ _ _ (c .before .before .before .before .before .before .before .before .before .attribute-of .ensures) (c .before .before .before .before .before .before .before .a .given .1 ∙ ap Tagged.Defines (c .before .before .before .enum-told15 .given .1)) (value-here (c .before .before .before .before .before .before .before .before .before .before .before .before .before .before .before .before .before .before .args .u .now) (c .before .before .before .before .before .before .before .before .before .before .before .before .before .before .before .loop .at)) (c .before .before .bits-read2 .ensures) (c .enum-told16 .given .1)), c .before .before .before .before .before .before .before .before .before .before .before .before .before .before .before .loop .inv .low)
+
 returns-12 : tie.Need-returns-12 Inv-loop μ-loop
-returns-12 c = (running-ends (c .before .loop .inv) (c .before .before .renewed .ensures) (step-none _ _ _ _ _ (c .loop-test .left)), c .before .loop .inv .low)
+returns-12 c = (running-ends (c .before .before .before .before .before .before .before .before .before .before .loop .inv) (c .before .before .before .before .before .before .before .before .before .before .before .renewed .ensures) (step-here _ _ _ _ _ refl (c .before .before .before .before .before .before .before .before .before .loop-test .taken) (c .before .before .before .before .before .before .if1 .left) (c .before .before .before .before .before .if2 .left) ∙ leaves-nothing _ _ _ _ _ (c .before .before .before .before .attribute-of .ensures) (c .before .before .enum-told17 .given .1) (sym (c .before .stepped-over .ensures) ∙ not-true _ (c .if3 .taken))), c .before .before .before .before .before .before .before .before .before .before .loop .inv .low)
 
 pub run-spec : {M : Type 1} → statement M
 run-spec =
@@ -269,10 +269,8 @@ run-spec =
     add-n
     shared-slice-read-n
     cast-n
-    returns
     sub-if2
     sub-if2-2
-    returns-2
     add-from
     add-next
     attribute-of-requires
@@ -284,45 +282,36 @@ run-spec =
     block-read-requires
     enum-known-x
     enum-told-2
-    returns-3
     enum-told-3
     code-read-requires
     enum-known-x-2
     enum-told-4
-    returns-4
     enum-told-5
     code-read-requires-2
     enum-known-x-3
     enum-told-6
-    returns-5
     enum-told-7
     type-read-requires
     enum-known-x-4
     enum-told-8
-    returns-6
     enum-told-9
     scale-read-requires
     enum-known-x-5
     enum-told-10
-    returns-7
     enum-told-11
     scale-read-requires-2
     enum-known-x-6
     enum-told-12
-    returns-8
     enum-told-13
     bits-read-requires
     enum-known-x-7
     enum-told-14
-    returns-9
     enum-told-15
     bits-read-requires-2
     enum-known-x-8
     enum-told-16
-    returns-10
     enum-told-17
     stepped-over-requires
-    returns-11
     loop-less
     loop-again
     loop-less-2
@@ -341,4 +330,15 @@ run-spec =
     loop-again-8
     loop-less-9
     loop-again-9
+    returns
+    returns-2
+    returns-3
+    returns-4
+    returns-5
+    returns-6
+    returns-7
+    returns-8
+    returns-9
+    returns-10
+    returns-11
     returns-12)
