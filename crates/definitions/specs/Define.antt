@@ -18,9 +18,12 @@ use Rattle.definitions.specs.declared.Tagged.{Tagged}
 use Rattle.definitions.specs.declared.Tagged.the-variants.{Defines, Other}
 use Rattle.definitions.specs.declared.Defined.{Defined}
 use Rattle.definitions.specs.declared.Defined.the-variants.{Changed, Refused}
-use Rattle.definitions.specs.declared.Settled.{Settled}
-use Rattle.definitions.specs.declared.Settled.the-variants.{Record}
-use Rattle.settings.specs.Settings.{applied, blockLimit, lastDataType, lastIntervalUnit, lastResolutionUnit}
+use Rattle.definitions.specs.declared.BlockRead.{BlockRead}
+use Rattle.definitions.specs.declared.CodeRead.{CodeRead}
+use Rattle.definitions.specs.declared.TypeRead.{TypeRead}
+use Rattle.definitions.specs.declared.ScaleRead.{ScaleRead}
+use Rattle.definitions.specs.declared.BitsRead.{BitsRead}
+use Rattle.settings.specs.Settings.{blockLimit, lastDataType, lastIntervalUnit, lastResolutionUnit}
 
 -- The column "Tag": 04, 08, 09, 0A, 0B, 0C, 0D, 12 may stand in a group.
 unfoldable pub tagged : ℕ → Tagged
@@ -116,7 +119,29 @@ defined a little base v =
     (pick (eqb (length v) 0) (Changed (standingIn a base))
     (pick (inRange (changeOf a little v)) (Changed (changeOf a little v)) (Refused unfitValue)))
 
--- The record that a definition leaves, or its refusal.
-unfoldable pub settledAs : Settings → Defined → Settled
-settledAs s (Changed c) = Record (applied c s)
-settledAs s (Refused number) = Settled.Refused number
+-- What a definition of n octets gives of one attribute, by the same three tests: nothing, what stands, or its value x.
+unfoldable pub readAs : {A R : Type 0} → (A → R) → R → Bool → ℕ → Bool → A → A → R
+readAs value refused fits n ranged base x =
+    pick (not fits) refused
+    (pick (eqb n 0) (value base)
+    (pick ranged (value x) refused))
+
+-- A block length.
+abbrev pub blockRead : Bool → ℕ → List ℕ → BlockRead
+blockRead little base v = let n = numberOf little (take 4 v) in readAs BlockRead.Value BlockRead.Refused (lengthFits Attribute.Block (length v)) (length v) (blockFits n) base n
+
+-- A class or a lead code.
+abbrev pub codeRead : Bool → ℕ → List ℕ → CodeRead
+codeRead little base v = readAs CodeRead.Value CodeRead.Refused (lengthFits Attribute.Class (length v)) (length v) true base (codeOf little v)
+
+-- A data type.
+abbrev pub typeRead : ℕ → List ℕ → TypeRead
+typeRead base v = let n = getD v 0 0 in readAs TypeRead.Value TypeRead.Refused (lengthFits Attribute.DataType (length v)) (length v) (leb n lastDataType) base n
+
+-- An interval or a resolution, whose last unit is `last`.
+abbrev pub scaleRead : ℕ → Bool → Scale → List ℕ → ScaleRead
+scaleRead last little base v = let x = scaleOf little v in readAs ScaleRead.Value ScaleRead.Refused (scaleLength (length v)) (length v) (scaleFits last x) base x
+
+-- An offset or a null.
+abbrev pub bitsRead : Bool → Bits → List ℕ → BitsRead
+bitsRead little base v = readAs BitsRead.Value BitsRead.Refused (bitsLength (length v)) (length v) true base (bitsOf little v)

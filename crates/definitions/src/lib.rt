@@ -1,11 +1,11 @@
 // Definitions of attributes: the one way in which a file changes the settings of a channel.
 //
-// Promises, for any octets at all: `define` answers the change that a definition asks for, or 6 or 7; `settle` also carries it out in
-// one record. A new attribute is one more case of `Attribute`, and of `Change` in crate settings.
+// Promises, for any octets at all: `define` answers the change that a definition asks for, or 6 or 7; `block_read` and its like answer the
+// value alone, or that it is refused. A new attribute is one more case of `Attribute`, and of `Change` in crate settings.
 // Read first: specs/Define.antt.
 ghost use mathlib.Core.Path.{_≡_};
 ghost use lib.ListN.{getD};
-ghost use Rattle.definitions.specs.Define.{tagged, scaleLength, bitsLength, lengthFits, standingIn, scaleOf, bitsOf, changeOf, blockFits, scaleFits, inRange, defined, settledAs};
+ghost use Rattle.definitions.specs.Define.{tagged, scaleLength, bitsLength, lengthFits, standingIn, scaleOf, bitsOf, changeOf, blockFits, scaleFits, inRange, defined, blockRead, codeRead, typeRead, scaleRead, bitsRead};
 use heads::Refusal;
 use settings::Change;
 use settings::Scale;
@@ -194,62 +194,112 @@ pub fn define(a: Attribute, v: &[u8], little: bool, base: Settings) -> Defined
     }
 }
 
-// The same scale and the same bits, put together from their parts.
-fn scale_renewed(x: Scale) -> Scale
-    ensures { λ r. ⌜ r ≡ x ⌝ }
-{
-    Scale {
-        unit: x.unit,
-        exponent: x.exponent,
-        mantissa: x.mantissa,
-    }
+// What a definition gives of one attribute, for each kind of value; `Refused` where `define` refuses. Nothing but the value is handed on, so that a
+// pass keeps a record in place and copies none.
+pub enum BlockRead {
+    Value(u32),
+    Refused,
 }
 
-fn bits_renewed(x: Bits) -> Bits
-    ensures { λ r. ⌜ r ≡ x ⌝ }
-{
-    Bits {
-        width: x.width,
-        bits: x.bits,
-    }
+pub enum CodeRead {
+    Value(u16),
+    Refused,
 }
 
-// The same change, put together from its parts, for the reason that `items::Cursor::renewed` has.
-fn renewed(c: Change) -> Change
-    ensures { λ r. ⌜ r ≡ c ⌝ }
-{
-    match c {
-        Change::Block(n) => Change::Block(n),
-        Change::Class(n) => Change::Class(n),
-        Change::Lead(n) => Change::Lead(n),
-        Change::DataType(n) => Change::DataType(n),
-        Change::Interval(x) => Change::Interval(scale_renewed(x)),
-        Change::Resolution(x) => Change::Resolution(scale_renewed(x)),
-        Change::Offset(x) => Change::Offset(bits_renewed(x)),
-        Change::Null(x) => Change::Null(bits_renewed(x)),
-    }
+pub enum TypeRead {
+    Value(u8),
+    Refused,
 }
 
-// A record after a definition.
-pub enum Settled {
-    Record(Settings),
-    Refused(u8),
+pub enum ScaleRead {
+    Value(Scale),
+    Refused,
 }
 
-// The record s after the definition of an attribute. It is `define` and then `apply`, without a change that is handed on.
-pub fn settle(a: Attribute, v: &[u8], little: bool, base: Settings, s: Settings) -> Settled
-    ensures { λ r. ⌜ r ≡ settledAs s (defined a «little» base (now (v .entry))) ⌝ }
+pub enum BitsRead {
+    Value(Bits),
+    Refused,
+}
+
+// The block length that v gives; length 0 goes back to `base`, here and below.
+pub fn block_read(v: &[u8], little: bool, base: u32) -> BlockRead
+    ensures { λ r. ⌜ r ≡ blockRead «little» base (now (v .entry)) ⌝ }
 {
-    if !length_fits(a, v.len()) {
-        return Settled::Refused(Refusal::UNFIT_LENGTH);
+    if !length_fits(Attribute::Block, v.len()) {
+        return BlockRead::Refused;
     }
     if v.len() == 0 {
-        return Settled::Record(settings::apply(s, standing_in(a, base)));
+        return BlockRead::Value(base);
     }
-    let c = renewed(change_of(a, v, little));
-    if in_range(c) {
-        Settled::Record(settings::apply(s, c))
+    let n = octets::four(v, little);
+    if block_fits(n) {
+        BlockRead::Value(n)
     } else {
-        Settled::Refused(Refusal::UNFIT_VALUE)
+        BlockRead::Refused
     }
+}
+
+// The code of a class or a lead.
+pub fn code_read(v: &[u8], little: bool, base: u16) -> CodeRead
+    ensures { λ r. ⌜ r ≡ codeRead «little» base (now (v .entry)) ⌝ }
+{
+    if !length_fits(Attribute::Class, v.len()) {
+        return CodeRead::Refused;
+    }
+    if v.len() == 0 {
+        return CodeRead::Value(base);
+    }
+    CodeRead::Value(octets::two(v, little))
+}
+
+// The data type.
+pub fn type_read(v: &[u8], base: u8) -> TypeRead
+    ensures { λ r. ⌜ r ≡ typeRead base (now (v .entry)) ⌝ }
+{
+    if !length_fits(Attribute::DataType, v.len()) {
+        return TypeRead::Refused;
+    }
+    if v.len() == 0 {
+        return TypeRead::Value(base);
+    }
+    let n = octet(v, 0);
+    if n <= Settings::LAST_DATA_TYPE {
+        TypeRead::Value(n)
+    } else {
+        TypeRead::Refused
+    }
+}
+
+// An interval or a resolution, whose last unit is `last`.
+pub fn scale_read(v: &[u8], little: bool, last: u8, base: Scale) -> ScaleRead
+    ensures { λ r. ⌜ r ≡ scaleRead last «little» base (now (v .entry)) ⌝ }
+{
+    if !scale_length(v.len()) {
+        return ScaleRead::Refused;
+    }
+    if v.len() == 0 {
+        return ScaleRead::Value(base);
+    }
+    let x = scale_of(v, little);
+    if scale_fits(last, x) {
+        ScaleRead::Value(x)
+    } else {
+        ScaleRead::Refused
+    }
+}
+
+// An offset or a null. It is put together from its parts, so that what lies between them is not copied.
+pub fn bits_read(v: &[u8], little: bool, base: Bits) -> BitsRead
+    ensures { λ r. ⌜ r ≡ bitsRead «little» base (now (v .entry)) ⌝ }
+{
+    if !bits_length(v.len()) {
+        return BitsRead::Refused;
+    }
+    if v.len() == 0 {
+        return BitsRead::Value(Bits {
+            width: base.width,
+            bits: base.bits,
+        });
+    }
+    BitsRead::Value(bits_of(v, little))
 }

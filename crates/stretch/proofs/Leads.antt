@@ -31,7 +31,7 @@ use Rattle.settings.specs.declared.Change.{Change}
 use Rattle.definitions.specs.declared.Tagged.{Tagged}
 use Rattle.definitions.specs.declared.Defined.{Defined}
 use Rattle.settings.specs.Settings.{applied}
-use Rattle.definitions.specs.Define.{tagged, defined, settledAs}
+use Rattle.definitions.specs.Define.{tagged, defined}
 use Rattle.stretch.specs.Stretch.{Step, leaves, ends, steppedOver, leavesBy, stepBy, stepOf}
 
 -- ---- tags
@@ -112,8 +112,8 @@ module _ (little : Bool) (base held : Settings) (u : List ℕ) (l : 2 + getD u 1
   abbrev value : List ℕ
   value = take (getD u 1 0) (drop 2 u)
 
-  leads-defined : (a : Attribute) → tagged tag ≡ Tagged.Defines a → (d : Defined) → defined a little base value ≡ d → Leads little base held u (leavesBy (settledAs held d))
-  unfolding leavesBy settledAs
+  leads-defined : (a : Attribute) → tagged tag ≡ Tagged.Defines a → (d : Defined) → defined a little base value ≡ d → Leads little base held u (leavesBy held d)
+  unfolding leavesBy
   leads-defined a e (Defined.Changed c) f =
       record { long = l; short = h; ordinary = subst (OrdinaryBy tag) e (defined-ordinary tag); does = inl (a, c, e, f, refl) }
   leads-defined a e (Defined.Refused number) f = tt

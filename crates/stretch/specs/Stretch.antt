@@ -9,9 +9,10 @@ use Rattle.octets.specs.Pick.{pick}
 use Rattle.items.specs.declared.Cursor.{Cursor}
 use Rattle.items.specs.Walk.{extent}
 use Rattle.settings.specs.declared.Settings.{Settings}
-use Rattle.definitions.specs.declared.Settled.{Settled}
+use Rattle.settings.specs.Settings.{applied}
+use Rattle.definitions.specs.declared.Defined.{Defined}
 use Rattle.definitions.specs.declared.Tagged.{Tagged}
-use Rattle.definitions.specs.Define.{tagged, defined, settledAs}
+use Rattle.definitions.specs.Define.{tagged, defined}
 use Rattle.stretch.specs.declared.Stretch.{Stretch}
 
 -- The tags of other items that a stretch may hold: none that stands only outside groups, no context tag, and not 00, which may end an open group.
@@ -31,13 +32,14 @@ pub data Step : Type 0 where
   leaves : Settings → Step
   ends : Step
 
-unfoldable pub leavesBy : Settled → Step
-leavesBy (Settled.Record x) = leaves x
-leavesBy (Settled.Refused number) = ends
-
 -- A definition is carried out; one that is refused ends the stretch.
+unfoldable pub leavesBy : Settings → Defined → Step
+leavesBy held (Defined.Changed c) = leaves (applied c held)
+leavesBy held (Defined.Refused number) = ends
+
+-- An item goes by what its tag defines.
 unfoldable pub stepBy : Bool → Settings → Settings → ℕ → List ℕ → Tagged → Step
-stepBy little base held tag v (Tagged.Defines a) = leavesBy (settledAs held (defined a little base v))
+stepBy little base held tag v (Tagged.Defines a) = leavesBy held (defined a little base v)
 stepBy little base held tag v Tagged.Other = pick (steppedOver tag) (leaves held) ends
 
 -- The item at the front of u. It belongs to the stretch where its length takes one octet, below 128, and its value is all there.
