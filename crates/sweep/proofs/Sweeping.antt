@@ -1,5 +1,5 @@
 -- Laws of the frame that words hold.
---     frame-few, frame-none, frame-held, frame-room    the test whether words hold a frame
+--     frame-few, frame-none, frame-held, frame-room, frame-some    the test whether words hold a frame
 --     sweep-none, sweep-held    the answer
 -- Assumes nothing.
 use mathlib.Core.Path.{_≡_, sym, ap}
@@ -7,8 +7,8 @@ use mathlib.Core.Bool.{Bool, true, false}
 use mathlib.Core.List.{List}
 use Prim.Native.Nat.{ℕ, _≤_, _<_}
 use native.Mathlib.Omega.{arith}
-use borrow.Author.Tests.{leb-true, lt-ltb, le-ltb, le-leb, lt-leb}
-use lib.Dec.{leb}
+use borrow.Author.Tests.{ltb-true, leb-true, lt-ltb, le-ltb, le-leb, lt-leb}
+use lib.Dec.{ltb, leb}
 use lib.ListN.{length, drop}
 use Rattle.octets.specs.Pick.{pick}
 use Rattle.octets.proofs.Pick.{both-split}
@@ -35,6 +35,10 @@ module _ (u : List ℕ) where
   pub frame-room : holdsFrame u ≡ true → headWords ≤ length u
   unfolding holdsFrame
   frame-room e = leb-true _ _ (both-split (leb headWords (length u)) _ e .0)
+
+  pub frame-some : holdsFrame u ≡ true → 0 < waveformIn u .channels
+  unfolding holdsFrame
+  frame-some e = ltb-true _ _ (both-split (ltb 0 (waveformIn u .channels)) _ (both-split (leb headWords (length u)) _ e .1) .0)
 
 module _ (s u : List ℕ) (room : ℕ) where
   by-test : {b : Bool} → holdsFrame u ≡ b → pick b (sweptOf s room (spreadsIn u)) (refusedAs noFrame 0) ≡ sweepIn s u room

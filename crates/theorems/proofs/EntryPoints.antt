@@ -24,6 +24,7 @@ use Rattle.bulk.specs.Samples.{readOf, valuesOf, kindsIn, wholesIn, countRead}
 use Rattle.walk.specs.Says.{stepSays}
 use Rattle.walking.specs.Steps.{stepIn}
 use Rattle.walking.specs.Views.{viewIn}
+use Rattle.sweep.specs.Sweep.{sweepIn}
 use Rattle.outputs.specs.Outputs.{Outputs, outputs, handedOut, countOut, zeroAttributes, attributesOut, zeroSample, sampleOut}
 use Rattle.outputs.specs.Walks.{frameOut, noFrameValues, zeroChannel, channelOut}
 use Rattle.mfer.specs.Walks.{walkRead, walkValues}
@@ -83,6 +84,7 @@ pub record HandedOut (s : List ℕ) : Type 0 where
   pub walkNext : (u : List ℕ) → HandedExactly (frameOut (stepSays (stepIn s u .step))) noFrameValues (stepSays (stepIn s u .step))
   pub walkChannel : (u : List ℕ) (c : ℕ) → HandedExactly (channelOut (viewIn u c)) zeroChannel (viewIn u c)
   pub walkSamples : (u : List ℕ) (c n room : ℕ) → HandedExactly (countOut (mapAnswer length (walkRead s u c n room))) 0 (mapAnswer length (walkRead s u c n room))
+  pub walkFrame : (u : List ℕ) (room : ℕ) → HandedExactly (countOut (mapAnswer length (sweepIn s u room))) 0 (mapAnswer length (sweepIn s u room))
   pub walkValues : (u : List ℕ) (c n room : ℕ) → HandedExactly (countOut (mapAnswer length (walkValues s u c n room))) 0 (mapAnswer length (walkValues s u c n room))
 
 pub handed-out : (s : List ℕ) → HandedOut s
@@ -98,6 +100,7 @@ handed-out s =
       walkNext = λ u. handed-exactly _ _ _ (stepSays (stepIn s u .step));
       walkChannel = λ u c. handed-exactly _ _ _ (viewIn u c);
       walkSamples = λ u c n room. handed-exactly _ _ _ (mapAnswer length (walkRead s u c n room));
+      walkFrame = λ u room. handed-exactly _ _ _ (mapAnswer length (sweepIn s u room));
       walkValues = λ u c n room. handed-exactly _ _ _ (mapAnswer length (walkValues s u c n room));
     }
 
@@ -127,7 +130,7 @@ handed-refusal (answered n) h = let z : ⊥ = omega arith in absurd z
 handed-refusal (refusedAs number place) h = (number, place, refl)
 
 -- A refusal changes no octet of the output buffer: `write_canonical`, `mfer_canonical`, `bulk::samples`, `mfer_samples`, `bulk::values`, `mfer_values`,
--- `mfer_walk_samples` and `mfer_walk_values`.
+-- `mfer_walk_samples`, `mfer_walk_frame` and `mfer_walk_values`.
 pub record BuffersKept (s d : List ℕ) : Type 0 where
   pub canonical : (number place : ℕ) (left : List ℕ) → Wrote s d (refusedAs number place) left → left ≡ d
   pub canonicalOut : (out : Outputs ℕ) (left : List ℕ) → CanonicalOut s d out left → 0 < out .refusal → left ≡ d
@@ -136,6 +139,7 @@ pub record BuffersKept (s d : List ℕ) : Type 0 where
   pub values : (i c n room number place : ℕ) (w : List ℤ) → mapAnswer length (valuesOf s i c n room) ≡ refusedAs number place → (leftBy (kindsIn (valuesOf s i c n room)) d ≡ d) × (leftBy (wholesIn (valuesOf s i c n room)) w ≡ w)
   pub valuesOut : (i c n room : ℕ) (w : List ℤ) → 0 < countOut (mapAnswer length (valuesOf s i c n room)) .refusal → (leftBy (kindsIn (valuesOf s i c n room)) d ≡ d) × (leftBy (wholesIn (valuesOf s i c n room)) w ≡ w)
   pub walkSamples : (u : List ℕ) (c n number place : ℕ) → mapAnswer length (walkRead s u c n (length d)) ≡ refusedAs number place → leftBy (walkRead s u c n (length d)) d ≡ d
+  pub walkFrame : (u : List ℕ) (number place : ℕ) → mapAnswer length (sweepIn s u (length d)) ≡ refusedAs number place → leftBy (sweepIn s u (length d)) d ≡ d
   pub walkValues : (u : List ℕ) (c n room number place : ℕ) (w : List ℤ) → mapAnswer length (walkValues s u c n room) ≡ refusedAs number place → (leftBy (kindsIn (walkValues s u c n room)) d ≡ d) × (leftBy (wholesIn (walkValues s u c n room)) w ≡ w)
 
 module _ (s d : List ℕ) where
@@ -159,5 +163,6 @@ module _ (s d : List ℕ) where
         values = λ i c n room. values-kept (valuesOf s i c n room);
         valuesOut = λ i c n room w h. let r = handed-refusal (mapAnswer length (valuesOf s i c n room)) h in values-kept (valuesOf s i c n room) (r .0) (r .1) w (r .2);
         walkSamples = λ u c n number place e. plain-keeps (walkRead s u c n (length d)) d number place e;
+        walkFrame = λ u number place e. plain-keeps (sweepIn s u (length d)) d number place e;
         walkValues = λ u c n room. values-kept (walkValues s u c n room);
       }

@@ -9,6 +9,7 @@ pub mod Waveforms
 pub mod EntryPoints
 pub mod Canonical
 pub mod Told
+pub mod Sweeps
 pub mod Walks
 pub mod Demands
 pub mod Bench

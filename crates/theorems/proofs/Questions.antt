@@ -31,7 +31,8 @@ use Rattle.pass.specs.Scan.{zeroFrame}
 use Rattle.view.specs.View.{viewOf}
 use Rattle.reader.specs.Answer.{FoundSample, FoundPlace, foundPlace, asked, askedSample, attributesIn, attributesOf, sampleIn, sampleOf, seenOf, placedOf}
 use Rattle.values.specs.Sample.{Said}
-use Rattle.bulk.specs.Samples.{bitsFrom, readOf, valuesBy, valuesOf}
+use Rattle.strides.specs.Spread.{bitsFrom}
+use Rattle.bulk.specs.Samples.{readOf, valuesBy, valuesOf}
 use Rattle.laid.specs.Laid.{sampleBits}
 
 -- ---- three tests

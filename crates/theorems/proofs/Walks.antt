@@ -2,6 +2,7 @@
 --     WalkTold, walk-told    on an accepted file: frame after frame, as many as there are, and then refusal 20
 -- Assumes nothing.
 use mathlib.Core.Path.{_≡_, refl, sym, ap, _∙_}
+use mathlib.Core.Bool.{true}
 use mathlib.Core.Logic.{_↔_}
 use mathlib.Core.List.{List, [], _∷_, _++_}
 use Prim.Native.Nat.{ℕ, zero, suc, _≤_, _<_}
@@ -21,7 +22,6 @@ use Rattle.bulk.specs.Samples.{readSeen, readOf, valuesSeen, valuesOf}
 use Rattle.bulk.proofs.Reading.{read-located, values-located}
 use Rattle.walk.specs.declared.Step.{Step}
 use Rattle.walk.specs.Says.{stepSays}
-use Rattle.canonical.specs.Write.{framesIn}
 use Rattle.walk.specs.Joined.{frameBy}
 use Rattle.walk.proofs.Joins.{reaches-grown}
 use Rattle.walking.specs.Words.{standIn}
@@ -32,7 +32,9 @@ use Rattle.walking.proofs.Told.{walked-seen}
 use Rattle.outputs.specs.Outputs.{Outputs, outputs, handedOut}
 use Rattle.outputs.specs.Walks.{FrameOut, frameOut, noFrameValues}
 use Rattle.mfer.specs.Walks.{WalkNext}
+use Rattle.sweep.specs.Sweep.{holdsFrame}
 use Rattle.theorems.specs.Walks.{Walks, opened, stepped, Tells}
+use Rattle.theorems.proofs.Sweeps.{same-frames, held-there, swept-whole}
 
 -- What a walk over an accepted file with the frames fs tells.
 pub record WalkTold (s : List ℕ) (fs : List Frame) : Type 0 where
@@ -51,21 +53,18 @@ module _ (s : List ℕ) (i c n : ℕ) {A : Type 0} (g : View → Answer A) (h : 
       let x : Refusal = record { number = number; place = place } in
       unseen h s i c n x {r = LookedUp.Refused x} e refl
 
-tells : (s : List ℕ) → Octets s → (i : ℕ) (w : List ℕ) → ((c : ℕ) → viewIn w c ≡ seenOf s i c) → Tells s i w
+tells : (s : List ℕ) → Octets s → (i : ℕ) (w : List ℕ) → holdsFrame w ≡ true → ((c : ℕ) → viewIn w c ≡ seenOf s i c) → Tells s i w
 unfolding readOf valuesOf
-tells s o i w same =
+tells s o i w there same =
     record {
       channel = same;
       attributes = λ c. ap (mapAnswer attributesSeen) (same c) ∙ described-is s i c;
       samples = λ c first room. seen-asked s i c first (λ v. readSeen s v first room) _ (λ v l. read-located o l first room) (viewIn w c) (same c);
       values = λ c first room. seen-asked s i c first (λ v. valuesSeen s v first room) _ (λ v l. values-located o l first room) (viewIn w c) (same c);
+      whole = swept-whole s o i w there same;
     }
 
 -- ---- frame after frame
-
-same-frames : {fs gs : List Frame} → accepted fs ≡ accepted gs → fs ≡ gs
-unfolding framesIn
-same-frames e = ap framesIn e
 
 -- What the words of a walk tell of the last of n frames.
 abbrev LastTold : List ℕ → ℕ → List ℕ → Type 0
@@ -99,7 +98,7 @@ module _ (s : List ℕ) (o : Octets s) (fs : List Frame) (is : verdict s ≡ acc
           met = m .met ++ (frameBy s x (standIn v) ∷ []);
           long = length-append (m .met) (frameBy s x (standIn v) ∷ []) ∙ omega (arith, m .long);
           walked = walked-frame (m .walked) g;
-          last = tells s o n v (λ c. walked-seen (m .walked) g c ∙ ap (λ (i : ℕ). seenOf s i c) (m .long));
+          last = tells s o n v (held-there (m .walked) g) (λ c. walked-seen (m .walked) g c ∙ ap (λ (i : ℕ). seenOf s i c) (m .long));
         }
     by-step Step.Ended g e = let z : ⊥ = omega arith in absurd z
     by-step (Step.Refused r) g e = absurd (walked-never (m .walked) g)

@@ -1,14 +1,22 @@
 -- Calls of the functions for C that walk over a file.
 use mathlib.Core.Path.{_≡_}
-use mathlib.Core.List.{List}
+use mathlib.Core.List.{List, [], _++_}
 use Prim.Native.Nat.{ℕ, zero, suc}
+use lib.Dec.{leb}
 use lib.ListN.{length}
-use Rattle.heads.specs.Answer.{mapAnswer}
-use Rattle.reader.specs.Answer.{attributesSeen, attributesOf, seenOf}
+use Rattle.octets.specs.Pick.{pick}
+use Rattle.heads.specs.Refusals.{noRoom}
+use Rattle.heads.specs.Answer.{Answer, answered, refusedAs, mapAnswer}
+use Rattle.layout.specs.Frame.{Frame, samplesOf}
+use Rattle.laid.specs.Laid.{sampleBits}
+use Rattle.strides.specs.Spread.{bitsFrom}
+use Rattle.verdict.specs.Verdict.{verdict}
+use Rattle.reader.specs.Answer.{asked, attributesSeen, attributesOf, seenOf}
 use Rattle.bulk.specs.Samples.{readOf, valuesOf}
 use Rattle.walking.specs.Words.{walkWords}
 use Rattle.walking.specs.Steps.{Opened}
 use Rattle.walking.specs.Views.{viewIn}
+use Rattle.sweep.specs.Sweep.{sweepIn}
 use Rattle.outputs.specs.Outputs.{Outputs}
 use Rattle.outputs.specs.Walks.{FrameOut}
 use Rattle.mfer.specs.Walks.{WalkNext, walkRead, walkValues}
@@ -19,9 +27,20 @@ pub data Walks (s : List ℕ) : ℕ → List ℕ → Type 0 where
   opened : {u v : List ℕ} → length u ≡ walkWords → Opened s u v → Walks s zero v
   stepped : {n : ℕ} {u v : List ℕ} {out : Outputs FrameOut} → Walks s n u → WalkNext s u out v → out .refusal ≡ 0 → Walks s (suc n) v
 
--- The words tell of frame i what the questions answer, refusals too: each channel, its attributes, and its samples as bits and as values.
+-- The bits of all samples of the n channels of a frame from number k on, those of one channel after those of another.
+unfoldable pub wholeFrom : Frame → ℕ → ℕ → List ℕ
+wholeFrom f k zero = []
+wholeFrom f k (suc n) = bitsFrom (sampleBits f k) 0 (samplesOf k f) ++ wholeFrom f (suc k) n
+
+-- All samples of a frame, in a buffer with room for so many: 23 where it does not hold them.
+abbrev pub wholeIn : ℕ → Frame → Answer (List ℕ)
+wholeIn room f = let x = wholeFrom f 0 (length (f .channels)) in pick (leb (length x) room) (answered x) (refusedAs noRoom 0)
+
+-- The words tell of frame i what the questions answer, refusals too: each channel, its attributes, and its samples as bits and as values; and all
+-- samples of all its channels.
 pub record Tells (s : List ℕ) (i : ℕ) (w : List ℕ) : Type 0 where
   pub channel : (c : ℕ) → viewIn w c ≡ seenOf s i c
   pub attributes : (c : ℕ) → mapAnswer attributesSeen (viewIn w c) ≡ attributesOf s i c
   pub samples : (c first room : ℕ) → walkRead s w c first room ≡ readOf s i c first room
   pub values : (c first room : ℕ) → walkValues s w c first room ≡ valuesOf s i c first room
+  pub whole : (room : ℕ) → sweepIn s w room ≡ asked (wholeIn room) i 0 (verdict s)

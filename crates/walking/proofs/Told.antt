@@ -1,4 +1,5 @@
 -- What words tell of a frame is what the questions answer.
+--     walked-some     the frame has a channel
 --     walked-seen     the channel of the frame that the last step told of, for any channel number
 -- Assumes nothing.
 use mathlib.Core.Path.{_≡_, sym, ap, _∙_}
@@ -52,8 +53,9 @@ module _ {s : List ℕ} {met : List Frame} {u v : List ℕ} {x : Waveform} (p : 
   is-frame : getD all (length met) zeroFrame ≡ frame
   is-frame = ap (λ (fs : List Frame). getD fs (length met) zeroFrame) (there .1) ∙ getD-append-seam met frame (there .0) zeroFrame
 
-  some : 0 < length (frame .channels)
-  some = let l = accepted-lies s all (p .is) (length met) below-all in omega (arith, ap (λ (f : Frame). length (f .channels)) is-frame, l .some)
+  -- It has a channel.
+  pub walked-some : 0 < length (frame .channels)
+  walked-some = let l = accepted-lies s all (p .is) (length met) below-all in omega (arith, ap (λ (f : Frame). length (f .channels)) is-frame, l .some)
 
   module _ (c : ℕ) where
     -- What the question answers of the frame.
@@ -77,5 +79,5 @@ module _ {s : List ℕ} {met : List Frame} {u v : List ℕ} {x : Waveform} (p : 
         by : Dec (c < length (frame .channels)) → viewIn v c ≡ seenOf s (length met) c
         by (yes h) = walked-view p g c (omega (arith, h, walked-counts p g .channels)) ∙ seen (lt-ltb c (length (frame .channels)) h)
         by (no h) =
-            sym (view-past v c (walked-room p g) (omega (arith, some, counts)) (omega (arith, counts)))
+            sym (view-past v c (walked-room p g) (omega (arith, walked-some, counts)) (omega (arith, counts)))
             ∙ seen (le-ltb c (length (frame .channels)) (omega arith))

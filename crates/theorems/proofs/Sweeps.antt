@@ -1,0 +1,175 @@
+-- All samples of a frame, read by the words of a walk, are those that the questions tell.
+--     same-frames    the frames of an accepted file are its own
+--     held-there     words that tell of a frame of the file have a record for each of its channels
+--     swept-whole    what is read of the frame
+-- Assumes nothing.
+use mathlib.Core.Path.{_≡_, refl, sym, ap, _∙_}
+use mathlib.Core.Bool.{Bool, true, false}
+use mathlib.Core.List.{List, [], _∷_, _++_}
+use Prim.Native.Nat.{ℕ, zero, suc, _+_, _-_, _≤_, _<_}
+use native.Mathlib.Nat.{add-comm}
+use native.Mathlib.Omega.{arith}
+use borrow.Author.Tests.{leb-true, leb-false, le-leb, lt-leb}
+use lib.Dec.{leb}
+use lib.ListN.{length, drop, getD, length-append, length-take}
+use Rattle.octets.specs.Pick.{pick}
+use Rattle.octets.specs.Number.{Octets}
+use Rattle.heads.specs.Refusals.{noFrame, noRoom}
+use Rattle.heads.specs.Answer.{Answer, answered, refusedAs, mapAnswer}
+use Rattle.layout.specs.Frame.{Frame, samplesOf}
+use Rattle.laid.specs.Laid.{sampleBits}
+use Rattle.dated.specs.Dated.{held}
+use Rattle.dated.proofs.Refreshed.{held-long}
+use Rattle.records.specs.Records.{recordsIn, recordsHeld}
+use Rattle.records.proofs.Laws.{records-long}
+use Rattle.strides.specs.declared.Spread.{Spread}
+use Rattle.strides.specs.declared.Sequences.{Sequences}
+use Rattle.strides.specs.Spread.{countSpread, liesSpread, bitsSpread, bitsFrom}
+use Rattle.strides.specs.Channels.{spreadAt, spreadsFrom, sweptCount, sweptBits, sweptOf}
+use Rattle.strides.proofs.Walks.{length-bits, bits-same}
+use Rattle.strides.proofs.Lying.{rest-test}
+use Rattle.view.specs.declared.View.{View}
+use Rattle.view.specs.View.{viewOf, liesIn, placeSeen}
+use Rattle.verdict.specs.Verdict.{accepted, verdict}
+use Rattle.pass.specs.Scan.{zeroFrame}
+use Rattle.reader.specs.declared.LookedUp.{LookedUp}
+use Rattle.reader.specs.Answer.{asked, seenOf}
+use Rattle.reader.proofs.Order.{asked-found}
+use Rattle.reader.proofs.Answers.{Located, located, frameIn, count-seen, located-lies, bits-seen}
+use Rattle.canonical.specs.Write.{framesIn}
+use Rattle.walk.specs.declared.Waveform.{Waveform}
+use Rattle.walk.specs.declared.Step.{Step}
+use Rattle.kept.specs.Words.{headWords, waveformIn}
+use Rattle.walking.specs.Steps.{Goes}
+use Rattle.walking.specs.Views.{viewKept, viewIn}
+use Rattle.walking.proofs.Walked.{Walked, walked-counts}
+use Rattle.walking.proofs.Views.{walked-room, walked-told, view-there}
+use Rattle.walking.proofs.Told.{walked-some}
+use Rattle.sweep.specs.Sweep.{holdsFrame, sequencesBy, spreadsIn, sweepIn}
+use Rattle.sweep.proofs.Sweeping.{frame-room, frame-some, frame-held, sweep-held}
+use Rattle.theorems.specs.Walks.{wholeFrom, wholeIn}
+
+pub same-frames : {fs gs : List Frame} → accepted fs ≡ accepted gs → fs ≡ gs
+unfolding framesIn
+same-frames e = ap framesIn e
+
+-- ---- channels that all lie in the file
+
+abbrev AllLie : ℕ → List Spread → Type 0
+AllLie size [] = Unit {0}
+AllLie size (x ∷ xs) = (liesSpread size x ≡ true) × AllLie size xs
+
+-- Their samples together.
+abbrev total : List Spread → ℕ
+total [] = 0
+total (x ∷ xs) = countSpread x + total xs
+
+-- The answer where there is room for so many or not.
+abbrev roomFor : {A : Type 0} → ℕ → ℕ → A → Answer A
+roomFor n room a = pick (leb n room) (answered a) (refusedAs noRoom 0)
+
+count-room : (n k room : ℕ) → pick (leb n room) (mapAnswer (λ m. n + m) (roomFor k (room - n) k)) (refusedAs noRoom 0) ≡ roomFor (n + k) room (n + k)
+count-room n k room = by (leb n room) refl
+  where
+    by : (t : Bool) → leb n room ≡ t → pick t (mapAnswer (λ m. n + m) (roomFor k (room - n) k)) (refusedAs noRoom 0) ≡ roomFor (n + k) room (n + k)
+    by true e =
+        let same : leb k (room - n) ≡ leb (n + k) room = rest-test k n room (leb-true n room e) ∙ ap (λ (m : ℕ). leb m room) (add-comm k n) in
+        inner (leb k (room - n)) ∙ ap (λ (t : Bool). pick t (answered (n + k)) (refusedAs noRoom 0)) same
+      where
+        inner : (t : Bool) → mapAnswer (λ m. n + m) (pick t (answered k) (refusedAs noRoom 0)) ≡ pick t (answered (n + k)) (refusedAs noRoom 0)
+        inner true = refl
+        inner false = refl
+    by false e =
+        let over : leb (n + k) room ≡ false = lt-leb (n + k) room (omega (arith, leb-false n room e)) in
+        ap (λ (t : Bool). pick t (answered (n + k)) (refusedAs noRoom 0)) (sym over)
+
+all-counted : (size room : ℕ) (xs : List Spread) → AllLie size xs → sweptCount size room xs ≡ roomFor (total xs) room (total xs)
+unfolding sweptCount
+all-counted size room [] l = refl
+all-counted size room (x ∷ xs) l =
+    let n = countSpread x in
+    ap (λ (t : Bool). pick t (pick (leb n room) (mapAnswer (λ m. n + m) (sweptCount size (room - n) xs)) (refusedAs noRoom 0)) (refusedAs noFrame 0)) (l .0)
+    ∙ ap (λ (a : Answer ℕ). pick (leb n room) (mapAnswer (λ m. n + m) a) (refusedAs noRoom 0)) (all-counted size (room - n) xs (l .1))
+    ∙ count-room n (total xs) room
+
+all-long : (s : List ℕ) (xs : List Spread) → total xs ≡ length (sweptBits s xs)
+unfolding sweptBits
+all-long s [] = refl
+all-long s (x ∷ xs) = omega (arith, all-long s xs, length-append (bitsFrom (bitsSpread s x) 0 (countSpread x)) (sweptBits s xs), length-bits (bitsSpread s x) 0 (countSpread x))
+
+all-swept : (s : List ℕ) (room : ℕ) (xs : List Spread) → AllLie (length s) xs → sweptOf s room xs ≡ roomFor (length (sweptBits s xs)) room (sweptBits s xs)
+unfolding sweptOf
+all-swept s room xs l =
+    ap (mapAnswer (λ n. sweptBits s xs)) (all-counted (length s) room xs l)
+    ∙ by (leb (total xs) room)
+    ∙ ap (λ (n : ℕ). roomFor n room (sweptBits s xs)) (all-long s xs)
+  where
+    by : (t : Bool) → mapAnswer (λ n. sweptBits s xs) (pick t (answered (total xs)) (refusedAs noRoom 0)) ≡ pick t (answered (sweptBits s xs)) (refusedAs noRoom 0)
+    by true = refl
+    by false = refl
+
+-- ---- the channels of a frame of the file
+
+pub held-there : {s : List ℕ} {met : List Frame} {u v : List ℕ} {x : Waveform} → Walked s met u → Goes s u (Step.Frame x) v → holdsFrame v ≡ true
+held-there {v = v} {x = x} p g =
+    let n : waveformIn v .channels ≡ x .channels = ap (λ (y : Waveform). y .channels) (walked-told p g) in
+    let long = walked-counts p g .channels ∙ length-take (x .channels) (held (recordsIn (drop headWords v))) in
+    let all = held-long (recordsIn (drop headWords v)) ∙ records-long (drop headWords v) in
+    sym (frame-held v (walked-room p g) (λ e. omega (arith, walked-some p g, walked-counts p g .channels, n, e))) ∙ le-leb _ _ (omega (arith, n, long, all))
+
+module _ (s : List ℕ) (o : Octets s) (i : ℕ) (w : List ℕ) (there : holdsFrame w ≡ true) (same : (c : ℕ) → viewIn w c ≡ seenOf s i c) where
+  abbrev many : ℕ
+  many = waveformIn w .channels
+
+  abbrev spread : ℕ → Spread
+  spread c = spreadAt (drop headWords w) (sequencesBy (waveformIn w)) c
+
+  some : 0 < many
+  some = frame-some w there
+
+  found : (c : ℕ) → c < many → Located s i c (viewKept w c)
+  found c h = located s i c (viewKept w c) {r = LookedUp.Channel (viewKept w c)} (view-there w c (frame-room w there) some h ∙ same c) refl
+
+  first : Located s i 0 (viewKept w 0)
+  first = found 0 some
+
+  abbrev frame : Frame
+  frame = frameIn first
+
+  same-frame : (c : ℕ) (h : c < many) → frameIn (found c h) ≡ frame
+  same-frame c h = ap (λ (fs : List Frame). getD fs i zeroFrame) (same-frames (sym (found c h .verdictIs) ∙ first .verdictIs))
+
+  lies : (c : ℕ) → c < many → liesSpread (length s) (spread c) ≡ true
+  unfolding liesIn
+  lies c h = located-lies (found c h) o
+
+  count : (c : ℕ) → c < many → countSpread (spread c) ≡ samplesOf c frame
+  count c h = count-seen (found c h) ∙ ap (samplesOf c) (same-frame c h)
+
+  bits : (c : ℕ) → c < many → bitsFrom (bitsSpread s (spread c)) 0 (countSpread (spread c)) ≡ bitsFrom (sampleBits frame c) 0 (samplesOf c frame)
+  unfolding placeSeen
+  bits c h =
+      bits-same (bitsSpread s (spread c)) (sampleBits frame c) 0 0 (countSpread (spread c)) (λ j l. bits-seen (found c h) {n = 0 + j} (omega arith) ∙ ap (λ (f : Frame). sampleBits f c (0 + j)) (same-frame c h))
+      ∙ ap (bitsFrom (sampleBits frame c) 0) (count c h)
+
+  all-lie : (k n : ℕ) → k + n ≤ many → AllLie (length s) (spreadsFrom (drop headWords w) (sequencesBy (waveformIn w)) k n)
+  unfolding spreadsFrom
+  all-lie k zero h = tt
+  all-lie k (suc n) h = (lies k (omega arith), all-lie (suc k) n (omega arith))
+
+  whole : (k n : ℕ) → k + n ≤ many → sweptBits s (spreadsFrom (drop headWords w) (sequencesBy (waveformIn w)) k n) ≡ wholeFrom frame k n
+  unfolding spreadsFrom sweptBits wholeFrom
+  whole k zero h = refl
+  whole k (suc n) h = let now = bits k (omega arith) in let rest = whole (suc k) n (omega arith) in λ j. now j ++ rest j
+
+  channels-there : many ≡ length (frame .channels)
+  unfolding viewOf
+  channels-there = ap (λ (v : View). v .channels) (first .view)
+
+  pub swept-whole : (room : ℕ) → sweepIn s w room ≡ asked (wholeIn room) i 0 (verdict s)
+  swept-whole room =
+      let x : sweptBits s (spreadsIn w) ≡ wholeFrom frame 0 (length (frame .channels)) = whole 0 many (omega arith) ∙ ap (wholeFrom frame 0) channels-there in
+      sym (sweep-held s w room there)
+      ∙ all-swept s room (spreadsIn w) (all-lie 0 many (omega arith))
+      ∙ ap (λ (y : List ℕ). roomFor (length y) room y) x
+      ∙ sym (asked-found i 0 (first .verdictIs) (first .frameIn) (first .channelIs) (wholeIn room))
