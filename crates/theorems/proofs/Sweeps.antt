@@ -85,7 +85,7 @@ count-room n k room = by (leb n room) refl
 
 all-counted : (size room : ℕ) (xs : List Spread) → AllLie size xs → sweptCount size room xs ≡ roomFor (total xs) room (total xs)
 unfolding sweptCount
-all-counted size room [] l = refl
+all-counted size room [] l = ap (λ (t : Bool). pick t (answered 0) (refusedAs noRoom 0)) (sym (le-leb 0 room (omega arith)))
 all-counted size room (x ∷ xs) l =
     let n = countSpread x in
     ap (λ (t : Bool). pick t (pick (leb n room) (mapAnswer (λ m. n + m) (sweptCount size (room - n) xs)) (refusedAs noRoom 0)) (refusedAs noFrame 0)) (l .0)
@@ -115,7 +115,7 @@ held-there {v = v} {x = x} p g =
     let n : waveformIn v .channels ≡ x .channels = ap (λ (y : Waveform). y .channels) (walked-told p g) in
     let long = walked-counts p g .channels ∙ length-take (x .channels) (held (recordsIn (drop headWords v))) in
     let all = held-long (recordsIn (drop headWords v)) ∙ records-long (drop headWords v) in
-    sym (frame-held v (walked-room p g) (λ e. omega (arith, walked-some p g, walked-counts p g .channels, n, e))) ∙ le-leb _ _ (omega (arith, n, long, all))
+    sym (frame-held v (walked-room p g) (λ e. omega (arith, walked-some p g, walked-counts p g .channels, n, e))) ∙ le-leb (waveformIn v .channels) (recordsHeld (drop headWords v)) (omega (arith, n, long, all))
 
 module _ (s : List ℕ) (o : Octets s) (i : ℕ) (w : List ℕ) (there : holdsFrame w ≡ true) (same : (c : ℕ) → viewIn w c ≡ seenOf s i c) where
   abbrev many : ℕ
