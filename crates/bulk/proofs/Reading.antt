@@ -14,7 +14,7 @@ use lib.Seq.{sets}
 use Rattle.octets.specs.Pick.{pick}
 use Rattle.octets.specs.Number.{Octets}
 use Rattle.heads.specs.Refusals.{noFrame, noSample}
-use Rattle.heads.specs.Answer.{Answer, answered, refusedAs, mapAnswer, leftBy}
+use Rattle.heads.specs.Answer.{answered, refusedAs, mapAnswer, leftBy}
 use Rattle.layout.specs.Frame.{channelIn, samplesOf}
 use Rattle.laid.specs.Laid.{sampleBits}
 use Rattle.strides.specs.Spread.{bitsSpread, bitsFrom, laysIn}

@@ -24,7 +24,7 @@ use Rattle.octets.proofs.Laws.{part-read, part-fits}
 use Rattle.values.specs.Sample.{Said, widthOf, valueOf, lowBits}
 use Rattle.values.proofs.Laws.{width-some, width-le, low-bits}
 use Rattle.settings.specs.Settings.{zeroSettings}
-use Rattle.layout.specs.Frame.{Frame, reported, sequenceOctets, octetsBelow, channelIn, samplesOf, offsetOf, placeOf, blockOctets}
+use Rattle.layout.specs.Frame.{Frame, sequenceOctets, octetsBelow, channelIn, samplesOf, offsetOf, placeOf, blockOctets}
 use Rattle.reader.specs.declared.Attributes.{Attributes}
 use Rattle.reader.specs.declared.LookedUp.{LookedUp}
 use Rattle.reader.specs.declared.Placed.{Placed}
@@ -41,7 +41,7 @@ use Rattle.verdict.specs.declared.Checked.{Checked}
 use Rattle.pass.specs.declared.Scan.{Scan}
 use Rattle.verdict.specs.Verdict.{Verdict, accepted, refused, verdict, checkedSays, checkedAs, checkOf}
 use Rattle.pass.specs.Scan.{zeroFrame, foundIn, scannedIn, scanOf}
-use Rattle.reader.specs.Answer.{foundSample, lookedUpSays, FoundPlace, foundPlace, placedSays, asked, askedSample, seenOf, attributesWith, attributesIn, attributesOf, placedOf, sampleIn, sampleOf, attributesSeen}
+use Rattle.reader.specs.Answer.{foundSample, lookedUpSays, FoundPlace, foundPlace, placedSays, asked, askedSample, seenOf, attributesIn, attributesOf, placedOf, sampleIn, sampleOf, attributesSeen}
 use Rattle.reader.proofs.Order.{asked-both, sample-both, asked-found, sample-found, sample-refused}
 use Rattle.verdict.proofs.Every.{every-at}
 use Rattle.reader.proofs.Good.{GoodSettings, accepted-good}

@@ -19,7 +19,6 @@ use native.Mathlib.Decide.{decLt}
 use native.Mathlib.Omega.{arith}
 use borrow.Author.Tests.{ltb-true, leb-true, leb-false, lt-ltb, le-ltb, le-leb, lt-leb}
 use lib.Dec.{ltb, leb}
-use lib.ListN.{length}
 use lib.Seq.{sets}
 use Rattle.octets.specs.Pick.{both}
 use Rattle.octets.proofs.Pick.{both-split}

@@ -13,7 +13,7 @@ use lib.ListN.{length, drop}
 use Rattle.octets.specs.Pick.{pick}
 use Rattle.octets.proofs.Pick.{both-split}
 use Rattle.heads.specs.Refusals.{noFrame}
-use Rattle.heads.specs.Answer.{Answer, refusedAs}
+use Rattle.heads.specs.Answer.{refusedAs}
 use Rattle.records.specs.Records.{recordsHeld}
 use Rattle.strides.specs.Channels.{sweptOf}
 use Rattle.kept.specs.Words.{headWords, waveformIn}

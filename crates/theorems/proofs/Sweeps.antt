@@ -23,7 +23,6 @@ use Rattle.dated.proofs.Refreshed.{held-long}
 use Rattle.records.specs.Records.{recordsIn, recordsHeld}
 use Rattle.records.proofs.Laws.{records-long}
 use Rattle.strides.specs.declared.Spread.{Spread}
-use Rattle.strides.specs.declared.Sequences.{Sequences}
 use Rattle.strides.specs.Spread.{countSpread, liesSpread, bitsSpread, bitsFrom}
 use Rattle.strides.specs.Channels.{spreadAt, spreadsFrom, sweptCount, sweptBits, sweptOf}
 use Rattle.strides.proofs.Walks.{length-bits, bits-same}

@@ -7,18 +7,15 @@
 -- Assumes nothing.
 use mathlib.Core.Path.{_≡_, refl, sym, ap, _∙_}
 use mathlib.Core.Bool.{Bool, true, false}
-use Prim.Native.Nat.{ℕ, zero, suc, _+_, _-_, _*_, _/_, _%_, _≤_, _<_}
-use native.Mathlib.Nat.{zero-mul, mul-comm}
+use Prim.Native.Nat.{ℕ, _+_, _-_, _*_, _/_, _%_, _≤_, _<_}
 use native.Mathlib.Omega.{arith}
-use borrow.Author.Tests.{ltb-true, leb-true, leb-false, lt-ltb, le-ltb, le-leb, lt-leb}
-use lib.Dec.{ltb, leb}
-use Rattle.octets.specs.Pick.{pick, both}
-use Rattle.octets.proofs.Pick.{both-split}
-use Rattle.values.specs.Sample.{widthOf}
+use borrow.Author.Tests.{ltb-true, lt-ltb}
+use lib.Dec.{ltb}
+use Rattle.octets.specs.Pick.{pick}
 use Rattle.heads.specs.declared.Refusal.{Refusal}
 use Rattle.heads.specs.Refusals.{noFrame, noSample}
 use Rattle.heads.specs.Answer.{answered, refusedAs, refusedBy, mapAnswer}
-use Rattle.layout.specs.Frame.{widthIn, blockOctets}
+use Rattle.layout.specs.Frame.{widthIn}
 use Rattle.strides.specs.declared.Spread.{Spread}
 use Rattle.strides.specs.Spread.{widthSpread, placeSpread}
 use Rattle.strides.specs.Walked.{Lies}

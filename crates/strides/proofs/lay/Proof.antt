@@ -1,8 +1,5 @@
 -- By the test; no samples leave the buffer as it is.
-use mathlib.Core.Path.{sym, ap, _∙_}
-use native.Mathlib.Omega.{arith}
-use lib.Seq.{sets}
-use Rattle.strides.specs.Spread.{bitsFrom, bitsSpread}
+use mathlib.Core.Path.{sym, _∙_}
 use Rattle.strides.proofs.Lying.{lays-in, no-bits}
 use borrow.Author.Needs.{needs}
 use Rattle.strides.proofs.lay.Statement.{statement}

@@ -1,8 +1,7 @@
 -- The samples lie in the file in blocks, from the block of the first one on.
-use mathlib.Core.Path.{sym, ap, subst, _∙_}
+use mathlib.Core.Path.{ap, _∙_}
 use native.Mathlib.Omega.{arith}
 use lib.Seq.{sets}
-use Rattle.strides.specs.Walked.{Wide}
 use Rattle.strides.proofs.Lying.{block-some, start-inside, block-rest, width-wide, in-blocks, laid-bits}
 use borrow.Author.Needs.{needs}
 use Rattle.strides.proofs.lay_blocks.Statement.{statement}

@@ -1,8 +1,6 @@
 -- By the tests, one after the other.
-use mathlib.Core.Path.{ap, _∙_}
-use Prim.Native.Nat.{ℕ, _/_}
+use mathlib.Core.Path.{ap}
 use native.Mathlib.Omega.{arith}
-use lib.Dec.{leb}
 use lib.ListN.{length-drop}
 use Rattle.walk.specs.declared.Waveform.{Waveform}
 use Rattle.kept.specs.Words.{headWords}

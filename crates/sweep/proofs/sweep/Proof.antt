@@ -9,7 +9,7 @@ use Rattle.strides.specs.Channels.{spreadsFrom, sweptOf}
 use Rattle.strides.proofs.Channels.{kept}
 use Rattle.kept.specs.Words.{headWords}
 use Rattle.kept.proofs.Laws.{lent-all}
-use Rattle.sweep.specs.Sweep.{sequencesBy, spreadsIn, sweepIn}
+use Rattle.sweep.specs.Sweep.{sequencesBy, spreadsIn}
 use Rattle.sweep.proofs.Sweeping.{frame-room, sweep-none, sweep-held}
 use borrow.Author.Needs.{needs}
 use Rattle.sweep.proofs.sweep.Statement.{statement}

@@ -6,7 +6,6 @@ use native.Mathlib.Omega.{arith}
 use borrow.Author.Tests.{lt-leb}
 use Rattle.values.proofs.Laws.{width-le}
 use Rattle.strides.proofs.Lying.{lies-narrow, lies-tests}
-use Rattle.strides.specs.Spread.{liesSpread}
 use borrow.Author.Needs.{needs}
 use Rattle.strides.proofs.Spread.lies.Statement.{statement}
 use Rattle.strides.proofs.Spread.lies.Tie as tie
