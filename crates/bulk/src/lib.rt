@@ -19,16 +19,6 @@ use values::Meaning;
 use view::SamplePlace;
 use view::View;
 
-// How many of the samples that are left there is room for.
-fn fitting(room: usize, left: u64) -> usize
-    ensures { λ r. ⌜ r ≡ min room left ⌝ }
-{
-    if left < room as u64 {
-        return left as usize;
-    }
-    room
-}
-
 // The bits of the samples of a channel that is seen, from number `first` on, at the front of the buffer: as many as fit or there are.
 pub fn seen(s: &[u8], v: View, first: u64, out: &mut [u64]) -> Read
     ensures { λ r. ⌜ readSays r ≡ mapAnswer length (readSeen (now (s .entry)) v first (length (now (out .entry)))) ⌝ }
@@ -43,7 +33,7 @@ pub fn seen(s: &[u8], v: View, first: u64, out: &mut [u64]) -> Read
         });
     }
     if x.lies(s.len()) {
-        let n = fitting(out.len(), count - first);
+        let n = strides::fitting(out.len(), count - first);
         strides::lay(s, x, first, n, out, 0);
         return Read::Samples(n);
     }
@@ -114,7 +104,7 @@ pub fn values_seen(s: &[u8], v: View, first: u64, kinds: &mut [u8], wholes: &mut
         SamplePlace::Refused(x) => Read::Refused(x),
         SamplePlace::At(_) => {
             let x = v.spread();
-            let n = fitting(
+            let n = strides::fitting(
                 strides::smaller(kinds.len(), wholes.len()),
                 x.count() - first,
             );

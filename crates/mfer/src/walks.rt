@@ -83,8 +83,8 @@ pub extern "C" fn mfer_walk_samples(
     }
 }
 
-// The bits of all samples of the frame that a walk stands behind: those of channel 0, then those of channel 1, at the front of `out`. It is refusal 23 where
-// `out` does not hold them. Nothing of the file is read but these samples.
+// The bits of all samples of the frame that a walk stands behind: those of channel 0, then those of channel 1, at the front of `out`, as many as fit or there are.
+// Nothing of the file is read but these samples.
 #[no_mangle]
 pub extern "C" fn mfer_walk_frame(
     file: &[u8],

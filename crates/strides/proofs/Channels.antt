@@ -1,29 +1,27 @@
 -- Laws of the loops over the channels of a frame.
 --     kept, filled      the buffer, by what is read
---     Counting, counting-begins, counting-turns, counting-unlaid, counting-full, counting-ends    a loop that counts the samples of channels
---     swept-long        as many samples as were counted, and no more than there is room for
+--     Checking, checking-begins, checking-turns, checking-unlaid, checking-ends    a loop that looks whether the samples of all channels lie in the file
+--     take-bits         the samples of one channel and of others that there is room for
 --     Laying, laying-begins, laying-can, laying-turns, laying-ends    a loop that lays them
 --     swept-refused, swept-count, swept-left    the answer
 -- Assumes nothing.
 use mathlib.Core.Path.{_≡_, refl, sym, ap, _∙_}
 use mathlib.Core.Bool.{Bool, true, false}
-use mathlib.Core.List.{List, [], _∷_}
-use Prim.Native.Nat.{ℕ, suc, _+_, _-_, _≤_, _<_}
-use native.Mathlib.Nat.{zero-add, add-assoc}
+use mathlib.Core.List.{List, [], _∷_, _++_}
+use Prim.Native.Nat.{ℕ, zero, suc, _+_, _-_, _≤_, _<_, min}
 use native.Mathlib.Numerals.{add-one}
 use native.Mathlib.Omega.{arith}
-use borrow.Author.Tests.{leb-true, le-leb, lt-leb}
-use lib.Dec.{leb}
-use lib.ListN.{length, length-append}
+use lib.ListN.{length, take, length-append, length-take}
 use lib.Seq.{sets, length-sets}
-use Rattle.octets.specs.Pick.{pick}
+use Rattle.octets.specs.Pick.{pick, both}
+use Rattle.octets.proofs.Pick.{both-split}
 use Rattle.stores.proofs.Stores.{sets-front}
-use Rattle.heads.specs.Refusals.{noFrame, noRoom}
+use Rattle.heads.specs.Refusals.{noFrame}
 use Rattle.heads.specs.Answer.{Answer, answered, refusedAs, mapAnswer, leftBy}
 use Rattle.strides.specs.declared.Spread.{Spread}
 use Rattle.strides.specs.declared.Sequences.{Sequences}
 use Rattle.strides.specs.Spread.{countSpread, liesSpread, bitsSpread, bitsFrom}
-use Rattle.strides.specs.Channels.{spreadAt, spreadsFrom, sweptCount, sweptBits, sweptOf, Countable}
+use Rattle.strides.specs.Channels.{spreadAt, spreadsFrom, allLie, sweptBits, sweptOf}
 use Rattle.strides.specs.Walked.{Layable}
 use Rattle.strides.proofs.Walks.{length-bits, stores-join}
 use Rattle.strides.proofs.Lying.{lies-in}
@@ -38,160 +36,123 @@ module _ {A : Type 0} {a : Answer (List A)} (out : List A) where
   unfolding leftBy
   filled {x} e h f = f ∙ sets-front x out h ∙ ap (λ (y : Answer (List A)). leftBy y out) e
 
--- ---- adding to an answer
+-- ---- one channel and the others
 
-map-nothing : (a : Answer ℕ) → mapAnswer (λ m. 0 + m) a ≡ a
-map-nothing (answered n) = ap answered (zero-add n)
-map-nothing (refusedAs number place) = refl
+here : (t : List ℕ) (q : Sequences) (channels k : ℕ) → k < channels → spreadsFrom t q k (channels - k) ≡ spreadAt t q k ∷ spreadsFrom t q (k + 1) (channels - (k + 1))
+unfolding spreadsFrom
+here t q channels k h = let e : channels - k ≡ suc (channels - (k + 1)) = omega arith in rw (e, add-one)
 
-map-more : (n k : ℕ) (a : Answer ℕ) → mapAnswer (λ m. n + k + m) a ≡ mapAnswer (λ m. n + m) (mapAnswer (λ m. k + m) a)
-map-more n k (answered m) = ap answered (add-assoc n k m)
-map-more n k (refusedAs number place) = refl
-
--- ---- counting
-
-module _ (size room : ℕ) (t : List ℕ) (q : Sequences) (channels : ℕ) where
-  -- Before channel k the channels have n samples; what the others have gives the answer that is wanted.
-  pub record Counting (k n : ℕ) : Type 0 where
+module _ (size : ℕ) (t : List ℕ) (q : Sequences) (channels : ℕ) where
+  -- The samples of the channels below k lie in the file; the others decide.
+  pub record Checking (k : ℕ) : Type 0 where
     pub part : k ≤ channels
-    pub fits : n ≤ room
-    pub rest : mapAnswer (λ m. n + m) (sweptCount size (room - n) (spreadsFrom t q k (channels - k))) ≡ sweptCount size room (spreadsFrom t q 0 channels)
+    pub rest : allLie size (spreadsFrom t q k (channels - k)) ≡ allLie size (spreadsFrom t q 0 channels)
 
-  pub counting-begins : Counting 0 0
-  counting-begins =
-      let e : room - 0 ≡ room = omega arith in
-      let f : channels - 0 ≡ channels = omega arith in
-      record { part = omega arith; fits = omega arith; rest = map-nothing (sweptCount size (room - 0) (spreadsFrom t q 0 (channels - 0))) ∙ rw (e, f) }
+  pub checking-begins : Checking 0
+  checking-begins = let e : channels - 0 ≡ channels = omega arith in record { part = omega arith; rest = rw e }
 
-  module _ {k n : ℕ} (c : Counting k n) (h : k < channels) where
-    here : spreadsFrom t q k (channels - k) ≡ spreadAt t q k ∷ spreadsFrom t q (suc k) (channels - suc k)
-    unfolding spreadsFrom
-    here = let e : channels - k ≡ suc (channels - suc k) = omega arith in rw e
+  module _ {k : ℕ} (c : Checking k) (h : k < channels) where
+    decided : {b : Bool} → liesSpread size (spreadAt t q k) ≡ b → both b (allLie size (spreadsFrom t q (k + 1) (channels - (k + 1)))) ≡ allLie size (spreadsFrom t q 0 channels)
+    unfolding allLie
+    decided e = ap (λ (b : Bool). both b (allLie size (spreadsFrom t q (k + 1) (channels - (k + 1))))) (sym e) ∙ sym (ap (allLie size) (here t q channels k h)) ∙ c .rest
 
-    counted : {a b : Bool} → liesSpread size (spreadAt t q k) ≡ a → leb (countSpread (spreadAt t q k)) (room - n) ≡ b
-        → mapAnswer (λ m. n + m) (pick a (pick b (mapAnswer (λ m. countSpread (spreadAt t q k) + m) (sweptCount size (room - n - countSpread (spreadAt t q k)) (spreadsFrom t q (suc k) (channels - suc k)))) (refusedAs noRoom 0)) (refusedAs noFrame 0))
-        ≡ sweptCount size room (spreadsFrom t q 0 channels)
-    unfolding sweptCount
-    counted p f = (λ i. mapAnswer (λ m. n + m) (pick (sym p i) (pick (sym f i) (mapAnswer (λ m. countSpread (spreadAt t q k) + m) (sweptCount size (room - n - countSpread (spreadAt t q k)) (spreadsFrom t q (suc k) (channels - suc k)))) (refusedAs noRoom 0)) (refusedAs noFrame 0))) ∙ (rw here at (c .rest))
+    pub checking-unlaid : liesSpread size (spreadAt t q k) ≡ false → false ≡ allLie size (spreadsFrom t q 0 channels)
+    checking-unlaid e = decided e
 
-    pub counting-unlaid : liesSpread size (spreadAt t q k) ≡ false → refusedAs noFrame 0 ≡ sweptCount size room (spreadsFrom t q 0 channels)
-    counting-unlaid e = counted e refl
+    pub checking-turns : liesSpread size (spreadAt t q k) ≡ true → Checking (k + 1)
+    checking-turns e = record { part = omega arith; rest = decided e }
 
-    module _ (e : liesSpread size (spreadAt t q k) ≡ true) where
-      pub counting-full : room - n < countSpread (spreadAt t q k) → refusedAs noRoom 0 ≡ sweptCount size room (spreadsFrom t q 0 channels)
-      counting-full l = counted e (lt-leb _ _ l)
-
-      pub counting-turns : countSpread (spreadAt t q k) ≤ room - n → Counting (k + 1) (n + countSpread (spreadAt t q k))
-      counting-turns l =
-          let m = countSpread (spreadAt t q k) in
-          let left : room - (n + m) ≡ room - n - m = omega arith in
-          record {
-            part = omega arith;
-            fits = omega (arith, c .fits);
-            rest = rw (add-one, left) (map-more n m (sweptCount size (room - n - m) (spreadsFrom t q (suc k) (channels - suc k))) ∙ counted e (le-leb _ _ l));
-          }
-
-  pub counting-ends : {k n : ℕ} → Counting k n → channels ≤ k → answered n ≡ sweptCount size room (spreadsFrom t q 0 channels)
-  unfolding spreadsFrom sweptCount
-  counting-ends {k} {n} c h =
-      let e : channels - k ≡ 0 = omega arith in
-      let z : n ≡ n + 0 = omega arith in
-      ap answered z ∙ (rw e at (c .rest))
+  pub checking-ends : {k : ℕ} → Checking k → channels ≤ k → true ≡ allLie size (spreadsFrom t q 0 channels)
+  unfolding spreadsFrom allLie
+  checking-ends {k} c h = let e : channels - k ≡ 0 = omega arith in rw e at (c .rest)
 
 -- ---- laying
 
--- Of channels that were counted the first one lies in the file and has room, and the others were counted.
-module _ (size room : ℕ) (v : Spread) (vs : List Spread) (c : Countable size room (v ∷ vs)) where
-  record First : Type 0 where
-    lies : liesSpread size v ≡ true
-    fits : countSpread v ≤ room
-    others : Countable size (room - countSpread v) vs
-    all : c .many ≡ countSpread v + others .many
+-- The samples of one channel and of others that there is room for.
+pub take-bits : (g : ℕ → ℕ) (m room c n : ℕ) (rest : List ℕ) → n ≡ min room c → take room (bitsFrom g m c ++ rest) ≡ bitsFrom g m n ++ take (room - n) rest
+unfolding bitsFrom
+take-bits g m room zero n rest e = let z : n ≡ 0 = omega arith in let f : room - 0 ≡ room = omega arith in rw (z, f)
+take-bits g m zero (suc c) n rest e = let z : n ≡ 0 = omega arith in rw z
+take-bits g m (suc room) (suc c) zero rest e = let z : ⊥ = omega arith in absurd z
+take-bits g m (suc room) (suc c) (suc n) rest e =
+    let f : suc room - suc n ≡ room - n = omega arith in
+    rw f (ap (λ (l : List ℕ). g m ∷ l) (take-bits g (suc m) room c n rest (omega arith)))
 
-  first : First
-  unfolding sweptCount
-  first = by (liesSpread size v) (leb (countSpread v) room) (sweptCount size (room - countSpread v) vs) refl refl refl (c .counted)
-    where
-      by : (a b : Bool) (r : Answer ℕ) → liesSpread size v ≡ a → leb (countSpread v) room ≡ b → sweptCount size (room - countSpread v) vs ≡ r
-          → pick a (pick b (mapAnswer (λ n. countSpread v + n) r) (refusedAs noRoom 0)) (refusedAs noFrame 0) ≡ answered (c .many) → First
-      by true true (answered m) p q e f = record { lies = p; fits = leb-true _ _ q; others = record { many = m; counted = e }; all = (cc) }
-      by true true (refusedAs number place) p q e f = let z : _≡_ {A = ℕ} 0 1 = cc in let w : ⊥ = omega arith in absurd w
-      by true false r p q e f = let z : _≡_ {A = ℕ} 0 1 = cc in let w : ⊥ = omega arith in absurd w
-      by false b r p q e f = let z : _≡_ {A = ℕ} 0 1 = cc in let w : ⊥ = omega arith in absurd w
-
--- As many samples as were counted, and no more than there is room for.
-pub swept-long : (s : List ℕ) (size room : ℕ) (vs : List Spread) (c : Countable size room vs) → (length (sweptBits s vs) ≡ c .many) × (c .many ≤ room)
-unfolding sweptBits sweptCount
-swept-long s size room [] c = let z : 0 ≡ c .many = cc in (z, omega arith)
-swept-long s size room (v ∷ vs) c =
-    let f = first size room v vs c in
-    let r = swept-long s size (room - countSpread v) vs (f .others) in
-    let long = length-append (bitsFrom (bitsSpread s v) 0 (countSpread v)) (sweptBits s vs) in
-    (omega (arith, long, length-bits (bitsSpread s v) 0 (countSpread v), r .0, f .all), omega (arith, r .1, f .all, f .fits))
+take-none : (n : ℕ) → _≡_ {A = List ℕ} (take n []) []
+take-none zero = refl
+take-none (suc n) = refl
 
 module _ (s t : List ℕ) (q : Sequences) (channels : ℕ) (out₀ : List ℕ) where
-  -- Before channel k the samples of lower channels are laid; those of the others from `at` on give the buffer that is wanted.
+  -- The samples of the channels below k are laid; those of the others from `at` on, as many as there is room for, give the buffer that is wanted.
   pub record Laying (out : List ℕ) (k at : ℕ) : Type 0 where
     pub part : k ≤ channels
     pub within : at ≤ length out
     pub long : length out ≡ length out₀
-    pub left : Countable (length s) (length out - at) (spreadsFrom t q k (channels - k))
-    pub rest : sets out at (sweptBits s (spreadsFrom t q k (channels - k))) ≡ sets out₀ 0 (sweptBits s (spreadsFrom t q 0 channels))
+    pub lie : allLie (length s) (spreadsFrom t q k (channels - k)) ≡ true
+    pub rest : sets out at (take (length out - at) (sweptBits s (spreadsFrom t q k (channels - k)))) ≡ sets out₀ 0 (take (length out₀) (sweptBits s (spreadsFrom t q 0 channels)))
+    pub many : at + length (take (length out - at) (sweptBits s (spreadsFrom t q k (channels - k)))) ≡ length (take (length out₀) (sweptBits s (spreadsFrom t q 0 channels)))
 
-  pub laying-begins : Countable (length s) (length out₀) (spreadsFrom t q 0 channels) → Laying out₀ 0 0
-  laying-begins c =
+  pub laying-begins : allLie (length s) (spreadsFrom t q 0 channels) ≡ true → Laying out₀ 0 0
+  laying-begins l =
       let e : length out₀ - 0 ≡ length out₀ = omega arith in
       let f : channels - 0 ≡ channels = omega arith in
-      record { part = omega arith; within = omega arith; long = refl; left = record { many = c .many; counted = rw (e, f) (c .counted) }; rest = rw f }
+      record { part = omega arith; within = omega arith; long = refl; lie = rw f l; rest = rw (e, f); many = rw (e, f) (omega arith) }
 
-  module _ {out : List ℕ} {k at : ℕ} (l : Laying out k at) (h : k < channels) where
-    now : spreadsFrom t q k (channels - k) ≡ spreadAt t q k ∷ spreadsFrom t q (suc k) (channels - suc k)
-    unfolding spreadsFrom
-    now = let e : channels - k ≡ suc (channels - suc k) = omega arith in rw e
+  module _ {out : List ℕ} {k at n : ℕ} (l : Laying out k at) (h : k < channels) (e : n ≡ min (length out - at) (countSpread (spreadAt t q k))) where
+    now : spreadsFrom t q k (channels - k) ≡ spreadAt t q k ∷ spreadsFrom t q (k + 1) (channels - (k + 1))
+    now = here t q channels k h
 
-    of-first : First (length s) (length out - at) (spreadAt t q k) (spreadsFrom t q (suc k) (channels - suc k)) (record { many = l .left .many; counted = rw now at (l .left .counted) })
-    of-first = first (length s) (length out - at) (spreadAt t q k) (spreadsFrom t q (suc k) (channels - suc k)) (record { many = l .left .many; counted = rw now at (l .left .counted) })
+    lie-now : (liesSpread (length s) (spreadAt t q k) ≡ true) × (allLie (length s) (spreadsFrom t q (k + 1) (channels - (k + 1))) ≡ true)
+    unfolding allLie
+    lie-now = both-split (liesSpread (length s) (spreadAt t q k)) _ (sym (ap (allLie (length s)) now) ∙ l .lie)
 
     -- The channel's samples can be laid.
-    pub laying-can : Layable (length s) (length out) (spreadAt t q k) 0 (countSpread (spreadAt t q k)) at
-    laying-can = record { fits = omega (arith, of-first .fits, l .within); there = omega arith; lies = lies-in (of-first .lies) }
+    pub laying-can : Layable (length s) (length out) (spreadAt t q k) 0 n at
+    laying-can = record { fits = omega (arith, l .within); there = omega arith; lies = lies-in (lie-now .0) }
+
+    parts : take (length out - at) (sweptBits s (spreadsFrom t q k (channels - k))) ≡ bitsFrom (bitsSpread s (spreadAt t q k)) 0 n ++ take (length out - at - n) (sweptBits s (spreadsFrom t q (k + 1) (channels - (k + 1))))
+    unfolding sweptBits
+    parts = ap (λ (xs : List Spread). take (length out - at) (sweptBits s xs)) now ∙ take-bits (bitsSpread s (spreadAt t q k)) 0 (length out - at) (countSpread (spreadAt t q k)) n (sweptBits s (spreadsFrom t q (k + 1) (channels - (k + 1)))) e
 
     -- A turn lays them.
-    pub laying-turns : {new : List ℕ} → new ≡ sets out at (bitsFrom (bitsSpread s (spreadAt t q k)) 0 (countSpread (spreadAt t q k)))
-        → Laying new (k + 1) (at + countSpread (spreadAt t q k))
-    unfolding sweptBits
+    pub laying-turns : {new : List ℕ} → new ≡ sets out at (bitsFrom (bitsSpread s (spreadAt t q k)) 0 n) → Laying new (k + 1) (at + n)
     laying-turns {new} stored =
-        let n = countSpread (spreadAt t q k) in
         let bits = bitsFrom (bitsSpread s (spreadAt t q k)) 0 n in
+        let more = sweptBits s (spreadsFrom t q (k + 1) (channels - (k + 1))) in
         let long : length new ≡ length out = ap length stored ∙ length-sets out at bits in
-        let others = spreadsFrom t q (suc k) (channels - suc k) in
+        let count = length-bits (bitsSpread s (spreadAt t q k)) 0 n in
         let room : length new - (at + n) ≡ length out - at - n = omega arith in
         record {
           part = omega arith;
           within = omega (arith, laying-can .fits);
           long = long ∙ l .long;
-          left = record { many = of-first .others .many; counted = rw (add-one, room) (of-first .others .counted) };
-          rest = rw add-one (stores-join out bits (sweptBits s others) at stored (length-bits (bitsSpread s (spreadAt t q k)) 0 n) ∙ (rw now at (l .rest)));
+          lie = lie-now .1;
+          rest = rw room (stores-join out bits (take (length out - at - n) more) at stored count ∙ ap (sets out at) (sym parts) ∙ l .rest);
+          many = rw room (omega (arith, ap length parts, length-append bits (take (length out - at - n) more), count, l .many));
         }
 
-  pub laying-ends : {out : List ℕ} {k at : ℕ} → Laying out k at → channels ≤ k → out ≡ sets out₀ 0 (sweptBits s (spreadsFrom t q 0 channels))
-  unfolding spreadsFrom sweptBits
-  laying-ends {k = k} l h = let e : channels - k ≡ 0 = omega arith in rw e at (l .rest)
+  module _ {out : List ℕ} {k at : ℕ} (l : Laying out k at) (h : channels ≤ k) where
+    nothing : take (length out - at) (sweptBits s (spreadsFrom t q k (channels - k))) ≡ []
+    unfolding spreadsFrom sweptBits
+    nothing = let e : channels - k ≡ 0 = omega arith in rw e (take-none (length out - at))
+
+    pub laying-ends : (at ≡ length (take (length out₀) (sweptBits s (spreadsFrom t q 0 channels)))) × (out ≡ sets out₀ 0 (take (length out₀) (sweptBits s (spreadsFrom t q 0 channels))))
+    laying-ends = (omega (arith, ap length nothing, l .many), ap (sets out at) (sym nothing) ∙ l .rest)
 
 -- ---- the answer
 
 module _ (s out : List ℕ) (xs : List Spread) where
-  pub swept-refused : {number place : ℕ} → refusedAs number place ≡ sweptCount (length s) (length out) xs → refusedAs number place ≡ sweptOf s (length out) xs
+  pub swept-refused : allLie (length s) xs ≡ false → refusedAs noFrame 0 ≡ sweptOf s (length out) xs
   unfolding sweptOf
-  swept-refused e = ap (mapAnswer (λ n. sweptBits s xs)) e
+  swept-refused e = ap (λ (b : Bool). pick b (answered (take (length out) (sweptBits s xs))) (refusedAs noFrame 0)) (sym e)
 
-  module _ (c : Countable (length s) (length out) xs) where
-    swept : answered (sweptBits s xs) ≡ sweptOf s (length out) xs
+  module _ (e : allLie (length s) xs ≡ true) where
+    swept : answered (take (length out) (sweptBits s xs)) ≡ sweptOf s (length out) xs
     unfolding sweptOf
-    swept = ap (mapAnswer (λ n. sweptBits s xs)) (sym (c .counted))
+    swept = ap (λ (b : Bool). pick b (answered (take (length out) (sweptBits s xs))) (refusedAs noFrame 0)) (sym e)
 
-    pub swept-count : answered (c .many) ≡ mapAnswer length (sweptOf s (length out) xs)
-    swept-count = ap answered (sym (swept-long s (length s) (length out) xs c .0)) ∙ ap (mapAnswer length) swept
+    pub swept-count : {n : ℕ} → n ≡ length (take (length out) (sweptBits s xs)) → answered n ≡ mapAnswer length (sweptOf s (length out) xs)
+    swept-count f = ap answered f ∙ ap (mapAnswer length) swept
 
-    pub swept-left : {new : List ℕ} → new ≡ sets out 0 (sweptBits s xs) → new ≡ leftBy (sweptOf s (length out) xs) out
-    swept-left f = let long = swept-long s (length s) (length out) xs c in filled out swept (omega (arith, long .0, long .1)) f
+    pub swept-left : {new : List ℕ} → new ≡ sets out 0 (take (length out) (sweptBits s xs)) → new ≡ leftBy (sweptOf s (length out) xs) out
+    swept-left f = filled out swept (omega (arith, length-take (length out) (sweptBits s xs))) f

@@ -1,12 +1,11 @@
 -- All samples of a frame, channel after channel, by the words of the channels' records.
-use mathlib.Core.Path.{_≡_}
+use mathlib.Core.Bool.{Bool, true}
 use mathlib.Core.List.{List, [], _∷_, _++_}
-use Prim.Native.Nat.{ℕ, zero, suc, _+_, _-_}
-use lib.Dec.{leb}
-use lib.ListN.{length, getD}
-use Rattle.octets.specs.Pick.{pick}
-use Rattle.heads.specs.Refusals.{noFrame, noRoom}
-use Rattle.heads.specs.Answer.{Answer, answered, refusedAs, refusedBy, mapAnswer}
+use Prim.Native.Nat.{ℕ, zero, suc}
+use lib.ListN.{length, getD, take}
+use Rattle.octets.specs.Pick.{pick, both}
+use Rattle.heads.specs.Refusals.{noFrame}
+use Rattle.heads.specs.Answer.{Answer, answered, refusedAs, refusedBy}
 use Rattle.dated.specs.Dated.{zeroDated}
 use Rattle.records.specs.Records.{recordsIn, belowIn}
 use Rattle.strides.specs.declared.Spread.{Spread}
@@ -39,27 +38,16 @@ unfoldable pub spreadsFrom : List ℕ → Sequences → ℕ → ℕ → List Spr
 spreadsFrom t q k zero = []
 spreadsFrom t q k (suc n) = spreadAt t q k ∷ spreadsFrom t q (suc k) n
 
--- How many samples channels have together, in a file of `size` octets and a buffer of `room` words. Channel by channel: 20 where its samples do not
--- lie in the file, then 23 where there is no room for them.
-unfoldable pub sweptCount : ℕ → ℕ → List Spread → Answer ℕ
-sweptCount size room [] = answered 0
-sweptCount size room (x ∷ xs) =
-    pick (liesSpread size x)
-    (pick (leb (countSpread x) room)
-    (mapAnswer (λ n. countSpread x + n) (sweptCount size (room - countSpread x) xs))
-    (refusedAs noRoom 0))
-    (refusedAs noFrame 0)
+-- The samples of every channel lie in a file of `size` octets.
+unfoldable pub allLie : ℕ → List Spread → Bool
+allLie size [] = true
+allLie size (x ∷ xs) = both (liesSpread size x) (allLie size xs)
 
 -- The bits of all samples of channels, those of one channel after those of another.
 unfoldable pub sweptBits : List ℕ → List Spread → List ℕ
 sweptBits s [] = []
 sweptBits s (x ∷ xs) = bitsFrom (bitsSpread s x) 0 (countSpread x) ++ sweptBits s xs
 
--- The answer: these bits, where they can be counted.
+-- The answer: as many of these bits as there is room for, or as there are; 20 where the samples of a channel do not lie in the file.
 unfoldable pub sweptOf : List ℕ → ℕ → List Spread → Answer (List ℕ)
-sweptOf s room xs = mapAnswer (λ n. sweptBits s xs) (sweptCount (length s) room xs)
-
--- The samples of channels were counted.
-pub record Countable (size room : ℕ) (xs : List Spread) : Type 0 where
-  pub many : ℕ
-  pub counted : sweptCount size room xs ≡ answered many
+sweptOf s room xs = pick (allLie (length s) xs) (answered (take room (sweptBits s xs))) (refusedAs noFrame 0)

@@ -7,16 +7,17 @@
 // Read first: specs/Spread.antt and specs/Channels.antt, then `lay` and upwards. A change to a loop wants its speed measured again: each width has a loop
 // of its own, with straight-line reads, because the compiler makes one wide load of them only so.
 ghost use mathlib.Core.Path.{_≡_};
+ghost use mathlib.Core.Bool.{true};
 ghost use mathlib.Core.Logic.{_⊎_};
 ghost use Prim.Native.Nat.{_+_, _*_, _/_, _≤_, _<_, min};
 ghost use Rattle.standing.specs.Standing.{octetsLimit};
-ghost use lib.ListN.{length};
+ghost use lib.ListN.{length, take};
 ghost use lib.Dec.{leb};
 ghost use lib.Seq.{sets};
 ghost use Rattle.octets.specs.Pick.{pick, both};
 ghost use Rattle.strides.specs.Spread.{countSpread, liesSpread, bitsSpread, bitsFrom, laysIn};
 ghost use Rattle.heads.specs.Answer.{mapAnswer, leftBy};
-ghost use Rattle.strides.specs.Channels.{readSays, spreadAt, spreadsFrom, sweptCount, sweptBits, sweptOf, Countable};
+ghost use Rattle.strides.specs.Channels.{readSays, spreadAt, spreadsFrom, allLie, sweptBits, sweptOf};
 ghost use Rattle.strides.specs.Walked.{bitsHere, spaced, blocked, Wide, InFile, InBlocks, Even, Layable};
 use heads::Refusal;
 use standing::Standing;
@@ -417,35 +418,23 @@ fn spread_at(t: &[u64], q: Sequences, channel: usize) -> Spread
     }
 }
 
-// How many samples channels have, in a file of `size` octets and a buffer of `room` words: 20 or 23, whichever a channel gives first.
-fn count_channels(size: usize, t: &[u64], q: Sequences, channels: u32, room: usize) -> Read
-    ensures { λ r. ⌜ readSays r ≡ sweptCount size room (spreadsFrom (now (t .entry)) q 0 channels) ⌝ }
+// Whether the samples of every channel lie in a file of `size` octets.
+fn all_lie(size: usize, t: &[u64], q: Sequences, channels: u32) -> bool
+    ensures { λ r. ⌜ r ≡ allLie size (spreadsFrom (now (t .entry)) q 0 channels) ⌝ }
 {
     let mut channel = 0usize;
-    let mut n = 0usize;
     while channel < channels as usize {
         let x = spread_at(t, q, channel);
         if x.lies(size) {
-            let count = x.count();
-            if ((room - n) as u64) < count {
-                return Read::Refused(Refusal {
-                    number: Refusal::NO_ROOM,
-                    place: 0,
-                });
-            }
-            n += count as usize;
             channel += 1;
         } else {
-            return Read::Refused(Refusal {
-                number: Refusal::NO_FRAME,
-                place: 0,
-            });
+            return false;
         }
     }
-    Read::Samples(n)
+    true
 }
 
-// All n samples of a channel, from `at` on in the buffer.
+// The first n samples of a channel, from `at` on in the buffer.
 fn lay_whole(s: &[u8], x: Spread, n: usize, out: &mut [u64], at: usize)
     requires { ⌜ Layable (length (now s)) (length (now out)) x 0 n at ⌝ }
     ensures { λ _. ⌜ now (out .exit) ≡ sets (now (out .entry)) at (bitsFrom (bitsSpread (now (s .entry)) x) 0 n) ⌝ }
@@ -466,32 +455,45 @@ fn lay_whole(s: &[u8], x: Spread, n: usize, out: &mut [u64], at: usize)
     }
 }
 
-// The samples of channels, which were counted, at the front of the buffer.
-fn lay_counted(s: &[u8], t: &[u64], q: Sequences, channels: u32, out: &mut [u64])
-    requires { ⌜ Countable (length (now s)) (length (now out)) (spreadsFrom (now t) q 0 channels) ⌝ }
-    ensures { λ _. ⌜ now (out .exit) ≡ sets (now (out .entry)) 0 (sweptBits (now (s .entry)) (spreadsFrom (now (t .entry)) q 0 channels)) ⌝ }
+// How many of so many samples there is room for.
+pub fn fitting(room: usize, count: u64) -> usize
+    ensures { λ r. ⌜ r ≡ min room count ⌝ }
+{
+    if count < room as u64 {
+        return count as usize;
+    }
+    room
+}
+
+// The samples of channels that lie in the file, at the front of the buffer, as many as fit or there are; how many.
+fn lay_all(s: &[u8], t: &[u64], q: Sequences, channels: u32, out: &mut [u64]) -> usize
+    requires { ⌜ allLie (length (now s)) (spreadsFrom (now t) q 0 channels) ≡ true ⌝ }
+    ensures { λ r. ⌜ r ≡ length (take (length (now (out .entry))) (sweptBits (now (s .entry)) (spreadsFrom (now (t .entry)) q 0 channels))) ⌝ }
+    ensures { λ _. ⌜ now (out .exit) ≡ sets (now (out .entry)) 0 (take (length (now (out .entry))) (sweptBits (now (s .entry)) (spreadsFrom (now (t .entry)) q 0 channels))) ⌝ }
 {
     let mut channel = 0usize;
     let mut at = 0usize;
     while channel < channels as usize {
         let x = spread_at(t, q, channel);
-        let n = x.count() as usize;
+        let n = fitting(out.len() - at, x.count());
         lay_whole(s, x, n, out, at);
         at += n;
         channel += 1;
     }
+    at
 }
 
-// The bits of all samples of the first `channels` channels of a frame, those of one channel after those of another, at the front of the buffer.
+// The bits of the samples of the first `channels` channels of a frame, those of one channel after those of another, at the front of the buffer: as many as
+// fit or there are.
 pub fn lay_channels(s: &[u8], t: &[u64], q: Sequences, channels: u32, out: &mut [u64]) -> Read
     ensures { λ r. ⌜ readSays r ≡ mapAnswer length (sweptOf (now (s .entry)) (length (now (out .entry))) (spreadsFrom (now (t .entry)) q 0 channels)) ⌝ }
     ensures { λ _. ⌜ now (out .exit) ≡ leftBy (sweptOf (now (s .entry)) (length (now (out .entry))) (spreadsFrom (now (t .entry)) q 0 channels)) (now (out .entry)) ⌝ }
 {
-    match count_channels(s.len(), t, q, channels, out.len()) {
-        Read::Refused(x) => Read::Refused(x),
-        Read::Samples(n) => {
-            lay_counted(s, t, q, channels, out);
-            Read::Samples(n)
-        }
+    if all_lie(s.len(), t, q, channels) {
+        return Read::Samples(lay_all(s, t, q, channels, out));
     }
+    Read::Refused(Refusal {
+        number: Refusal::NO_FRAME,
+        place: 0,
+    })
 }

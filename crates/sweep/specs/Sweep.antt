@@ -26,6 +26,6 @@ sequencesBy v = record { count = v .sequences; little = v .little; place = v .pl
 abbrev pub spreadsIn : List ℕ → List Spread
 spreadsIn u = spreadsFrom (drop headWords u) (sequencesBy (waveformIn u)) 0 (waveformIn u .channels)
 
--- All its samples: 20 where it told of none, and else as many as there are.
+-- All its samples, as many as there is room for: 20 where it told of none, and where the samples of a channel do not lie in the file.
 unfoldable pub sweepIn : List ℕ → List ℕ → ℕ → Answer (List ℕ)
 sweepIn s u room = pick (holdsFrame u) (sweptOf s room (spreadsIn u)) (refusedAs noFrame 0)

@@ -29,7 +29,7 @@ fn holds_frame(w: &[u64]) -> bool
     v.channels as usize <= (w.len() - Kept::HEAD) / Records::WORDS
 }
 
-// The bits of all samples of the frame that the last step told of, channel after channel, at the front of the buffer.
+// The bits of all samples of the frame that the last step told of, channel after channel, at the front of the buffer: as many as fit or there are.
 pub fn sweep(s: &[u8], w: &[u64], out: &mut [u64]) -> Read
     ensures { λ r. ⌜ readSays r ≡ mapAnswer length (sweepIn (now (s .entry)) (now (w .entry)) (length (now (out .entry)))) ⌝ }
     ensures { λ _. ⌜ now (out .exit) ≡ leftBy (sweepIn (now (s .entry)) (now (w .entry)) (length (now (out .entry)))) (now (out .entry)) ⌝ }

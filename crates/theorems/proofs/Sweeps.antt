@@ -4,18 +4,16 @@
 --     swept-whole    what is read of the frame
 -- Assumes nothing.
 use mathlib.Core.Path.{_≡_, refl, sym, ap, _∙_}
-use mathlib.Core.Bool.{Bool, true, false}
-use mathlib.Core.List.{List, [], _∷_, _++_}
+use mathlib.Core.Bool.{Bool, true}
+use mathlib.Core.List.{List, _++_}
 use Prim.Native.Nat.{ℕ, zero, suc, _+_, _-_, _≤_, _<_}
-use native.Mathlib.Nat.{add-comm}
 use native.Mathlib.Omega.{arith}
-use borrow.Author.Tests.{leb-true, leb-false, le-leb, lt-leb}
-use lib.Dec.{leb}
-use lib.ListN.{length, drop, getD, length-append, length-take}
+use borrow.Author.Tests.{le-leb}
+use lib.ListN.{length, take, drop, getD, length-take}
 use Rattle.octets.specs.Pick.{pick}
 use Rattle.octets.specs.Number.{Octets}
-use Rattle.heads.specs.Refusals.{noFrame, noRoom}
-use Rattle.heads.specs.Answer.{Answer, answered, refusedAs, mapAnswer}
+use Rattle.heads.specs.Refusals.{noFrame}
+use Rattle.heads.specs.Answer.{answered, refusedAs}
 use Rattle.layout.specs.Frame.{Frame, samplesOf}
 use Rattle.laid.specs.Laid.{sampleBits}
 use Rattle.dated.specs.Dated.{held}
@@ -24,9 +22,8 @@ use Rattle.records.specs.Records.{recordsIn, recordsHeld}
 use Rattle.records.proofs.Laws.{records-long}
 use Rattle.strides.specs.declared.Spread.{Spread}
 use Rattle.strides.specs.Spread.{countSpread, liesSpread, bitsSpread, bitsFrom}
-use Rattle.strides.specs.Channels.{spreadAt, spreadsFrom, sweptCount, sweptBits, sweptOf}
-use Rattle.strides.proofs.Walks.{length-bits, bits-same}
-use Rattle.strides.proofs.Lying.{rest-test}
+use Rattle.strides.specs.Channels.{spreadAt, spreadsFrom, allLie, sweptBits, sweptOf}
+use Rattle.strides.proofs.Walks.{bits-same}
 use Rattle.view.specs.declared.View.{View}
 use Rattle.view.specs.View.{viewOf, liesIn, placeSeen}
 use Rattle.verdict.specs.Verdict.{accepted, verdict}
@@ -51,61 +48,6 @@ use Rattle.theorems.specs.Walks.{wholeFrom, wholeIn}
 pub same-frames : {fs gs : List Frame} → accepted fs ≡ accepted gs → fs ≡ gs
 unfolding framesIn
 same-frames e = ap framesIn e
-
--- ---- channels that all lie in the file
-
-abbrev AllLie : ℕ → List Spread → Type 0
-AllLie size [] = Unit {0}
-AllLie size (x ∷ xs) = (liesSpread size x ≡ true) × AllLie size xs
-
--- Their samples together.
-abbrev total : List Spread → ℕ
-total [] = 0
-total (x ∷ xs) = countSpread x + total xs
-
--- The answer where there is room for so many or not.
-abbrev roomFor : {A : Type 0} → ℕ → ℕ → A → Answer A
-roomFor n room a = pick (leb n room) (answered a) (refusedAs noRoom 0)
-
-count-room : (n k room : ℕ) → pick (leb n room) (mapAnswer (λ m. n + m) (roomFor k (room - n) k)) (refusedAs noRoom 0) ≡ roomFor (n + k) room (n + k)
-count-room n k room = by (leb n room) refl
-  where
-    by : (t : Bool) → leb n room ≡ t → pick t (mapAnswer (λ m. n + m) (roomFor k (room - n) k)) (refusedAs noRoom 0) ≡ roomFor (n + k) room (n + k)
-    by true e =
-        let same : leb k (room - n) ≡ leb (n + k) room = rest-test k n room (leb-true n room e) ∙ ap (λ (m : ℕ). leb m room) (add-comm k n) in
-        inner (leb k (room - n)) ∙ ap (λ (t : Bool). pick t (answered (n + k)) (refusedAs noRoom 0)) same
-      where
-        inner : (t : Bool) → mapAnswer (λ m. n + m) (pick t (answered k) (refusedAs noRoom 0)) ≡ pick t (answered (n + k)) (refusedAs noRoom 0)
-        inner true = refl
-        inner false = refl
-    by false e =
-        let over : leb (n + k) room ≡ false = lt-leb (n + k) room (omega (arith, leb-false n room e)) in
-        ap (λ (t : Bool). pick t (answered (n + k)) (refusedAs noRoom 0)) (sym over)
-
-all-counted : (size room : ℕ) (xs : List Spread) → AllLie size xs → sweptCount size room xs ≡ roomFor (total xs) room (total xs)
-unfolding sweptCount
-all-counted size room [] l = ap (λ (t : Bool). pick t (answered 0) (refusedAs noRoom 0)) (sym (le-leb 0 room (omega arith)))
-all-counted size room (x ∷ xs) l =
-    let n = countSpread x in
-    ap (λ (t : Bool). pick t (pick (leb n room) (mapAnswer (λ m. n + m) (sweptCount size (room - n) xs)) (refusedAs noRoom 0)) (refusedAs noFrame 0)) (l .0)
-    ∙ ap (λ (a : Answer ℕ). pick (leb n room) (mapAnswer (λ m. n + m) a) (refusedAs noRoom 0)) (all-counted size (room - n) xs (l .1))
-    ∙ count-room n (total xs) room
-
-all-long : (s : List ℕ) (xs : List Spread) → total xs ≡ length (sweptBits s xs)
-unfolding sweptBits
-all-long s [] = refl
-all-long s (x ∷ xs) = omega (arith, all-long s xs, length-append (bitsFrom (bitsSpread s x) 0 (countSpread x)) (sweptBits s xs), length-bits (bitsSpread s x) 0 (countSpread x))
-
-all-swept : (s : List ℕ) (room : ℕ) (xs : List Spread) → AllLie (length s) xs → sweptOf s room xs ≡ roomFor (length (sweptBits s xs)) room (sweptBits s xs)
-unfolding sweptOf
-all-swept s room xs l =
-    ap (mapAnswer (λ n. sweptBits s xs)) (all-counted (length s) room xs l)
-    ∙ by (leb (total xs) room)
-    ∙ ap (λ (n : ℕ). roomFor n room (sweptBits s xs)) (all-long s xs)
-  where
-    by : (t : Bool) → mapAnswer (λ n. sweptBits s xs) (pick t (answered (total xs)) (refusedAs noRoom 0)) ≡ pick t (answered (sweptBits s xs)) (refusedAs noRoom 0)
-    by true = refl
-    by false = refl
 
 -- ---- the channels of a frame of the file
 
@@ -151,10 +93,10 @@ module _ (s : List ℕ) (o : Octets s) (i : ℕ) (w : List ℕ) (there : holdsFr
       bits-same (bitsSpread s (spread c)) (sampleBits frame c) 0 0 (countSpread (spread c)) (λ j l. bits-seen (found c h) {n = 0 + j} (omega arith) ∙ ap (λ (f : Frame). sampleBits f c (0 + j)) (same-frame c h))
       ∙ ap (bitsFrom (sampleBits frame c) 0) (count c h)
 
-  all-lie : (k n : ℕ) → k + n ≤ many → AllLie (length s) (spreadsFrom (drop headWords w) (sequencesBy (waveformIn w)) k n)
-  unfolding spreadsFrom
-  all-lie k zero h = tt
-  all-lie k (suc n) h = (lies k (omega arith), all-lie (suc k) n (omega arith))
+  all-lie : (k n : ℕ) → k + n ≤ many → allLie (length s) (spreadsFrom (drop headWords w) (sequencesBy (waveformIn w)) k n) ≡ true
+  unfolding spreadsFrom allLie
+  all-lie k zero h = refl
+  all-lie k (suc n) h = simp (lies k (omega arith), all-lie (suc k) n (omega arith))
 
   whole : (k n : ℕ) → k + n ≤ many → sweptBits s (spreadsFrom (drop headWords w) (sequencesBy (waveformIn w)) k n) ≡ wholeFrom frame k n
   unfolding spreadsFrom sweptBits wholeFrom
@@ -166,9 +108,10 @@ module _ (s : List ℕ) (o : Octets s) (i : ℕ) (w : List ℕ) (there : holdsFr
   channels-there = ap (λ (v : View). v .channels) (first .view)
 
   pub swept-whole : (room : ℕ) → sweepIn s w room ≡ asked (wholeIn room) i 0 (verdict s)
+  unfolding sweptOf
   swept-whole room =
       let x : sweptBits s (spreadsIn w) ≡ wholeFrom frame 0 (length (frame .channels)) = whole 0 many (omega arith) ∙ ap (wholeFrom frame 0) channels-there in
       sym (sweep-held s w room there)
-      ∙ all-swept s room (spreadsIn w) (all-lie 0 many (omega arith))
-      ∙ ap (λ (y : List ℕ). roomFor (length y) room y) x
+      ∙ ap (λ (b : Bool). pick b (answered (take room (sweptBits s (spreadsIn w)))) (refusedAs noFrame 0)) (all-lie 0 many (omega arith))
+      ∙ ap (λ (y : List ℕ). answered (take room y)) x
       ∙ sym (asked-found i 0 (first .verdictIs) (first .frameIn) (first .channelIs) (wholeIn room))

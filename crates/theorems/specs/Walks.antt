@@ -2,11 +2,8 @@
 use mathlib.Core.Path.{_≡_}
 use mathlib.Core.List.{List, [], _++_}
 use Prim.Native.Nat.{ℕ, zero, suc}
-use lib.Dec.{leb}
-use lib.ListN.{length}
-use Rattle.octets.specs.Pick.{pick}
-use Rattle.heads.specs.Refusals.{noRoom}
-use Rattle.heads.specs.Answer.{Answer, answered, refusedAs, mapAnswer}
+use lib.ListN.{length, take}
+use Rattle.heads.specs.Answer.{Answer, answered, mapAnswer}
 use Rattle.layout.specs.Frame.{Frame, samplesOf}
 use Rattle.laid.specs.Laid.{sampleBits}
 use Rattle.strides.specs.Spread.{bitsFrom}
@@ -32,9 +29,9 @@ unfoldable pub wholeFrom : Frame → ℕ → ℕ → List ℕ
 wholeFrom f k zero = []
 wholeFrom f k (suc n) = bitsFrom (sampleBits f k) 0 (samplesOf k f) ++ wholeFrom f (suc k) n
 
--- All samples of a frame, in a buffer with room for so many: 23 where it does not hold them.
+-- All samples of a frame, as many as there is room for.
 abbrev pub wholeIn : ℕ → Frame → Answer (List ℕ)
-wholeIn room f = let x = wholeFrom f 0 (length (f .channels)) in pick (leb (length x) room) (answered x) (refusedAs noRoom 0)
+wholeIn room f = answered (take room (wholeFrom f 0 (length (f .channels))))
 
 -- The words tell of frame i what the questions answer, refusals too: each channel, its attributes, and its samples as bits and as values; and all
 -- samples of all its channels.
