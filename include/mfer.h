@@ -397,19 +397,21 @@ uint32_t mfer_walk_samples(const uint8_t *file, size_t file_len, const uint64_t 
                            uint64_t *count, uint64_t *place);
 
 /*
- * The bits of all samples of the frame that the walk is at: those of channel 0, then those of channel
- * 1, and so on, each channel's in their order, at the front of `out`. The rest of `out`, and at a
- * refusal all of it, keeps what it held. A channel has as many samples as the frame has sequences,
- * times the channel's block length; together they are at most frame[MFER_FRAME_LENGTH], so a buffer of
- * that many always holds them.
+ * The bits of the samples of the frame that the walk is at: those of channel 0, then those of channel
+ * 1, and so on, each channel's in their order, at the front of `out`, as many as there are or as fit.
+ * The rest of `out`, and at a refusal all of it, keeps what it held.
+ *
+ * A channel has as many samples as the frame has sequences, times the channel's block length. This
+ * says whether there are more than *count where *count is out_len. All channels together have at most
+ * frame[MFER_FRAME_LENGTH], so a buffer of that many always holds them.
  *
  * This is the fastest way to read a file whole: one call a frame.
  *
- * *count   how many were written; 0 for a frame of no sequences
+ * *count   how many were written; with an answer 0 only where out_len is 0 or the frame has no
+ *          sequences
  *
- * Refusals: MFER_NO_FRAME where the walk is at no frame; then channel by channel MFER_NO_FRAME where
- * its samples do not lie in this file, which then is not the one that was opened, and MFER_NO_ROOM
- * where `out` does not hold them.
+ * Refusals: MFER_NO_FRAME where the walk is at no frame, and where the samples of any channel, also of
+ * one that `out` has no room for, do not lie in this file, which then is not the one that was opened.
  */
 uint32_t mfer_walk_frame(const uint8_t *file, size_t file_len, const uint64_t walk[MFER_WALK],
                          uint64_t *out, size_t out_len, uint64_t *count, uint64_t *place);
