@@ -57,7 +57,7 @@
  * of mfer_walk_next together, each of which goes from one frame to the next. It looks at each channel
  * of each frame once. mfer_walk_channel, mfer_walk_samples, mfer_walk_frame and mfer_walk_values go
  * through no items: the first takes the same short time in any file, and the others the time to copy
- * the samples that they read.
+ * the samples that they read; mfer_walk_frame looks at each channel of the frame for this.
  *
  * Every other function goes through all items of the file, whatever it asks for: the time grows with
  * the number of items and not with the length of the waveforms, which are stepped over.
@@ -401,9 +401,9 @@ uint32_t mfer_walk_samples(const uint8_t *file, size_t file_len, const uint64_t 
  * 1, and so on, each channel's in their order, at the front of `out`, as many as there are or as fit.
  * The rest of `out`, and at a refusal all of it, keeps what it held.
  *
- * A channel has as many samples as the frame has sequences, times the channel's block length. This
- * says whether there are more than *count where *count is out_len. All channels together have at most
- * frame[MFER_FRAME_LENGTH], so a buffer of that many always holds them.
+ * A channel has as many samples as the frame has sequences, times the channel's block length. Over all
+ * channels they are at most frame[MFER_FRAME_LENGTH], so a buffer of that many always holds them; in a
+ * shorter one that is full, their sum tells whether there are more.
  *
  * This is the fastest way to read a file whole: one call a frame.
  *
