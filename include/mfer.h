@@ -57,7 +57,7 @@
  * of mfer_walk_next together, each of which goes from one frame to the next. It looks at each channel
  * of each frame once. mfer_walk_channel, mfer_walk_samples, mfer_walk_frame and mfer_walk_values go
  * through no items: the first takes the same short time in any file, and the others the time to copy
- * the samples that they read.
+ * the samples that they read; mfer_walk_frame looks at each channel of the frame for this.
  *
  * Every other function goes through all items of the file, whatever it asks for: the time grows with
  * the number of items and not with the length of the waveforms, which are stepped over.
@@ -397,19 +397,21 @@ uint32_t mfer_walk_samples(const uint8_t *file, size_t file_len, const uint64_t 
                            uint64_t *count, uint64_t *place);
 
 /*
- * The bits of all samples of the frame that the walk is at: those of channel 0, then those of channel
- * 1, and so on, each channel's in their order, at the front of `out`. The rest of `out`, and at a
- * refusal all of it, keeps what it held. A channel has as many samples as the frame has sequences,
- * times the channel's block length; together they are at most frame[MFER_FRAME_LENGTH], so a buffer of
- * that many always holds them.
+ * The bits of the samples of the frame that the walk is at: those of channel 0, then those of channel
+ * 1, and so on, each channel's in their order, at the front of `out`, as many as there are or as fit.
+ * The rest of `out`, and at a refusal all of it, keeps what it held.
+ *
+ * A channel has as many samples as the frame has sequences, times the channel's block length. Over all
+ * channels they are at most frame[MFER_FRAME_LENGTH], so a buffer of that many always holds them; in a
+ * shorter one that is full, their sum tells whether there are more.
  *
  * This is the fastest way to read a file whole: one call a frame.
  *
- * *count   how many were written; 0 for a frame of no sequences
+ * *count   how many were written; with an answer 0 only where out_len is 0 or the frame has no
+ *          sequences
  *
- * Refusals: MFER_NO_FRAME where the walk is at no frame; then channel by channel MFER_NO_FRAME where
- * its samples do not lie in this file, which then is not the one that was opened, and MFER_NO_ROOM
- * where `out` does not hold them.
+ * Refusals: MFER_NO_FRAME where the walk is at no frame, and where the samples of any channel, also of
+ * one that `out` has no room for, do not lie in this file, which then is not the one that was opened.
  */
 uint32_t mfer_walk_frame(const uint8_t *file, size_t file_len, const uint64_t walk[MFER_WALK],
                          uint64_t *out, size_t out_len, uint64_t *count, uint64_t *place);

@@ -597,19 +597,18 @@ static void same_channel(const uint8_t *file, size_t file_len, const uint64_t *w
     }
 }
 
-/* All samples of a frame in a buffer of this length, whose memory ends with it: they are the `samples`
-   words at `expected`, or there is no room for them. */
+/* All samples of a frame are the `samples` words at `expected`: as many of them as fit are told in a buffer
+   of this length, whose memory ends with it. */
 static void expect_frame(const uint8_t *file, size_t file_len, const uint64_t *walk,
                          const uint64_t *expected, size_t samples, size_t room)
 {
     uint64_t *out = (uint64_t *)malloc(room * sizeof *out);
     uint64_t count = UNSET, place = UNSET;
-    size_t told = samples <= room ? samples : 0, i;
+    size_t told = samples <= room ? samples : room, i;
 
     for (i = 0; i < room; i++)
         out[i] = UNSET;
-    EXPECT(mfer_walk_frame(file, file_len, walk, out, room, &count, &place) ==
-           (samples <= room ? MFER_OK : MFER_NO_ROOM));
+    EXPECT(mfer_walk_frame(file, file_len, walk, out, room, &count, &place) == MFER_OK);
     EXPECT(count == told && place == 0);
     for (i = 0; i < room; i++)
         EXPECT(out[i] == (i < told ? expected[i] : UNSET));
@@ -636,10 +635,10 @@ static void same_frame(const uint8_t *file, size_t file_len, const uint64_t *wal
     expect_frame(file, file_len, walk, expected, samples, room - 1);
     if (samples > 0) {
         expect_frame(file, file_len, walk, expected, samples, samples - 1);
-        count = place = UNSET;
-        EXPECT(mfer_walk_frame(file, file_len, walk, NULL, 0, &count, &place) == MFER_NO_ROOM);
-    } else
-        EXPECT(mfer_walk_frame(file, file_len, walk, NULL, 0, &count, &place) == MFER_OK);
+        expect_frame(file, file_len, walk, expected, samples, samples / 2);
+    }
+    count = place = UNSET;
+    EXPECT(mfer_walk_frame(file, file_len, walk, NULL, 0, &count, &place) == MFER_OK);
     EXPECT(count == 0 && place == 0);
     free(expected);
 }
@@ -980,9 +979,9 @@ static void expect_safe(const uint8_t *file, size_t file_len, const uint64_t *wa
 }
 
 /*
- * All samples by the walk's questions for each channel, channel after channel: how many, in a buffer with
- * this room, or the refusal. Of a channel without samples they do not tell whether it is refused; then
- * *certain is 0.
+ * All samples by the walk's questions for each channel, channel after channel: as many as fit in a buffer
+ * with this room, or the refusal. Of a channel without samples they do not tell whether it is refused;
+ * then *certain is 0.
  */
 static uint32_t channel_by_channel(const uint8_t *file, size_t file_len, const uint64_t *walk,
                                    uint64_t *out, size_t room, size_t *samples, int *certain)
@@ -1003,17 +1002,14 @@ static uint32_t channel_by_channel(const uint8_t *file, size_t file_len, const u
             return MFER_NO_FRAME;
         if (refusal == MFER_NO_SAMPLE)
             *certain = 0;
-        else if ((uint64_t)numbers[MFER_NUMBER_SEQUENCES] * (uint64_t)numbers[MFER_NUMBER_BLOCK] >
-                 room - *samples)
-            return MFER_NO_ROOM;
         *samples += (size_t)count;
         channel++;
     }
     return MFER_OK;
 }
 
-/* How often a frame of any words was told whole and had samples. */
-static int whole;
+/* How often samples of a frame of any words were told. */
+static int swept;
 
 /* Whatever the words are: all samples of the frame are what the questions for each channel tell. The
    buffer's memory ends with it. */
@@ -1035,7 +1031,7 @@ static void expect_safe_frame(const uint8_t *file, size_t file_len, const uint64
     EXPECT(count == samples && place == 0);
     for (i = 0; i < room; i++)
         EXPECT(out[i] == (i < samples ? expected[i] : UNSET));
-    whole += samples > 0;
+    swept += samples > 0;
     free(expected);
     free(out);
 }
@@ -1073,7 +1069,7 @@ static void walk_of_any_words(void)
     uint8_t *file = many_frames(20, &length);
     uint64_t *walk = (uint64_t *)malloc(MFER_WALK * sizeof *walk);
     int round, told = 0;
-    whole = 0;
+    swept = 0;
     for (i = 0; i < MFER_WALK; i++)
         walk[i] = random_word();
     for (round = 0; round < 10000; round++) {
@@ -1083,7 +1079,7 @@ static void walk_of_any_words(void)
             walk[random_number() % MFER_WALK] = random_word();
         told += goes_on_safely(file, length, walk);
     }
-    EXPECT(told > 100 && whole > 100);
+    EXPECT(told > 100 && swept > 100);
     free(walk);
     free(file);
 }
@@ -1098,7 +1094,7 @@ static void walk_with_one_word_changed(void)
     uint64_t frames, place, frame[MFER_FRAME_NUMBERS];
     int64_t start;
     int round, told = 0;
-    whole = 0;
+    swept = 0;
     for (round = 0; round < 10000; round++) {
         if (round % 20 == 0)
             EXPECT(mfer_walk_open(file, length, walk, &frames, &place) == MFER_OK && frames == 20);
@@ -1107,7 +1103,7 @@ static void walk_with_one_word_changed(void)
         told += goes_on_safely(file, length, changed);
         EXPECT(mfer_walk_next(file, length, walk, &start, frame, &place) == MFER_OK);
     }
-    EXPECT(told > 1000 && whole > 1000);
+    EXPECT(told > 1000 && swept > 1000);
     free(changed);
     free(walk);
     free(file);

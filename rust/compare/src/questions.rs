@@ -3,6 +3,7 @@
 use mfer::ffi::{self, Checked, Described, Filled, Sampled, Seen, Stepped, Walk};
 use second::reader::{self, Attributes, Met, Refusal, Series, Value};
 use second::writer;
+use std::collections::BTreeSet;
 use std::fmt::Debug;
 
 /// What buffers hold before a question.
@@ -251,9 +252,10 @@ fn ask_frame(file: &[u8], walk: &mut Walk, number: u32, met: Met, channels: &[Se
         ask_series(file, walk, channel, series, question)?;
     }
     let count = channels.iter().map(Series::samples).sum::<u64>() as usize;
-    for room in [0, count.saturating_sub(1), count, count + 3] {
+    let rooms = [0, 1, count / 2, count.saturating_sub(1), count, count + 3];
+    for room in BTreeSet::from(rooms) {
         let question = || format!("all samples of frame {number}, room for {room}");
-        let all = |out: &mut [u64]| reader::all_samples(channels, out);
+        let all = |out: &mut [u64]| Ok(reader::all_samples(channels, out));
         same_frame(file, walk, room, question, all)?;
     }
     let no_channel = Refusal {

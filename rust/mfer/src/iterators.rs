@@ -160,29 +160,28 @@ impl<'a> Frame<'a> {
         Channel::look_up(self.file, self.walk.clone(), self.number, channel)
     }
 
-    /// How many samples all channels have together: the room that [`Frame::samples`] needs. It is at
-    /// most the length of the waveform, which is there without a look at the channels.
+    /// How many samples all channels have together: the room that [`Frame::samples`] needs for all of
+    /// them. It is at most the length of the waveform, which is there without a look at the channels.
     pub fn sample_count(&self) -> Result<usize, Refusal> {
         let count = |channel: Channel| channel.attributes().samples() as usize;
         self.channels().map(|channel| channel.map(count)).sum()
     }
 
-    /// Fills the front of `out` with the bits of all samples, those of channel 0, then those of channel
-    /// 1, and so on, and answers how many: the fastest way to read a file whole. The rest of `out` keeps
-    /// what it held; so does all of it where it does not hold the samples, which is
-    /// [`Refusal::NO_ROOM`]. Nothing else of the file is read.
+    /// Fills `out` with the bits of samples, those of channel 0, then those of channel 1, and so on, as
+    /// many as fit or there are, and answers how many; the rest of `out` keeps what it held. Nothing
+    /// else of the file is read. This is the fastest way to read a file whole.
     ///
     /// ```
-    /// use mfer::{File, Refusal};
-    ///
     /// // Two channels of one octet, blocks of 2 and 1, two sequences.
     /// let octets = [0x05, 1, 2, 0x0A, 1, 3, 0x3F, 0, 3, 0x04, 1, 2, 0x1E, 6, 1, 2, 7, 3, 4, 8];
-    /// let frame = File::new(&octets).frame(0)?;
+    /// let frame = mfer::File::new(&octets).frame(0)?;
     /// let mut bits = vec![0; frame.sample_count()?];
     /// assert_eq!(frame.samples(&mut bits)?, 6);
     /// assert_eq!(bits, [1, 2, 3, 4, 7, 8]);
-    /// assert_eq!(frame.samples(&mut bits[1..]).unwrap_err().number, Refusal::NO_ROOM);
-    /// # Ok::<(), Refusal>(())
+    /// let mut first = [0; 5];
+    /// assert_eq!(frame.samples(&mut first)?, 5);
+    /// assert_eq!(first, bits[..5]);
+    /// # Ok::<(), mfer::Refusal>(())
     /// ```
     pub fn samples(&self, out: &mut [u64]) -> Result<usize, Refusal> {
         self.walk.frame(self.file, out)

@@ -46,7 +46,7 @@ impl Walk {
         Refusal::or(filled.number, filled.place, filled.count as usize)
     }
 
-    /// Reads all samples of the frame that the walk is at, channel after channel.
+    /// Reads samples of the frame that the walk is at, channel after channel.
     pub fn frame(&self, file: File, out: &mut [u64]) -> Result<usize, Refusal> {
         let filled = ffi::walk_frame(file.octets(), &self.0, out);
         Refusal::or(filled.number, filled.place, filled.count as usize)

@@ -169,30 +169,27 @@ fn frames_and_channels_that_are_not_there() {
     assert_eq!((refusal.number, out), (Refusal::NO_SAMPLE, [1, 1, 2, 7]));
 }
 
-/// A frame is read whole or not at all.
+/// Of a frame as many samples are read as fit, and nothing else is written.
 #[test]
 fn all_samples_of_a_frame() {
     let octets = two_channels(3);
     let frame = File::new(&octets).frame(0).unwrap();
-    assert_eq!(frame.sample_count(), Ok(9));
-    assert!(frame.waveform().len() >= 9);
-    let mut bits = [7; 11];
-    let no_room = Refusal {
-        number: Refusal::NO_ROOM,
-        place: 0,
-    };
-    for room in 0..9 {
-        assert_eq!(frame.samples(&mut bits[..room]), Err(no_room));
-        assert_eq!(bits, [7; 11]);
+    let all = [0, 1, 2, 0, 1, 1, 2, 2, 3];
+    assert_eq!(frame.sample_count(), Ok(all.len()));
+    assert!(frame.waveform().len() >= all.len());
+    for room in 0..12 {
+        let mut bits = [7; 12];
+        let filled = room.min(all.len());
+        assert_eq!(frame.samples(&mut bits[..room]), Ok(filled));
+        assert_eq!(bits[..filled], all[..filled]);
+        assert!(bits[filled..].iter().all(|word| *word == 7));
     }
-    assert_eq!(frame.samples(&mut bits[..9]), Ok(9));
-    assert_eq!(bits, [0, 1, 2, 0, 1, 1, 2, 2, 3, 7, 7]);
     let empty = two_channels(0);
     let frame = File::new(&empty).frame(0).unwrap();
     assert_eq!(frame.sample_count(), Ok(0));
     assert_eq!(frame.samples(&mut []), Ok(0));
-    assert_eq!(frame.samples(&mut bits[..1]), Ok(0));
-    assert_eq!(bits[0], 0);
+    let mut bits = [7];
+    assert_eq!((frame.samples(&mut bits), bits), (Ok(0), [7]));
 }
 
 /// As many frames as a file may have, of as many channels: the file is not gone through for each.

@@ -174,21 +174,14 @@ pub fn frames(octets: &[u8], mut visit: impl FnMut(Met, &[Series])) -> Result<u3
     })
 }
 
-/// Fills the front of `out` with the bits of all samples of the frame that has these channels, those of
-/// one channel after those of another, and answers how many. Where `out` does not hold them, it is left
-/// as it was.
-pub fn all_samples(channels: &[Series], out: &mut [u64]) -> Result<usize, Refusal> {
-    let count = channels.iter().map(Series::samples).sum::<u64>();
-    if count > out.len() as u64 {
-        return Err(Refusal::without_place(Refusal::NO_ROOM));
-    }
-    let mut rest = out;
+/// Fills `out` with the bits of samples of the frame that has these channels, those of one channel after
+/// those of another, as many as fit or there are, and answers how many.
+pub fn all_samples(channels: &[Series], out: &mut [u64]) -> usize {
+    let mut filled = 0;
     for series in channels.iter().filter(|series| series.samples() > 0) {
-        let (own, others) = rest.split_at_mut(series.samples() as usize);
-        series.fill(0, own);
-        rest = others;
+        filled += series.fill(0, &mut out[filled..]);
     }
-    Ok(count as usize)
+    filled
 }
 
 /// Shows `visit` every channel of every frame in turn, in one pass: its attributes and the bits of its

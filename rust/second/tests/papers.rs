@@ -273,11 +273,8 @@ fn all_samples_of_a_frame_come_channel_by_channel() {
             answers.push(all_samples(channels, &mut bits));
         });
         assert_eq!(visited, Ok(1));
-        let (answer, filled) = match room < expected.len() {
-            true => (refused(23, 0), 0),
-            false => (Ok(expected.len()), expected.len()),
-        };
-        assert_eq!(answers, [answer]);
+        let filled = room.min(expected.len());
+        assert_eq!(answers, [filled]);
         assert_eq!(bits[..filled], expected[..filled]);
         assert!(bits[filled..].iter().all(|bits| *bits == 99));
     }
