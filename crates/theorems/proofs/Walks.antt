@@ -7,7 +7,7 @@ use mathlib.Core.Logic.{_↔_}
 use mathlib.Core.List.{List, [], _∷_, _++_}
 use Prim.Native.Nat.{ℕ, zero, suc, _≤_, _<_}
 use native.Mathlib.Omega.{arith}
-use lib.ListN.{length, length-append}
+use lib.ListN.{length, getD, length-append}
 use Rattle.octets.specs.Number.{Octets}
 use Rattle.heads.specs.declared.Refusal.{Refusal}
 use Rattle.heads.specs.Refusals.{noFrame}
@@ -15,6 +15,7 @@ use Rattle.heads.specs.Answer.{Answer, answered, refusedAs, mapAnswer, thenAnsw
 use Rattle.layout.specs.Frame.{Frame}
 use Rattle.view.specs.declared.View.{View}
 use Rattle.verdict.specs.Verdict.{accepted, verdict, checkedAs, checkOf}
+use Rattle.pass.specs.Scan.{zeroFrame}
 use Rattle.reader.specs.declared.LookedUp.{LookedUp}
 use Rattle.reader.specs.Answer.{attributesSeen, askedSample, seenOf}
 use Rattle.reader.proofs.Answers.{Located, located, described-is, unseen}
@@ -27,13 +28,13 @@ use Rattle.walk.proofs.Joins.{reaches-grown}
 use Rattle.walking.specs.Words.{standIn}
 use Rattle.walking.specs.Steps.{stepIn, Goes}
 use Rattle.walking.specs.Views.{viewIn}
-use Rattle.walking.proofs.Walked.{Walked, walked-open, walked-frame, walked-ended, walked-never}
-use Rattle.walking.proofs.Told.{walked-seen}
+use Rattle.walking.proofs.Walked.{Walked, walked-open, walked-counts, walked-frame, walked-ended, walked-never}
+use Rattle.walking.proofs.Told.{walked-is, walked-seen}
 use Rattle.outputs.specs.Outputs.{Outputs, outputs, handedOut}
-use Rattle.outputs.specs.Walks.{FrameOut, frameOut, noFrameValues}
+use Rattle.outputs.specs.Walks.{FrameOut, frameOut, noFrameValues, frameValues, flagNumber, frameNumbersOf}
 use Rattle.mfer.specs.Walks.{WalkNext}
 use Rattle.sweep.specs.Sweep.{holdsFrame}
-use Rattle.theorems.specs.Walks.{Walks, opened, stepped, Tells}
+use Rattle.theorems.specs.Walks.{Walks, opened, stepped, frameShown, Tells}
 use Rattle.theorems.proofs.Sweeps.{same-frames, held-there, swept-whole}
 
 -- What a walk over an accepted file with the frames fs tells.
@@ -41,6 +42,7 @@ pub record WalkTold (s : List ℕ) (fs : List Frame) : Type 0 where
   pub few : {n : ℕ} {w : List ℕ} → Walks s n w → n ≤ length fs
   pub told : {i : ℕ} {w : List ℕ} → Walks s (suc i) w → Tells s i w
   pub goes : {n : ℕ} {u v : List ℕ} {out : Outputs FrameOut} → Walks s n u → WalkNext s u out v → (out .refusal ≡ 0) ↔ (n < length fs)
+  pub shows : {n : ℕ} {u v : List ℕ} {out : Outputs FrameOut} → Walks s n u → WalkNext s u out v → out .refusal ≡ 0 → out ≡ outputs 0 0 (frameShown (getD fs n zeroFrame))
   pub ends : {u v : List ℕ} {out : Outputs FrameOut} → Walks s (length fs) u → WalkNext s u out v → out ≡ outputs noFrame 0 noFrameValues
 
 -- ---- what is asked of a channel that is seen
@@ -121,6 +123,18 @@ module _ (s : List ℕ) (o : Octets s) (fs : List Frame) (is : verdict s ≡ acc
     goes-on h Step.Ended g = let z : ⊥ = omega (arith, ended g) in absurd z
     goes-on h (Step.Refused r) g = absurd (walked-never (m .walked) g)
 
+    -- The numbers that are handed out are the frame's.
+    shows : (k : Step) → Goes s u k v → frameOut (stepSays k) .refusal ≡ 0 → frameOut (stepSays k) ≡ outputs 0 0 (frameShown (getD fs n zeroFrame))
+    unfolding handedOut frameNumbersOf
+    shows (Step.Frame x) g e =
+        let k = walked-counts (m .walked) g in
+        let same : m .walked .all ≡ fs = same-frames (sym (m .walked .is) ∙ is) in
+        let is-frame = sym (walked-is (m .walked) g) ∙ (λ j. getD (same j) (m .long j) zeroFrame) in
+        (λ j. outputs 0 0 (frameValues (x .start) (k .channels j ∷ x .sequences ∷ flagNumber (x .little) ∷ x .place ∷ k .long j ∷ k .octets j ∷ [])))
+        ∙ ap (λ (f : Frame). outputs 0 0 (frameShown f)) is-frame
+    shows Step.Ended g e = let z : ⊥ = omega arith in absurd z
+    shows (Step.Refused r) g e = absurd (walked-never (m .walked) g)
+
     stops : length fs ≡ n → (k : Step) → Goes s u k v → frameOut (stepSays k) ≡ outputs noFrame 0 noFrameValues
     unfolding handedOut
     stops h (Step.Frame x) g = let z : ⊥ = omega (arith, few (by-step m (Step.Frame x) g refl)) in absurd z
@@ -138,5 +152,6 @@ module _ (s : List ℕ) (o : Octets s) (fs : List Frame) (is : verdict s ≡ acc
           λ e. few (meets (stepped w a e)),
           λ h. ap (λ (x : Outputs FrameOut). x .refusal) (a .answers) ∙ goes-on (meets w) h (stepIn s u .step) (a .words),
         );
+        shows = λ {n} {u} {v} {out} w a e. a .answers ∙ shows (meets w) (stepIn s u .step) (a .words) (ap (λ (x : Outputs FrameOut). x .refusal) (sym (a .answers)) ∙ e);
         ends = λ {u} {v} {out} w a. a .answers ∙ stops (meets w) refl (stepIn s u .step) (a .words);
       }

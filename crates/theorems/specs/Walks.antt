@@ -1,10 +1,10 @@
 -- Calls of the functions for C that walk over a file.
 use mathlib.Core.Path.{_≡_}
-use mathlib.Core.List.{List, [], _++_}
+use mathlib.Core.List.{List, [], _∷_, _++_}
 use Prim.Native.Nat.{ℕ, zero, suc}
 use lib.ListN.{length, take}
 use Rattle.heads.specs.Answer.{Answer, answered, mapAnswer}
-use Rattle.layout.specs.Frame.{Frame, samplesOf}
+use Rattle.layout.specs.Frame.{Frame, sequenceOctets, samplesOf}
 use Rattle.laid.specs.Laid.{sampleBits}
 use Rattle.strides.specs.Spread.{bitsFrom}
 use Rattle.verdict.specs.Verdict.{verdict}
@@ -15,7 +15,7 @@ use Rattle.walking.specs.Steps.{Opened}
 use Rattle.walking.specs.Views.{viewIn}
 use Rattle.sweep.specs.Sweep.{sweepIn}
 use Rattle.outputs.specs.Outputs.{Outputs}
-use Rattle.outputs.specs.Walks.{FrameOut}
+use Rattle.outputs.specs.Walks.{FrameOut, frameValues, flagNumber}
 use Rattle.mfer.specs.Walks.{WalkNext, walkRead, walkValues}
 
 -- The words that a walk over a file s is left in by mfer_walk_open, whatever they held, and then by n calls of mfer_walk_next, each of which handed a frame
@@ -32,6 +32,12 @@ wholeFrom f k (suc n) = bitsFrom (sampleBits f k) 0 (samplesOf k f) ++ wholeFrom
 -- All samples of a frame, as many as there is room for.
 abbrev pub wholeIn : ℕ → Frame → Answer (List ℕ)
 wholeIn room f = answered (take room (wholeFrom f 0 (length (f .channels))))
+
+-- What mfer_walk_next hands out of a frame: its start pointer, its channels, sequences and byte order, the place and the length of its waveform, and the octets of a
+-- sequence.
+abbrev pub frameShown : Frame → FrameOut
+frameShown f =
+    frameValues (f .start) (length (f .channels) ∷ f .sequences ∷ flagNumber (f .little) ∷ f .place ∷ length (f .waveform) ∷ sequenceOctets (f .channels) ∷ [])
 
 -- The words tell of frame i what the questions answer, refusals too: each channel, its attributes, and its samples as bits and as values; and all
 -- samples of all its channels.

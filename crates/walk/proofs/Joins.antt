@@ -10,7 +10,7 @@ use mathlib.Core.Path.{_≡_, refl, sym, ap, subst, _∙_}
 use mathlib.Core.List.{List, [], _∷_, _++_, append-assoc, append-nil, map}
 use Prim.Native.Nat.{ℕ, zero, suc, _+_, _-_, _%_, _^_, _≤_, _<_, min}
 use native.Mathlib.Omega.{arith}
-use lib.ListN.{length, take, drop, length-append, length-set, length-map, replicate, length-replicate}
+use lib.ListN.{length, take, drop, length-append, length-take, length-set, length-map, replicate, length-replicate}
 use Rattle.items.specs.declared.Item.{Item}
 use Rattle.items.specs.declared.Cursor.{Cursor}
 use Rattle.items.specs.declared.Next.{Next}
@@ -40,7 +40,7 @@ use Rattle.records.proofs.Laws.{timely-outdated, table-outdated}
 use Rattle.verdict.specs.Verdict.{State, state, goes, refuses, withFrame, carried, placeAt, accepted, refused, interpret, verdict}
 use Rattle.verdict.specs.Reached.{Reached, begin, behind as one-behind}
 use Rattle.verdict.proofs.Keeps.{Keeps, frames-kept, interpret-refuses, reached-verdict}
-use Rattle.verdict.proofs.Steps.{meaning-steps, step-grown}
+use Rattle.verdict.proofs.Steps.{meaning-steps, step-grown, waveform-found}
 use Rattle.verdict.proofs.Frames.{frame-carried, count-few, taken-root}
 use Rattle.verdict.proofs.Settled.{carried-count, carried-all, carried-one}
 use Rattle.walk.specs.declared.Waveform.{Waveform}
@@ -99,10 +99,11 @@ reaches-grown {s} {met} {x} {fs} p e =
 
 -- ---- what an advance comes to
 
--- A waveform says how many channels its frame has, and the octets of a sequence.
+-- A waveform says how many channels its frame has, the octets of a sequence, and its own length.
 pub record Counts (v : Waveform) (f : Frame) : Type 0 where
   pub channels : v .channels ≡ length (f .channels)
   pub octets : v .octets ≡ sequenceOctets (f .channels)
+  pub long : v .len ≡ length (f .waveform)
 
 -- What an advance from a place comes to: behind one frame more, or the verdict.
 abbrev pub StepReaches : List ℕ → List Frame → ℕ → Step → Stand → Type 0
@@ -168,6 +169,12 @@ module _ {s : List ℕ} {met : List Frame} {x : Stand} (p : Reaches s met x) whe
       shown : channelsAt x ≡ take count (standsFor x)
       shown = let e : min count channelLimit ≡ count = omega (arith, few) in ap (λ (n : ℕ). take n (standsFor x)) e
 
+      -- A waveform has as many octets as its item has.
+      whole : len ≡ length (take len (drop start s))
+      whole =
+          let w = waveform-found s (x .standing) i a refl in
+          omega (arith, w .counts, length-take (w .len) (drop start s), length-take len (drop start s))
+
       abbrev given : Framed
       given = framedBy (x .frames) (x .standing) (laid .agree) (laid .octets) len
 
@@ -204,7 +211,7 @@ module _ {s : List ℕ} {met : List Frame} {x : Stand} (p : Reaches s met x) whe
                     waveform = take len (drop start s);
                   } ∷ [])))));
             },
-            record { channels = ap length there; octets = ap sequenceOctets there },
+            record { channels = ap length there; octets = ap sequenceOctets there; long = whole },
           )
       framed-reaches (Framed.Refused n) e = refuses-here n (frame-carried (p .long) (p .reached) (p .count) 0 laid refl i start len a refl e)
 

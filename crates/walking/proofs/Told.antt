@@ -1,5 +1,5 @@
 -- What words tell of a frame is what the questions answer.
---     walked-some     the frame has a channel
+--     walked-is, walked-some    the frame is one of the file's, and has a channel
 --     walked-seen     the channel of the frame that the last step told of, for any channel number
 -- Assumes nothing.
 use mathlib.Core.Path.{_≡_, sym, ap, _∙_}
@@ -50,12 +50,12 @@ module _ {s : List ℕ} {met : List Frame} {u v : List ℕ} {x : Waveform} (p : 
       let l : length all ≡ length met + suc (length (there .0)) = ap length (there .1) ∙ length-append met (frame ∷ (there .0)) in
       omega arith
 
-  is-frame : getD all (length met) zeroFrame ≡ frame
-  is-frame = ap (λ (fs : List Frame). getD fs (length met) zeroFrame) (there .1) ∙ getD-append-seam met frame (there .0) zeroFrame
+  pub walked-is : getD (p .all) (length met) zeroFrame ≡ frameBy s x (standIn v)
+  walked-is = ap (λ (fs : List Frame). getD fs (length met) zeroFrame) (there .1) ∙ getD-append-seam met frame (there .0) zeroFrame
 
   -- It has a channel.
   pub walked-some : 0 < length (frame .channels)
-  walked-some = let l = accepted-lies s all (p .is) (length met) below-all in omega (arith, ap (λ (f : Frame). length (f .channels)) is-frame, l .some)
+  walked-some = let l = accepted-lies s all (p .is) (length met) below-all in omega (arith, ap (λ (f : Frame). length (f .channels)) walked-is, l .some)
 
   module _ (c : ℕ) where
     -- What the question answers of the frame.
@@ -67,7 +67,7 @@ module _ {s : List ℕ} {met : List Frame} {u v : List ℕ} {x : Waveform} (p : 
     seen {b} e =
         sym
         (ap (asked (λ f. answered (viewOf c f)) (length met) c) (p .is)
-        ∙ ap (λ (f : Frame). answer (ltb (length met) (length all)) (ltb c (length (f .channels))) f) is-frame
+        ∙ ap (λ (f : Frame). answer (ltb (length met) (length all)) (ltb c (length (f .channels))) f) walked-is
         ∙ (λ i. answer (lt-ltb (length met) (length all) below-all i) (e i) frame))
 
     pub walked-seen : viewIn v c ≡ seenOf s (length met) c
