@@ -224,7 +224,7 @@ fn run8(s: &[u8], from: usize, step: usize, n: usize, little: bool, out: &mut [u
     }
 }
 
-// The same for samples of any width.
+// The same for samples of any width. Where one lies right behind the other the compiler is told the step, and makes wide moves.
 fn run(
     s: &[u8],
     from: usize,
@@ -245,10 +245,18 @@ fn run(
         return;
     }
     if w == 2 {
+        if step == 2 {
+            run2(s, from, 2, n, little, out, at);
+            return;
+        }
         run2(s, from, step, n, little, out, at);
         return;
     }
     if w == 4 {
+        if step == 4 {
+            run4(s, from, 4, n, little, out, at);
+            return;
+        }
         run4(s, from, step, n, little, out, at);
         return;
     }
