@@ -224,6 +224,30 @@ fn run8(s: &[u8], from: usize, step: usize, n: usize, little: bool, out: &mut [u
     }
 }
 
+// The same, four samples a turn, and then those that are left.
+fn fours2(s: &[u8], from: usize, step: usize, n: usize, little: bool, out: &mut [u64], at: usize)
+    requires { ⌜ InFile (length (now s)) from step n 2 ⌝ }
+    requires { ⌜ at + n ≤ length (now out) ⌝ }
+    ensures { λ _. ⌜ now (out .exit) ≡ sets (now (out .entry)) at (spaced «little» 2 (now (s .entry)) step from n) ⌝ }
+{
+    let twice = 2 * step;
+    let thrice = 3 * step;
+    let turn = 4 * step;
+    let mut q = from;
+    let mut p = at;
+    let mut left = n;
+    while 4 <= left {
+        out[p] = two(s, q, little);
+        out[p + 1] = two(s, q + step, little);
+        out[p + 2] = two(s, q + twice, little);
+        out[p + 3] = two(s, q + thrice, little);
+        p += 4;
+        q += turn;
+        left -= 4;
+    }
+    run2(s, q, step, left, little, out, p);
+}
+
 // The same for samples of any width. Where one lies right behind the other the compiler is told the step, and makes wide moves.
 fn run(
     s: &[u8],
@@ -249,7 +273,7 @@ fn run(
             run2(s, from, 2, n, little, out, at);
             return;
         }
-        run2(s, from, step, n, little, out, at);
+        fours2(s, from, step, n, little, out, at);
         return;
     }
     if w == 4 {

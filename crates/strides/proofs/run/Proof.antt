@@ -22,14 +22,14 @@ same-length-2 c = search needs
 returns-2 : tie.Need-returns-2
 returns-2 c = rw (c .before .before .before .before .before .if2 .taken, c .before .before .before .before .if3 .taken) (c .before .before .run2 .ensures)
 
-run2-requires-2 : tie.Need-run2-requires-2
-run2-requires-2 c κs = (rw (c .before .before .if2 .taken) at (c .before .before .before .before .before .before .pre .1 .0), c .before .before .before .before .before .before .pre .1 .1)
+fours2-requires : tie.Need-fours2-requires
+fours2-requires c κs = (rw (c .before .before .if2 .taken) at (c .before .before .before .before .before .before .pre .1 .0), c .before .before .before .before .before .before .pre .1 .1)
 
 same-length-3 : tie.Need-same-length-3
 same-length-3 c = search needs
 
 returns-3 : tie.Need-returns-3
-returns-3 c = rw (c .before .before .before .before .before .if2 .taken) (c .before .before .run22 .ensures)
+returns-3 c = rw (c .before .before .before .before .before .if2 .taken) (c .before .before .fours2 .ensures)
 
 run4-requires : tie.Need-run4-requires
 run4-requires c κs = (rw (c .before .before .if4 .taken, c .before .if5 .taken) at (c .before .before .before .before .before .before .before .pre .1 .0), c .before .before .before .before .before .before .before .pre .1 .1)
@@ -68,7 +68,7 @@ run-spec =
     run2-requires
     same-length-2
     returns-2
-    run2-requires-2
+    fours2-requires
     same-length-3
     returns-3
     run4-requires
