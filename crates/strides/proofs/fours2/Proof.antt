@@ -1,4 +1,4 @@
--- Four turns of `run2` at once; what is left is the rest.
+-- A turn is four turns of `run2`, which stores what is left.
 use mathlib.Core.Path.{_∙_}
 use lib.ListN.{length-set}
 use native.Mathlib.Omega.{arith}
@@ -6,10 +6,6 @@ use borrow.Author.Needs.{needs}
 use Rattle.strides.proofs.Walks.{Running, run-begins, run-within, run-long, four-there, run-four}
 use Rattle.strides.proofs.fours2.Statement.{statement}
 use Rattle.strides.proofs.fours2.Tie as tie
-use Rattle.strides.proofs.fours2.Reads as reads
-use Rattle.strides.proofs.fours2.Lts as lts
-use Rattle.strides.proofs.run2.Reads as run2-reads
-use Rattle.strides.proofs.two.Reads as two-reads
 
 abbrev Inv-loop : tie.InvT-loop
 Inv-loop s from step n little out₀ at twice thrice turn q₀ p₀ left₀ out q p left = Running little 2 s step from n out₀ at out q p left
