@@ -1,10 +1,10 @@
 -- How the loops walk samples.
 --     length-spaced, length-bits, bits-append, bits-same    lists of bits
 --     stores-join                one run of stores after another
---     Running, run-begins, run-there, run-turns, run-ends    a loop over evenly spaced samples, for any width
+--     Running, run-begins, run-there, run-turns, run-within, run-long, four-there, run-four, run-ends    a loop over evenly spaced samples, for any width
 --     spaced-is                  bits whose places are evenly spaced
 --     wide-eight, wide-small     widths
---     Blocking, blocks-begin, piece-some, block-within, blocks-turn, blocks-end    a loop over blocks
+--     Blocking, blocks-begin, piece-some, block-starts, block-within, blocks-turn, blocks-end    a loop over blocks
 --     even-there, even-within, even-is    blocks whose samples are evenly spaced
 -- Assumes nothing.
 use mathlib.Core.Path.{_≡_, refl, sym, ap, subst, _∙_}
@@ -54,12 +54,17 @@ stores-join out u v p f e = rw (f, ← e) (sets-append u v out p)
 
 -- ---- evenly spaced samples
 
+less-again : (n k : ℕ) → n - k - 1 ≡ n - (k + 1)
+less-again n k = omega arith
+
+still-some : (n k : ℕ) → k < n → 0 < n - k
+still-some n k h = omega arith
+
 module _ (little : Bool) (w : ℕ) (s : List ℕ) (step : ℕ) where
   -- `left` samples from q on are still to be stored from p on, and give the buffer that is wanted.
   pub record Running (from n : ℕ) (out₀ : List ℕ) (at : ℕ) (out : List ℕ) (q p left : ℕ) : Type 0 where
     pub small : length s ≤ octetsLimit
     pub apart : step ≤ octetsLimit
-    pub near : q ≤ length s + step
     pub each : (j : ℕ) → j < left → q + j * step + w ≤ length s
     pub room : p + left ≤ length out
     pub long : length out ≡ length out₀
@@ -67,7 +72,7 @@ module _ (little : Bool) (w : ℕ) (s : List ℕ) (step : ℕ) where
 
   pub run-begins : {from n : ℕ} {out : List ℕ} {at : ℕ} → InFile (length s) from step n w → at + n ≤ length out → Running from n out at out from at n
   run-begins h r =
-      record { small = h .small; apart = h .apart; near = omega (arith, h .starts); each = h .each; room = r; long = refl; rest = refl }
+      record { small = h .small; apart = h .apart; each = h .each; room = r; long = refl; rest = refl }
 
   -- The sample that is read next is there.
   pub run-there : {from n : ℕ} {out₀ : List ℕ} {at : ℕ} {out : List ℕ} {q p left : ℕ} → 0 < left → Running from n out₀ at out q p left → q + w ≤ length s
@@ -83,16 +88,35 @@ module _ (little : Bool) (w : ℕ) (s : List ℕ) (step : ℕ) where
 
   pub run-turns : {from n : ℕ} {out₀ : List ℕ} {at : ℕ} {out : List ℕ} {q p left b : ℕ} → 0 < left → b ≡ bitsHere little w s q → Running from n out₀ at out q p left → Running from n out₀ at (set out p b) (q + step) (p + 1) (left - 1)
   run-turns {out = out} {q = q} {p = p} {left = left} {b = b} h e r =
-      let t = run-there h r in
       record {
         small = r .small;
         apart = r .apart;
-        near = omega arith;
         each = λ j l. let z = r .each (suc j) (omega arith) in let m = suc-mul j step in omega arith;
         room = simp length-set (omega (arith, r .room));
         long = simp length-set (r .long);
         rest = rw e (spaced-turn out q p left h ∙ r .rest);
       }
+
+  -- What is left is there, and is the rest.
+  pub run-within : {from n : ℕ} {out₀ : List ℕ} {at : ℕ} {out : List ℕ} {q p left : ℕ} → Running from n out₀ at out q p left → InFile (length s) q step left w
+  run-within r = record { small = r .small; apart = r .apart; each = r .each }
+
+  pub run-long : {from n : ℕ} {out₀ : List ℕ} {at : ℕ} {out : List ℕ} {q p left : ℕ} {new : List ℕ} → new ≡ sets out p (spaced little w s step q left) → Running from n out₀ at out q p left → length new ≡ length out₀
+  run-long {out = out} {q = q} {p = p} {left = left} e r = ap length e ∙ length-sets out p (spaced little w s step q left) ∙ r .long
+
+  -- Four turns at once, of samples that are there.
+  pub four-there : {from n : ℕ} {out₀ : List ℕ} {at : ℕ} {out : List ℕ} {q p left : ℕ} → 4 ≤ left → Running from n out₀ at out q p left → q + 3 * step + w ≤ length s
+  four-there h r = r .each 3 h
+
+  pub run-four : {from n : ℕ} {out₀ : List ℕ} {at : ℕ} {out : List ℕ} {q p left b₀ b₁ b₂ b₃ : ℕ} → 4 ≤ left → b₀ ≡ bitsHere little w s q → b₁ ≡ bitsHere little w s (q + step) → b₂ ≡ bitsHere little w s (q + 2 * step) → b₃ ≡ bitsHere little w s (q + 3 * step) → Running from n out₀ at out q p left → Running from n out₀ at (set (set (set (set out p b₀) (p + 1) b₁) (p + 2) b₂) (p + 3) b₃) (q + 4 * step) (p + 4) (left - 4)
+  run-four {q = q} {p = p} {left = left} h e₀ e₁ e₂ e₃ r =
+      let q₂ : q + step + step ≡ q + 2 * step = omega arith in
+      let q₃ : q + 2 * step + step ≡ q + 3 * step = omega arith in
+      let q₄ : q + 3 * step + step ≡ q + 4 * step = omega arith in
+      let one = run-turns (omega arith) e₀ r in
+      let two = rw (add-assoc p 1 1, q₂, less-again left 1) at (run-turns (still-some left 1 (omega arith)) e₁ one) in
+      let three = rw (add-assoc p 2 1, q₃, less-again left 2) at (run-turns (still-some left 2 (omega arith)) e₂ two) in
+      rw (add-assoc p 3 1, q₄, less-again left 3) at (run-turns (still-some left 3 (omega arith)) e₃ three)
 
   pub run-ends : {from n : ℕ} {out₀ : List ℕ} {at : ℕ} {out : List ℕ} {q p left : ℕ} → left ≤ 0 → Running from n out₀ at out q p left → out ≡ sets out₀ at (spaced little w s step from n)
   unfolding spaced
@@ -155,10 +179,11 @@ module _ (little : Bool) (w : ℕ) (s : List ℕ) (b g : ℕ) where
     here j l = in-block start b g w (r + j) (omega (arith, k .low)) ∙ rw add-mul (omega arith)
 
     -- The samples of the block that are read next are there.
+    pub block-starts : start + r * w ≤ length s
+    block-starts = let f = rw (here 0 piece-some) at (k .each 0 (omega arith)) in omega arith
+
     pub block-within : Wide w → InFile (length s) (start + r * w) w m w
-    block-within v =
-        let f = rw (here 0 piece-some) at (k .each 0 (omega arith)) in
-        record { small = k .small; apart = omega (arith, wide-small v); starts = omega arith; each = λ j l. rw (here j l) at (k .each j (omega arith)) }
+    block-within v = record { small = k .small; apart = omega (arith, wide-small v); each = λ j l. rw (here j l) at (k .each j (omega arith)) }
 
     later : (j : ℕ) → j < n - (p + m) → start + ((r + m + j) / b * g + (r + m + j) % b * w) ≡ start + g + ((0 + j) / b * g + (0 + j) % b * w)
     later j l =
@@ -171,7 +196,7 @@ module _ (little : Bool) (w : ℕ) (s : List ℕ) (b g : ℕ) where
     blocks-turn {new} f v =
         let left = n - (p + m) in
         let whole : n - p ≡ m + left = omega arith in
-        let t = block-within v .starts in
+        let t = block-starts in
         let u = spaced little w s w (start + r * w) m in
         let long : length new ≡ length out = ap length f ∙ length-sets out (at + p) u in
         let now = spaced-is little w s w (blocked little w s start b g) r (start + r * w) m (λ j l. ap (bitsHere little w s) (here j l)) in
@@ -206,7 +231,7 @@ module _ (size start r b g w n : ℕ) (h : InBlocks size start r b g w n) where
 
     joined-within : Wide w → InFile size (start + r * w) w n w
     joined-within v =
-        record { small = h .small; apart = omega (arith, wide-small v); starts = h .starts; each = λ j l. rw (joined-place j) at (h .each j l) }
+        record { small = h .small; apart = omega (arith, wide-small v); each = λ j l. rw (joined-place j) at (h .each j l) }
 
     joined-is : (little : Bool) (s : List ℕ) → spaced little w s w (start + r * w) n ≡ bitsFrom (blocked little w s start b g) r n
     unfolding blocked
@@ -220,7 +245,7 @@ module _ (size start r b g w n : ℕ) (h : InBlocks size start r b g w n) where
         simp (e, z, zero-add, div-one, mod-one, zero-mul, add-zero)
 
     single-within : InFile size (start + r * w) g n w
-    single-within = record { small = h .small; apart = h .apart; starts = h .starts; each = λ j l. rw (single-place j) at (h .each j l) }
+    single-within = record { small = h .small; apart = h .apart; each = λ j l. rw (single-place j) at (h .each j l) }
 
     single-is : (little : Bool) (s : List ℕ) → spaced little w s g (start + r * w) n ≡ bitsFrom (blocked little w s start b g) r n
     unfolding blocked

@@ -31,7 +31,6 @@ Wide w = (w ≡ 1) ⊎ ((w ≡ 2) ⊎ ((w ≡ 4) ⊎ (w ≡ 8)))
 pub record InFile (size from step n w : ℕ) : Type 0 where
   pub small : size ≤ octetsLimit
   pub apart : step ≤ octetsLimit
-  pub starts : from ≤ size
   pub each : (j : ℕ) → j < n → from + j * step + w ≤ size
 
 -- So do n samples from sample r of the first block on, and a block ends before the next begins.

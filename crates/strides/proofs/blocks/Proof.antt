@@ -2,7 +2,7 @@
 use Prim.Native.Nat.{_-_}
 use native.Mathlib.Omega.{arith}
 use borrow.Author.Needs.{needs}
-use Rattle.strides.proofs.Walks.{Blocking, blocks-begin, piece-some, block-within, blocks-turn, blocks-end}
+use Rattle.strides.proofs.Walks.{Blocking, blocks-begin, piece-some, block-starts, block-within, blocks-turn, blocks-end}
 use Rattle.strides.proofs.blocks.Statement.{statement}
 use Rattle.strides.proofs.blocks.Tie as tie
 
@@ -26,23 +26,13 @@ smaller-requires c κs = search needs
 
 mul-run : tie.Need-mul-run Inv-loop μ-loop
 mul-run c =
-    let at-loop = c .before .before in
-    let at-start = at-loop .before .before .before in
-    omega (
-      arith,
-      block-within _ _ _ _ _ (c .before .loop-test .taken) (c .smaller .ensures) (at-loop .loop .inv) (at-start .pre .0) .starts,
-      at-loop .loop .inv .small,
-    )
+    let inv = c .before .before .loop .inv in
+    omega (arith, block-starts _ _ _ _ _ (c .before .loop-test .taken) (c .smaller .ensures) inv, inv .small)
 
 add-run : tie.Need-add-run Inv-loop μ-loop
 add-run c =
-    let at-loop = c .before .before in
-    let at-start = at-loop .before .before .before in
-    omega (
-      arith,
-      block-within _ _ _ _ _ (c .before .loop-test .taken) (c .smaller .ensures) (at-loop .loop .inv) (at-start .pre .0) .starts,
-      at-loop .loop .inv .small,
-    )
+    let inv = c .before .before .loop .inv in
+    omega (arith, block-starts _ _ _ _ _ (c .before .loop-test .taken) (c .smaller .ensures) inv, inv .small)
 
 add-run-2 : tie.Need-add-run-2 Inv-loop μ-loop
 add-run-2 c = search needs
