@@ -83,6 +83,12 @@ pub fn four_octets(a: u8, b: u8, c: u8, d: u8) -> u64
     ((a as u64 * 256 + b as u64) * 256 + c as u64) * 256 + d as u64
 }
 
+pub fn eight_octets(a: u8, b: u8, c: u8, d: u8, e: u8, f: u8, g: u8, h: u8) -> u64
+    ensures { λ r. ⌜ r ≡ ((((((a * 256 + b) * 256 + c) * 256 + d) * 256 + e) * 256 + f) * 256 + g) * 256 + h ⌝ }
+{
+    four_octets(a, b, c, d) * FOUR_OCTETS + four_octets(e, f, g, h)
+}
+
 // The number of the first eight octets. Octets of a common width are read with no loop.
 pub fn number(s: &[u8], little: bool) -> u64
     ensures { λ r. ⌜ NumberRead «little» (take 8 (now (s .entry))) r ⌝ }

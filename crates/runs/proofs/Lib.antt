@@ -2,3 +2,4 @@ pub mod Places
 pub mod Turned
 pub mod Samples
 pub mod Blocks
+pub mod Numbers

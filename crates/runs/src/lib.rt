@@ -103,9 +103,36 @@ fn read8(src: &[u8], q: usize) -> Eight
     }
 }
 
+// Eight octets turned round as one number. `zero` is 0, and the compiler is not told so: it would take the number apart into octets again, which is slower than
+// turning it round.
+fn turn_number(x: Eight, zero: u64) -> Eight
+    requires { ⌜ zero ≡ 0 ⌝ }
+    ensures { λ r. ⌜ eightOctets r ≡ turned 8 1 (eightOctets x) ⌝ }
+{
+    let all = octets::eight_octets(x.h, x.g, x.f, x.e, x.d, x.c, x.b, x.a) + zero;
+    let seven = all / 256;
+    let six = seven / 256;
+    let five = six / 256;
+    let four = five / 256;
+    let three = four / 256;
+    let two = three / 256;
+    let one = two / 256;
+    Eight {
+        a: one as u8,
+        b: (two % 256) as u8,
+        c: (three % 256) as u8,
+        d: (four % 256) as u8,
+        e: (five % 256) as u8,
+        f: (six % 256) as u8,
+        g: (seven % 256) as u8,
+        h: (all % 256) as u8,
+    }
+}
+
 // The samples of w octets in them, each turned round.
-fn turn8(x: Eight, w: usize) -> Eight
+fn turn8(x: Eight, w: usize, zero: u64) -> Eight
     requires { ⌜ (w ≡ 2) ⊎ ((w ≡ 4) ⊎ (w ≡ 8)) ⌝ }
+    requires { ⌜ zero ≡ 0 ⌝ }
     ensures { λ r. ⌜ eightOctets r ≡ turned w (8 / w) (eightOctets x) ⌝ }
 {
     if w == 2 {
@@ -132,16 +159,7 @@ fn turn8(x: Eight, w: usize) -> Eight
             h: x.e,
         };
     }
-    Eight {
-        a: x.h,
-        b: x.g,
-        c: x.f,
-        d: x.e,
-        e: x.d,
-        f: x.c,
-        g: x.b,
-        h: x.a,
-    }
+    turn_number(x, zero)
 }
 
 // Stores four octets, and eight.
@@ -164,16 +182,17 @@ fn store8(dst: &mut [u8], p: usize, x: Eight)
 }
 
 // Turns the samples of 16 octets round. All reads stand before all stores, so that the compiler makes wide moves.
-fn turn_block(src: &[u8], q: usize, w: usize, dst: &mut [u8], p: usize)
+fn turn_block(src: &[u8], q: usize, w: usize, zero: u64, dst: &mut [u8], p: usize)
     requires { ⌜ (w ≡ 2) ⊎ ((w ≡ 4) ⊎ (w ≡ 8)) ⌝ }
+    requires { ⌜ zero ≡ 0 ⌝ }
     requires { ⌜ q + 16 ≤ length (now src) ⌝ }
     requires { ⌜ p + 16 ≤ length (now dst) ⌝ }
     ensures { λ _. ⌜ now (dst .exit) ≡ sets (now (dst .entry)) p (turned w (16 / w) (drop q (now (src .entry)))) ⌝ }
 {
     let x = read8(src, q);
     let y = read8(src, q + 8);
-    store8(dst, p, turn8(x, w));
-    store8(dst, p + 8, turn8(y, w));
+    store8(dst, p, turn8(x, w, zero));
+    store8(dst, p + 8, turn8(y, w, zero));
 }
 
 // Turns n samples of w octets round, 16 octets at a time and then the rest.
@@ -184,11 +203,13 @@ fn turn_blocks(src: &[u8], from: usize, n: usize, w: usize, dst: &mut [u8], at: 
     ensures { λ _. ⌜ now (dst .exit) ≡ sets (now (dst .entry)) at (turned w n (drop from (now (src .entry)))) ⌝ }
 {
     let each = 16 / w;
+    // A slice has fewer octets than this.
+    let zero = (src.len() / 0x8000_0000_0000_0000) as u64;
     let mut q = from;
     let mut p = at;
     let mut left = n;
     while each <= left {
-        turn_block(src, q, w, dst, p);
+        turn_block(src, q, w, zero, dst, p);
         q += 16;
         p += 16;
         left -= each;

@@ -101,13 +101,6 @@ fn one_octet(a: u8) -> u64
     a as u64
 }
 
-// The number of eight octets, the highest first.
-fn eight_octets(a: u8, b: u8, c: u8, d: u8, e: u8, f: u8, g: u8, h: u8) -> u64
-    ensures { λ r. ⌜ r ≡ ((((((a * 256 + b) * 256 + c) * 256 + d) * 256 + e) * 256 + f) * 256 + g) * 256 + h ⌝ }
-{
-    octets::four_octets(a, b, c, d) * 0x1_0000_0000 + octets::four_octets(e, f, g, h)
-}
-
 // The bits of the sample at a place.
 fn one(s: &[u8], at: usize, little: bool) -> u64
     requires { ⌜ at + 1 ≤ length (now s) ⌝ }
@@ -155,9 +148,9 @@ fn eight(s: &[u8], at: usize, little: bool) -> u64
     let g = s[at + 6];
     let h = s[at + 7];
     if little {
-        return eight_octets(h, g, f, e, d, c, b, a);
+        return octets::eight_octets(h, g, f, e, d, c, b, a);
     }
-    eight_octets(a, b, c, d, e, f, g, h)
+    octets::eight_octets(a, b, c, d, e, f, g, h)
 }
 
 // The bits of n samples, each `step` octets after the one before it, from `at` on in the buffer.
