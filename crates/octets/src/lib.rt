@@ -76,7 +76,7 @@ pub fn two_octets(a: u8, b: u8) -> u64
     a as u64 * 256 + b as u64
 }
 
-// The same of four octets.
+// The same of four octets, and of eight.
 pub fn four_octets(a: u8, b: u8, c: u8, d: u8) -> u64
     ensures { λ r. ⌜ r ≡ ((a * 256 + b) * 256 + c) * 256 + d ⌝ }
 {

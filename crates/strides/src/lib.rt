@@ -218,7 +218,7 @@ fn run8(s: &[u8], from: usize, step: usize, n: usize, little: bool, out: &mut [u
     }
 }
 
-// The same, four samples a turn, and then those that are left. For one octet and for eight the compiler makes nothing better of it.
+// The same, four samples a turn, and then those that are left. Tried for one octet and for eight, it gained nothing (docs/DECISIONS.md 76).
 fn fours2(s: &[u8], from: usize, step: usize, n: usize, little: bool, out: &mut [u64], at: usize)
     requires { ⌜ InFile (length (now s)) from step n 2 ⌝ }
     requires { ⌜ at + n ≤ length (now out) ⌝ }
