@@ -1,6 +1,6 @@
 -- Blocks of 16 octets, for the widths of the fast way.
 --     Whole, whole    what these widths have in common
---     eight           the width that is none of the others
+--     four            the width that is not the other
 --     two-eights      a block is eight octets and then eight
 -- Assumes nothing.
 use mathlib.Core.Path.{_≡_, refl, sym, ap, _∙_}
@@ -21,16 +21,14 @@ pub record Whole (w : ℕ) : Type 0 where
   pub twice : 8 / w + 8 / w ≡ 16 / w
   pub size : 16 / w * w ≡ 16
 
-pub whole : {w : ℕ} → (w ≡ 2) ⊎ ((w ≡ 4) ⊎ (w ≡ 8)) → Whole w
+pub whole : {w : ℕ} → (w ≡ 2) ⊎ (w ≡ 4) → Whole w
 whole =
     ⊎-elim
     (λ e. rw e (record { some = omega arith; each = omega arith; half = refl; twice = refl; size = refl }))
-    (⊎-elim
     (λ e. rw e (record { some = omega arith; each = omega arith; half = refl; twice = refl; size = refl }))
-    (λ e. rw e (record { some = omega arith; each = omega arith; half = refl; twice = refl; size = refl })))
 
-pub eight : {w : ℕ} → (w ≡ 2) ⊎ ((w ≡ 4) ⊎ (w ≡ 8)) → (w ≡ 2 → ⊥) → (w ≡ 4 → ⊥) → w ≡ 8
-eight h a b = ⊎-elim (λ e. absurd (a e)) (⊎-elim (λ e. absurd (b e)) (λ e. e)) h
+pub four : {w : ℕ} → (w ≡ 2) ⊎ (w ≡ 4) → (w ≡ 2 → ⊥) → w ≡ 4
+four h a = ⊎-elim (λ e. absurd (a e)) (λ e. e) h
 
 -- Eight octets turned round are those of the samples in them.
 halved : {w : ℕ} (s : List ℕ) (q : ℕ) {xs us : List ℕ} → Whole w → q + 8 ≤ length s → xs ≡ take 8 (drop q s) → us ≡ turned w (8 / w) xs

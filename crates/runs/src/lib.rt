@@ -103,6 +103,87 @@ fn read8(src: &[u8], q: usize) -> Eight
     }
 }
 
+// The samples of w octets in them, each turned round.
+fn turn8(x: Eight, w: usize) -> Eight
+    requires { ⌜ (w ≡ 2) ⊎ (w ≡ 4) ⌝ }
+    ensures { λ r. ⌜ eightOctets r ≡ turned w (8 / w) (eightOctets x) ⌝ }
+{
+    if w == 2 {
+        return Eight {
+            a: x.b,
+            b: x.a,
+            c: x.d,
+            d: x.c,
+            e: x.f,
+            f: x.e,
+            g: x.h,
+            h: x.g,
+        };
+    }
+    Eight {
+        a: x.d,
+        b: x.c,
+        c: x.b,
+        d: x.a,
+        e: x.h,
+        f: x.g,
+        g: x.f,
+        h: x.e,
+    }
+}
+
+// Stores four octets, and eight.
+fn store4(dst: &mut [u8], p: usize, a: u8, b: u8, c: u8, d: u8)
+    requires { ⌜ p + 4 ≤ length (now dst) ⌝ }
+    ensures { λ _. ⌜ now (dst .exit) ≡ sets (now (dst .entry)) p (a ∷ b ∷ c ∷ d ∷ []) ⌝ }
+{
+    dst[p] = a;
+    dst[p + 1] = b;
+    dst[p + 2] = c;
+    dst[p + 3] = d;
+}
+
+fn store8(dst: &mut [u8], p: usize, x: Eight)
+    requires { ⌜ p + 8 ≤ length (now dst) ⌝ }
+    ensures { λ _. ⌜ now (dst .exit) ≡ sets (now (dst .entry)) p (eightOctets x) ⌝ }
+{
+    store4(dst, p, x.a, x.b, x.c, x.d);
+    store4(dst, p + 4, x.e, x.f, x.g, x.h);
+}
+
+// Turns the samples of 16 octets round. All reads stand before all stores, so that the compiler makes wide moves.
+fn turn_block(src: &[u8], q: usize, w: usize, dst: &mut [u8], p: usize)
+    requires { ⌜ (w ≡ 2) ⊎ (w ≡ 4) ⌝ }
+    requires { ⌜ q + 16 ≤ length (now src) ⌝ }
+    requires { ⌜ p + 16 ≤ length (now dst) ⌝ }
+    ensures { λ _. ⌜ now (dst .exit) ≡ sets (now (dst .entry)) p (turned w (16 / w) (drop q (now (src .entry)))) ⌝ }
+{
+    let x = read8(src, q);
+    let y = read8(src, q + 8);
+    store8(dst, p, turn8(x, w));
+    store8(dst, p + 8, turn8(y, w));
+}
+
+// Turns n samples of w octets round, 16 octets at a time and then the rest.
+fn turn_blocks(src: &[u8], from: usize, n: usize, w: usize, dst: &mut [u8], at: usize)
+    requires { ⌜ (w ≡ 2) ⊎ (w ≡ 4) ⌝ }
+    requires { ⌜ from + n * w ≤ length (now src) ⌝ }
+    requires { ⌜ at + n * w ≤ length (now dst) ⌝ }
+    ensures { λ _. ⌜ now (dst .exit) ≡ sets (now (dst .entry)) at (turned w n (drop from (now (src .entry)))) ⌝ }
+{
+    let each = 16 / w;
+    let mut q = from;
+    let mut p = at;
+    let mut left = n;
+    while each <= left {
+        turn_block(src, q, w, dst, p);
+        q += 16;
+        p += 16;
+        left -= each;
+    }
+    turn_each(src, q, left, w, dst, p);
+}
+
 // Eight octets turned round as one number. `zero` is 0, and the compiler is not told so: it would take the number apart into octets again, which is slower than
 // turning it round.
 fn turn_number(x: Eight, zero: u64) -> Eight
@@ -129,92 +210,23 @@ fn turn_number(x: Eight, zero: u64) -> Eight
     }
 }
 
-// The samples of w octets in them, each turned round.
-fn turn8(x: Eight, w: usize, zero: u64) -> Eight
-    requires { ⌜ (w ≡ 2) ⊎ ((w ≡ 4) ⊎ (w ≡ 8)) ⌝ }
-    requires { ⌜ zero ≡ 0 ⌝ }
-    ensures { λ r. ⌜ eightOctets r ≡ turned w (8 / w) (eightOctets x) ⌝ }
+// Turns n samples of eight octets round.
+fn turn_eights(src: &[u8], from: usize, n: usize, dst: &mut [u8], at: usize)
+    requires { ⌜ from + n * 8 ≤ length (now src) ⌝ }
+    requires { ⌜ at + n * 8 ≤ length (now dst) ⌝ }
+    ensures { λ _. ⌜ now (dst .exit) ≡ sets (now (dst .entry)) at (turned 8 n (drop from (now (src .entry)))) ⌝ }
 {
-    if w == 2 {
-        return Eight {
-            a: x.b,
-            b: x.a,
-            c: x.d,
-            d: x.c,
-            e: x.f,
-            f: x.e,
-            g: x.h,
-            h: x.g,
-        };
-    }
-    if w == 4 {
-        return Eight {
-            a: x.d,
-            b: x.c,
-            c: x.b,
-            d: x.a,
-            e: x.h,
-            f: x.g,
-            g: x.f,
-            h: x.e,
-        };
-    }
-    turn_number(x, zero)
-}
-
-// Stores four octets, and eight.
-fn store4(dst: &mut [u8], p: usize, a: u8, b: u8, c: u8, d: u8)
-    requires { ⌜ p + 4 ≤ length (now dst) ⌝ }
-    ensures { λ _. ⌜ now (dst .exit) ≡ sets (now (dst .entry)) p (a ∷ b ∷ c ∷ d ∷ []) ⌝ }
-{
-    dst[p] = a;
-    dst[p + 1] = b;
-    dst[p + 2] = c;
-    dst[p + 3] = d;
-}
-
-fn store8(dst: &mut [u8], p: usize, x: Eight)
-    requires { ⌜ p + 8 ≤ length (now dst) ⌝ }
-    ensures { λ _. ⌜ now (dst .exit) ≡ sets (now (dst .entry)) p (eightOctets x) ⌝ }
-{
-    store4(dst, p, x.a, x.b, x.c, x.d);
-    store4(dst, p + 4, x.e, x.f, x.g, x.h);
-}
-
-// Turns the samples of 16 octets round. All reads stand before all stores, so that the compiler makes wide moves.
-fn turn_block(src: &[u8], q: usize, w: usize, zero: u64, dst: &mut [u8], p: usize)
-    requires { ⌜ (w ≡ 2) ⊎ ((w ≡ 4) ⊎ (w ≡ 8)) ⌝ }
-    requires { ⌜ zero ≡ 0 ⌝ }
-    requires { ⌜ q + 16 ≤ length (now src) ⌝ }
-    requires { ⌜ p + 16 ≤ length (now dst) ⌝ }
-    ensures { λ _. ⌜ now (dst .exit) ≡ sets (now (dst .entry)) p (turned w (16 / w) (drop q (now (src .entry)))) ⌝ }
-{
-    let x = read8(src, q);
-    let y = read8(src, q + 8);
-    store8(dst, p, turn8(x, w, zero));
-    store8(dst, p + 8, turn8(y, w, zero));
-}
-
-// Turns n samples of w octets round, 16 octets at a time and then the rest.
-fn turn_blocks(src: &[u8], from: usize, n: usize, w: usize, dst: &mut [u8], at: usize)
-    requires { ⌜ (w ≡ 2) ⊎ ((w ≡ 4) ⊎ (w ≡ 8)) ⌝ }
-    requires { ⌜ from + n * w ≤ length (now src) ⌝ }
-    requires { ⌜ at + n * w ≤ length (now dst) ⌝ }
-    ensures { λ _. ⌜ now (dst .exit) ≡ sets (now (dst .entry)) at (turned w n (drop from (now (src .entry)))) ⌝ }
-{
-    let each = 16 / w;
     // A slice has fewer octets than this.
     let zero = (src.len() / 0x8000_0000_0000_0000) as u64;
     let mut q = from;
     let mut p = at;
     let mut left = n;
-    while each <= left {
-        turn_block(src, q, w, zero, dst, p);
-        q += 16;
-        p += 16;
-        left -= each;
+    while 0 < left {
+        store8(dst, p, turn_number(read8(src, q), zero));
+        q += 8;
+        p += 8;
+        left -= 1;
     }
-    turn_each(src, q, left, w, dst, p);
 }
 
 // Turns n samples round. A width that has a fast way is passed as a literal, so that the compiler makes a loop for it.
@@ -236,7 +248,7 @@ fn turn_run(src: &[u8], from: usize, n: usize, w: usize, dst: &mut [u8], at: usi
         return;
     }
     if w == 8 {
-        turn_blocks(src, from, n, 8, dst, at);
+        turn_eights(src, from, n, dst, at);
         return;
     }
     turn_each(src, from, n, w, dst, at);

@@ -1,9 +1,4 @@
 -- A block is eight octets and then eight.
-use mathlib.Core.Path.{ap, _∙_}
-use native.Mathlib.Omega.{arith}
-use lib.ListN.{length}
-use lib.Seq.{length-sets}
-use Rattle.runs.specs.Eight.{eightOctets}
 use Rattle.runs.proofs.Blocks.{whole, two-eights}
 use borrow.Author.Needs.{needs}
 use Rattle.runs.proofs.turn_block.Statement.{statement}
@@ -25,15 +20,13 @@ store8-requires : tie.Need-store8-requires
 store8-requires c κs = search needs
 
 add-store8 : tie.Need-add-store8
-add-store8 c = omega (arith, c .before .before .before .before .before .before .before .before .before .before .pre .1 .1 .1, c .before .before .before .before .before .before .before .before .before .before .good)
+add-store8 c = search needs
 
 turn8-requires-2 : tie.Need-turn8-requires-2
 turn8-requires-2 c κs = search needs
 
 store8-requires-2 : tie.Need-store8-requires-2
-store8-requires-2 c κs =
-    let long = ap length (c .before .before .before .before .store8 .ensures) ∙ length-sets (c .before .before .before .before .before .before .before .before .before .before .before .args .dst .now) (c .before .before .before .before .before .before .before .before .before .before .before .args .p) (eightOctets (c .before .before .before .before .before .turn8 .result)) in
-    omega (arith, c .before .before .before .before .before .before .before .before .before .before .before .pre .1 .1 .1, long)
+store8-requires-2 c κs = search needs
 
 same-length : tie.Need-same-length
 same-length c = search needs
@@ -49,7 +42,7 @@ returns c =
     let at-start = at-read8 .before .before .before in
     let a = at-start .args in
     let pre = at-start .pre in
-    two-eights (a .src .now) (a .dst .now) (a .q) (a .p) (whole (pre .0)) (pre .1 .1 .0)
+    two-eights (a .src .now) (a .dst .now) (a .q) (a .p) (whole (pre .0)) (pre .1 .0)
     (at-read8 .read8 .ensures) (at-read82 .read82 .ensures) (at-turn8 .turn8 .ensures) (at-turn82 .turn82 .ensures)
     (at-store8 .store8 .ensures) (at-store82 .store82 .ensures)
 

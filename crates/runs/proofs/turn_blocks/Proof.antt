@@ -2,7 +2,7 @@
 use borrow.Author.Needs.{needs}
 use mathlib.Core.Path.{refl, _∙_}
 use Prim.Native.Nat.{ℕ, _*_, _/_, _≤_}
-use native.Mathlib.Nat.{mul-le-mul-right, div-eq-of-lt}
+use native.Mathlib.Nat.{mul-le-mul-right}
 use native.Mathlib.Omega.{arith}
 use Rattle.runs.proofs.Blocks.{Whole, whole}
 use Rattle.runs.proofs.Samples.{Left, left-less}
@@ -14,10 +14,10 @@ block : {w left : ℕ} → Whole w → 16 / w ≤ left → 16 ≤ left * w
 block {w} a h = rw (a .size) at (mul-le-mul-right w h)
 
 abbrev Inv-loop : tie.InvT-loop
-Inv-loop src from n w dst₀ at each zero q₀ p₀ left₀ dst q p left = Left src from n w dst₀ at dst q p left
+Inv-loop src from n w dst₀ at each q₀ p₀ left₀ dst q p left = Left src from n w dst₀ at dst q p left
 
 abbrev μ-loop : tie.MeasureT-loop
-μ-loop src from n w dst₀ at each zero q₀ p₀ left₀ dst q p left = left
+μ-loop src from n w dst₀ at each q₀ p₀ left₀ dst q p left = left
 
 div-each : tie.Need-div-each Inv-loop μ-loop
 div-each c = whole (c .before .before .pre .0) .some
@@ -28,7 +28,7 @@ loop-holds c = record { there = omega arith; room = omega arith; long = refl; re
 turn-block-requires : tie.Need-turn-block-requires Inv-loop μ-loop
 turn-block-requires c κs =
     let h = block (whole (c .before .before .before .before .before .pre .0)) (c .before .loop-test .taken) in
-    (c .before .before .before .before .before .pre .0, (div-eq-of-lt (omega (arith, c .before .before .before .before .before .good .0 .1)), (omega arith, omega arith)))
+    (c .before .before .before .before .before .pre .0, (omega arith, omega arith))
 
 add-q : tie.Need-add-q Inv-loop μ-loop
 add-q c =

@@ -58,7 +58,7 @@ returns-2 c =
 turn-blocks-requires-2 : tie.Need-turn-blocks-requires-2
 turn-blocks-requires-2 c κs =
     let h = ap (λ (k : ℕ). c .before .before .before .before .before .before .args .n * k) (c .before .if3 .taken) in
-    (inr (inl refl), (omega arith, omega arith))
+    (inr refl, (omega arith, omega arith))
 
 same-length-3 : tie.Need-same-length-3
 same-length-3 c = search needs
@@ -70,10 +70,10 @@ returns-3 c =
     same-width (a .dst .now) (a .at) (a .n) (drop (a .from) (a .src .now))
     (c .before .before .before .before .if3 .taken) (c .before .before .turn-blocks2 .ensures)
 
-turn-blocks-requires-3 : tie.Need-turn-blocks-requires-3
-turn-blocks-requires-3 c κs =
+turn-eights-requires : tie.Need-turn-eights-requires
+turn-eights-requires c κs =
     let h = ap (λ (k : ℕ). c .before .before .before .before .before .before .before .args .n * k) (c .before .if4 .taken) in
-    (inr (inr refl), (omega arith, omega arith))
+    (omega (arith, h, c .before .before .before .before .before .before .before .pre), omega (arith, h, c .before .before .before .before .before .before .before .pre))
 
 same-length-4 : tie.Need-same-length-4
 same-length-4 c = search needs
@@ -83,7 +83,7 @@ returns-4 c =
     let s = c .before .before .before .before .before .before .before .before .before .before in
     let a = s .args in
     same-width (a .dst .now) (a .at) (a .n) (drop (a .from) (a .src .now))
-    (c .before .before .before .before .if4 .taken) (c .before .before .turn-blocks3 .ensures)
+    (c .before .before .before .before .if4 .taken) (c .before .before .turn-eights .ensures)
 
 turn-each-requires : tie.Need-turn-each-requires
 turn-each-requires c κs = search needs
@@ -107,7 +107,7 @@ turn-run-spec =
     turn-blocks-requires-2
     same-length-3
     returns-3
-    turn-blocks-requires-3
+    turn-eights-requires
     same-length-4
     returns-4
     turn-each-requires
