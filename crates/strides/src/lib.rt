@@ -2,8 +2,8 @@
 //
 // For whoever knows a frame: `Spread` is where the samples of a channel lie, `lay` reads many of them, and `lay_channels` all of all channels, with nothing
 // else read.
-// Promises, whatever numbers a spread holds: `count` is how many samples it has, `lies` whether they lie in a file of so many octets. `lay` and
-// `lay_channels` lay the bits of samples into a buffer where they do and the buffer holds them, and else leave it as it is.
+// Promises, whatever numbers a spread holds: `count` is how many samples it has, `lies` whether they lie in a file of so many octets. `lay`
+// lays the bits of samples into a buffer where they do and the buffer holds them, `lay_channels` as many as fit; else they leave it as it is.
 // Read first: specs/Spread.antt and specs/Channels.antt, then `lay` and upwards. A change to a loop wants its speed measured again: each width has a loop
 // of its own, with straight-line reads, because the compiler makes one wide load of them only so.
 ghost use mathlib.Core.Path.{_≡_};

@@ -26,8 +26,7 @@ extern "C" {
     fn walk(file: *const u8, file_len: usize, out: *mut u64, out_len: usize) -> u64;
 }
 
-/// The sum of all samples of an accepted file, by the library's walk, as a program in C asks for them; each
-/// channel's attributes are asked for too.
+/// The sum of all samples of an accepted file, by the library's walk, as a program in C asks for them.
 pub fn walked(file: &[u8], out: &mut [u64]) -> u64 {
     // SAFETY: see the module's first lines.
     unsafe { walk(file.as_ptr(), file.len(), out.as_mut_ptr(), out.len()) }
