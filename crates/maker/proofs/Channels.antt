@@ -11,27 +11,27 @@
 -- Assumes nothing.
 use mathlib.Core.Path.{_≡_, refl, sym, ap, ap₂, _∙_, subst}
 use mathlib.Core.Bool.{Bool, true, false}
-use mathlib.Core.List.{List, [], _∷_, map}
-use Prim.Native.Nat.{ℕ, zero, suc, _+_, _*_, _%_, _^_, _≤_, _<_}
+use mathlib.Core.List.{List, map}
+use Prim.Native.Nat.{ℕ, zero, suc, _+_, _*_, _^_, _≤_, _<_}
 use native.Mathlib.Nat.{add-assoc, mod-eq-of-lt, mod-lt, mul-le-mul}
 use native.Mathlib.Decide.{decLt}
 use native.Mathlib.Omega.{arith}
-use borrow.Author.Tests.{ltb-true, ltb-false, eq-eqb, ne-eqb, leb-true}
-use lib.Dec.{eqb, ltb, leb}
-use lib.IntN.{ℤ, pos, negsuc}
-use lib.ListN.{length, getD, take, length-map}
+use borrow.Author.Tests.{ltb-true, ltb-false, eq-eqb, ne-eqb}
+use lib.Dec.{eqb, ltb}
+use lib.IntN.{ℤ}
+use lib.ListN.{length, getD, length-map}
 use lib.Seq.{take-all}
-use Rattle.octets.specs.Pick.{pick, both}
-use Rattle.octets.specs.Number.{range, lowOf}
+use Rattle.octets.specs.Pick.{both}
+use Rattle.octets.specs.Number.{lowOf}
 use Rattle.octets.proofs.Pick.{both-split, both-false}
 use Rattle.octets.proofs.Laws.{range-pos}
 use Rattle.values.proofs.Laws.{width-le}
 use Rattle.values.specs.declared.Bits.{Bits}
 use Rattle.settings.specs.declared.Scale.{Scale}
 use Rattle.settings.specs.declared.Settings.{Settings}
-use Rattle.settings.specs.Settings.{channelLimit, blockLimit, lastDataType, lastIntervalUnit, lastResolutionUnit, zeroSettings}
+use Rattle.settings.specs.Settings.{blockLimit, lastDataType, lastIntervalUnit, lastResolutionUnit, zeroSettings}
 use Rattle.layout.specs.declared.Layout.{Layout}
-use Rattle.layout.specs.Frame.{widthIn, blockOctets, sequenceOctets}
+use Rattle.layout.specs.Frame.{blockOctets, sequenceOctets}
 use Rattle.layout.specs.Measure.{layoutOf, noLayout, More}
 use Rattle.layout.proofs.Laws.{Summing, summing-start, summing-more, summed-up}
 use Rattle.canonical.specs.Recording.{tabulate}

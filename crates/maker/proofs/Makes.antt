@@ -20,10 +20,10 @@ use denote.Enum.Declared.{tagOf}
 use borrow.Author.Tests.{leb-true, eqb-true, le-leb, lt-leb, ne-eqb, eq-eqb}
 use lib.Dec.{eqb, leb}
 use lib.IntN.{ℤ}
-use lib.ListN.{length, take, drop}
+use lib.ListN.{length}
 use lib.Seq.{take-all}
 use Rattle.octets.specs.Number.{Octets}
-use Rattle.octets.specs.Pick.{pick, both}
+use Rattle.octets.specs.Pick.{pick}
 use Rattle.octets.proofs.Pick.{both-split, both-false}
 use Rattle.heads.specs.Refusals.{noRoom, settingRange, samplesLength}
 use Rattle.heads.specs.Answer.{Answer, answered, refusedAs, mapAnswer, leftBy}

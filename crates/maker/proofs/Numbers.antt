@@ -4,17 +4,16 @@
 --     exponent-small, mantissa-small             an exponent and a mantissa that fit
 --     null-none                                  a null width of 0
 -- Assumes nothing.
-use mathlib.Core.Path.{_≡_, refl, sym, ap, _∙_}
+use mathlib.Core.Path.{_≡_, refl}
 use mathlib.Core.Bool.{Bool, true, false}
 use Prim.Native.Nat.{ℕ, suc, _-_, _^_, _≤_, _<_}
 use native.Mathlib.Omega.{arith}
 use borrow.Author.Tests.{leb-true, le-leb, lt-leb, le-ltb, ne-eqb}
-use lib.Dec.{T, eqb, ltb, leb}
+use lib.Dec.{T, eqb, leb}
 use lib.IntN.{ℤ, pos, negsuc, natAbs}
-use lib.Signed.{mag, ltZ, leZ, nonNeg}
+use lib.Signed.{mag, ltZ, nonNeg}
 use mir.Syntax.{w64}
 use mir.Val.{SFits, ofZ}
-use Rattle.octets.specs.Pick.{both}
 use Rattle.octets.proofs.Pick.{both-split}
 use Rattle.maker.specs.Given.{within, exponentFits, lastMantissa, naturalOf, noNull}
 

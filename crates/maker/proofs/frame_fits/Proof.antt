@@ -8,15 +8,10 @@ use mathlib.Core.Path.{_≡_, ap, sym, _∙_}
 use borrow.Author.Needs.{needs}
 use Rattle.maker.proofs.frame_fits.Statement.{statement}
 use Rattle.maker.proofs.frame_fits.Tie as tie
-use Rattle.maker.proofs.frame_fits.Reads as reads
-use Rattle.maker.proofs.frame_fits.Lts as lts
-use Rattle.framing.proofs.pointer_fits.Reads as pointer-fits-reads
 
--- src/lib.rt:38:9
 pointer-fits-requires : tie.Need-pointer-fits-requires
 pointer-fits-requires c κs = search needs
 
--- src/lib.rt:39:9
 -- The start pointer, read back from its bits, is looked at.
 looked : (c : tie.After-pointer-fits) → pointerFits (c .before .args .start) ≡ c .pointer-fits .result
 looked c = ap pointerFits (sym (toZ-ofZ (c .before .fits .start))) ∙ sym (c .pointer-fits .ensures)
@@ -24,31 +19,24 @@ looked c = ap pointerFits (sym (toZ-ofZ (c .before .fits .start))) ∙ sym (c .p
 returns : tie.Need-returns
 returns c = pointer-outside _ _ _ _ _ (looked (c .before) ∙ not-true _ (c .if1 .taken))
 
--- src/lib.rt:42:9
 returns-2 : tie.Need-returns-2
 returns-2 c = sequences-outside _ _ _ _ _ (c .if2 .taken)
 
--- src/lib.rt:45:9
 returns-3 : tie.Need-returns-3
 returns-3 c = channels-none _ _ _ _ _ (c .if3 .taken)
 
--- src/lib.rt:48:9
 returns-4 : tie.Need-returns-4
 returns-4 c = channels-many _ _ _ _ _ (c .if4 .taken)
 
--- src/lib.rt:50:19
 mul-if5 : tie.Need-mul-if5
 mul-if5 c = search needs
 
--- src/lib.rt:51:9
 returns-5 : tie.Need-returns-5
 returns-5 c = rows-other _ _ _ _ _ (c .if5 .taken)
 
--- src/lib.rt:53:13
 mul-result : tie.Need-mul-result
 mul-result c = search needs
 
--- src/lib.rt:35:1
 returns-6 : tie.Need-returns-6
 returns-6 c =
     let at-if4 = c .before in

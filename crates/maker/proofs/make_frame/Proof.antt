@@ -16,15 +16,7 @@ use mathlib.Core.Path.{_≡_, ap, sym, _∙_}
 use borrow.Author.Needs.{needs}
 use Rattle.maker.proofs.make_frame.Statement.{statement}
 use Rattle.maker.proofs.make_frame.Tie as tie
-use Rattle.maker.proofs.make_frame.Reads as reads
-use Rattle.maker.proofs.make_frame.Lts as lts
-use Rattle.layout.proofs.frame_size.Reads as frame-size-reads
-use Rattle.maker.proofs.frame_fits.Reads as frame-fits-reads
-use Rattle.maker.proofs.refused.Reads as refused-reads
-use Rattle.maker.proofs.rows.measure.Reads as measure-reads
-use Rattle.maker.proofs.store_frame.Reads as store-frame-reads
 
--- src/lib.rt:112:9
 -- What goes in.
 abbrev given : tie.Start → Making
 given c =
@@ -33,11 +25,9 @@ given c =
 frame-fits-requires : tie.Need-frame-fits-requires
 frame-fits-requires c κs = search needs
 
--- src/lib.rt:113:9
 refused-requires : tie.Need-refused-requires
 refused-requires c κs = search needs
 
--- src/lib.rt:113:9
 -- The start pointer is read back from its bits, and the frame's own numbers are looked at.
 own-is : (c : tie.After-frame-fits) → ownFit (given (c .before .before .before .before)) ≡ c .frame-fits .result
 own-is c =
@@ -58,23 +48,18 @@ returns c =
     let m = given (at-start at-fits) in
     made-refused (samples-octets at-fits) (c .refused .ensures) (setting-refused m _ (own-outside m (own-is at-fits ∙ not-true _ (c .before .if1 .taken))))
 
--- src/lib.rt:116:9
 measure-requires : tie.Need-measure-requires
 measure-requires c κs = rows-are (frame-split _ _ _ _ _ (own-is (c .before) ∙ not-false _ (c .if1 .left)))
 
--- src/lib.rt:117:28
 enum-known-m : tie.Need-enum-known-m
 enum-known-m c = search needs
 
--- src/lib.rt:118:9
 enum-told : tie.Need-enum-told
 enum-told c = search needs
 
--- src/lib.rt:118:9
 refused-requires-2 : tie.Need-refused-requires-2
 refused-requires-2 c κs = search needs
 
--- src/lib.rt:118:9
 returns-2 : tie.Need-returns-2
 returns-2 c =
     let at-match = c .before .before in
@@ -101,26 +86,21 @@ laid-out c =
     let at-else = at-measure .before in
     found (asked c) (layout c) (own-is (at-else .before) ∙ not-false _ (at-else .if1 .left)) (sym (at-m .m .given .1) ∙ at-measure .measure .ensures)
 
--- src/lib.rt:120:32
 mul-if2 : tie.Need-mul-if2
 mul-if2 c = record { fits = product-small (laid-out c) }
 
--- src/lib.rt:121:9
 refused-requires-3 : tie.Need-refused-requires-3
 refused-requires-3 c κs = search needs
 
--- src/lib.rt:121:9
 returns-3 : tie.Need-returns-3
 returns-3 c =
     let at-known = c .before .before in
     let p = laid-out at-known in
     made-refused (samples-octets (at-fits at-known)) (c .refused3 .ensures) (samples-refused (asked at-known) _ (p .fit) (samples-other p (c .before .if2 .taken)))
 
--- src/lib.rt:124:9
 refused-requires-4 : tie.Need-refused-requires-4
 refused-requires-4 c κs = search needs
 
--- src/lib.rt:124:9
 returns-4 : tie.Need-returns-4
 returns-4 c =
     let at-else = c .before .before in
@@ -130,31 +110,24 @@ returns-4 c =
     made-refused (samples-octets (at-fits at-known)) (c .refused4 .ensures)
     (room-refused (asked at-known) _ (p .fit) (samples-same p e) (samples-long-out p e _ (c .before .if3 .taken)))
 
--- src/lib.rt:126:35
 cast-frame-size : tie.Need-cast-frame-size
 cast-frame-size c = record { fits = omega (arith, laid-out (c .before .before) .own .most) }
 
--- src/lib.rt:126:53
 cast-frame-size-2 : tie.Need-cast-frame-size-2
 cast-frame-size-2 c = record { fits = groups-small (laid-out (c .before .before .before)) }
 
--- src/lib.rt:126:70
 cast-frame-size-3 : tie.Need-cast-frame-size-3
 cast-frame-size-3 c = search needs
 
--- src/lib.rt:126:16
 frame-size-requires : tie.Need-frame-size-requires
 frame-size-requires c κs = search needs
 
--- src/lib.rt:127:8
 sub-if4 : tie.Need-sub-if4
 sub-if4 c = search needs
 
--- src/lib.rt:128:9
 refused-requires-5 : tie.Need-refused-requires-5
 refused-requires-5 c κs = search needs
 
--- src/lib.rt:128:9
 returns-5 : tie.Need-returns-5
 returns-5 c =
     let at-size = c .before .before in
@@ -165,11 +138,9 @@ returns-5 c =
     made-refused (samples-octets (at-fits at-known)) (c .refused5 .ensures)
     (room-refused (asked at-known) _ (p .fit) (samples-same p e) (room-limit _ _ (omega (arith, size-is p e (at-size .frame-size .ensures .0), c .before .if4 .taken))))
 
--- src/lib.rt:131:9
 refused-requires-6 : tie.Need-refused-requires-6
 refused-requires-6 c κs = search needs
 
--- src/lib.rt:131:9
 returns-6 : tie.Need-returns-6
 returns-6 c =
     let at-size = c .before .before .before in
@@ -193,25 +164,20 @@ at-known c = at-samples c .before
 start-small : (c : tie.Else5) → mag (asked (at-known c) .start) < 2 ^ 31
 start-small c = pointer-small (asked (at-known c) .start) (laid-out (at-known c) .own .pointer)
 
--- src/lib.rt:134:9
 cast-store-frame : tie.Need-cast-store-frame
 cast-store-frame c = narrow-fits (asked (at-known c) .start) (start-small c)
 
--- src/lib.rt:135:9
 cast-store-frame-2 : tie.Need-cast-store-frame-2
 cast-store-frame-2 c = record { fits = omega (arith, laid-out (at-known c) .own .most) }
 
--- src/lib.rt:133:21
 store-frame-requires : tie.Need-store-frame-requires
 store-frame-requires c κs =
     let at-else = c .before in
     store-asked (laid-out (at-known at-else)) (at-samples at-else .if2 .left) (at-size at-else .before .before .if3 .left) (at-size at-else .frame-size .ensures .0) _ (at-else .if5 .left)
 
--- src/lib.rt:101:1
 same-length : tie.Need-same-length
 same-length c = search needs
 
--- src/lib.rt:101:1
 returns-7 : tie.Need-returns-7
 returns-7 c =
     let at-store = c .before .before in

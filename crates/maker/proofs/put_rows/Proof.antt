@@ -9,10 +9,6 @@ use Prim.Native.Nat.{_-_}
 use borrow.Author.Needs.{needs}
 use Rattle.maker.proofs.put_rows.Statement.{statement}
 use Rattle.maker.proofs.put_rows.Tie as tie
-use Rattle.maker.proofs.put_rows.Reads as reads
-use Rattle.maker.proofs.put_rows.Lts as lts
-use Rattle.groups.proofs.put_group.Reads as put-group-reads
-use Rattle.maker.proofs.rows.settings_at.Reads as settings-at-reads
 
 abbrev Inv-loop : tie.InvT-loop
 Inv-loop out₀ at numbers bits n i₀ next₀ out i next = RowsFit numbers bits n × Grouped (channelsMade n numbers bits) out₀ at i next out
@@ -20,11 +16,9 @@ Inv-loop out₀ at numbers bits n i₀ next₀ out i next = RowsFit numbers bits
 abbrev μ-loop : tie.MeasureT-loop
 μ-loop out₀ at numbers bits n i₀ next₀ out i next = n - i
 
--- src/lib.rt:63:5
 loop-holds : tie.Need-loop-holds Inv-loop μ-loop
 loop-holds c = let pre = c .before .before .pre in (pre .0, grouped-first _ _ _ (pre .1))
 
--- src/lib.rt:64:13
 settings-at-requires : tie.Need-settings-at-requires Inv-loop μ-loop
 settings-at-requires c κs =
     let at-start = c .before .before .before .before in
@@ -32,27 +26,22 @@ settings-at-requires c κs =
     let fit = c .before .loop .inv .0 in
     (row-there (fit .there) _ (c .loop-test .taken), fit-at (a .n) (givenAt (a .numbers .now) (a .bits .now)) (fit .fit) _ (c .loop-test .taken))
 
--- src/lib.rt:65:45
 cast-put-group : tie.Need-cast-put-group Inv-loop μ-loop
 cast-put-group c =
     let at-loop-test = c .before .before in
     omega (arith, at-loop-test .before .loop .inv .0 .there .few, at-loop-test .loop-test .taken)
 
--- src/lib.rt:65:9
 put-group-requires : tie.Need-put-group-requires Inv-loop μ-loop
 put-group-requires c κs = search needs
 
--- src/lib.rt:66:9
 add-i : tie.Need-add-i Inv-loop μ-loop
 add-i c =
     let at-loop-test = c .before .before .before .before .before in
     omega (arith, at-loop-test .before .loop .inv .0 .there .few, at-loop-test .loop-test .taken)
 
--- src/lib.rt:63:5
 loop-less : tie.Need-loop-less Inv-loop μ-loop
 loop-less c = omega arith
 
--- src/lib.rt:63:5
 loop-again : tie.Need-loop-again Inv-loop μ-loop
 loop-again c =
     let at-put-group = c .before .before in
@@ -66,11 +55,9 @@ loop-again c =
     record { inside = omega (arith, made-long (a .n) (a .numbers .now) (a .bits .now)); is = at-settings .settings-at .ensures ∙ sym (made-at (a .n) (a .numbers .now) (a .bits .now) (at-loop .loop .i) h) } in
     (inv .0, grouped-next (inv .1) nth (at-put-group .put-group .ensures))
 
--- src/lib.rt:57:1
 same-length : tie.Need-same-length Inv-loop μ-loop
 same-length c = c .before .loop .inv .1 .coming .long
 
--- src/lib.rt:57:1
 returns : tie.Need-returns Inv-loop μ-loop
 returns c =
     let a = c .before .before .before .before .args in

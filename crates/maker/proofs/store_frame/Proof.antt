@@ -16,15 +16,7 @@ use mathlib.Core.Path.{_≡_}
 use borrow.Author.Needs.{needs}
 use Rattle.maker.proofs.store_frame.Statement.{statement}
 use Rattle.maker.proofs.store_frame.Tie as tie
-use Rattle.maker.proofs.store_frame.Reads as reads
-use Rattle.maker.proofs.store_frame.Lts as lts
-use Rattle.groups.proofs.put_head.Reads as put-head-reads
-use Rattle.maker.proofs.put_rows.Reads as put-rows-reads
-use Rattle.runs.proofs.copy.Reads as copy-reads
-use Rattle.stores.proofs.put_length.Reads as put-length-reads
-use Rattle.stores.proofs.put_octet.Reads as put-octet-reads
 
--- src/lib.rt:85:38
 -- The channels of the rows.
 abbrev channels : tie.Start → List Settings
 channels c = let a = c .args in channelsMade (a .n) (a .numbers .now) (a .bits .now)
@@ -38,11 +30,9 @@ room c = omega (arith, c .pre .1 .1)
 cast-put-head : tie.Need-cast-put-head
 cast-put-head c = search needs
 
--- src/lib.rt:85:9
 put-head-requires : tie.Need-put-head-requires
 put-head-requires c κs = search needs
 
--- src/lib.rt:86:9
 put-rows-requires : tie.Need-put-rows-requires
 put-rows-requires c κs =
     let at-put-head = c .before .before .before in
@@ -51,27 +41,21 @@ put-rows-requires c κs =
     let pre = at-start .pre in
     (pre .0 .0, groups-room (channels at-start) (a .sequences) (counted at-start) (pre .0 .1) (toZ-ofZ (at-start .fits .start)) (room at-start) (at-put-head .put-head .ensures))
 
--- src/lib.rt:87:9
 put-octet-requires : tie.Need-put-octet-requires
 put-octet-requires c κs = search needs
 
--- src/lib.rt:88:40
 cast-put-length : tie.Need-cast-put-length
 cast-put-length c = search needs
 
--- src/lib.rt:88:9
 put-length-requires : tie.Need-put-length-requires
 put-length-requires c κs = search needs
 
--- src/lib.rt:89:5
 copy-requires : tie.Need-copy-requires
 copy-requires c κs = search needs
 
--- src/lib.rt:72:1
 same-length : tie.Need-same-length
 same-length c = search needs
 
--- src/lib.rt:72:1
 returns : tie.Need-returns
 returns c =
     let at-copy = c .before .before in

@@ -7,75 +7,52 @@ use native.Mathlib.Nat.{add-zero}
 use Prim.Native.Nat.{ℕ, _+_, _*_}
 use mathlib.Core.List.{List}
 use mathlib.Core.Path.{_≡_, ap, sym, _∙_}
-use Rattle.maker.specs.Given.{bitsInTable}
 use borrow.Author.Needs.{needs}
 use Rattle.maker.proofs.rows.bits_within.Statement.{statement}
 use Rattle.maker.proofs.rows.bits_within.Tie as tie
-use Rattle.maker.proofs.rows.bits_within.Reads as reads
-use Rattle.maker.proofs.rows.bits_within.Lts as lts
-use Rattle.maker.proofs.rows.all.Reads as all-reads
-use Rattle.maker.proofs.rows.bits_fit.Reads as bits-fit-reads
-use Rattle.maker.proofs.rows.data_type.Reads as data-type-reads
-use Rattle.maker.proofs.rows.no_null.Reads as no-null-reads
-use Rattle.values.proofs.width.Reads as width-reads
 
--- src/rows.rt:194:31
 data-type-requires : tie.Need-data-type-requires
 data-type-requires c κs = search needs
 
--- src/rows.rt:194:9
 width-requires : tie.Need-width-requires
 width-requires c κs = search needs
 
--- src/rows.rt:195:39
 mul-bits-fit : tie.Need-mul-bits-fit
 mul-bits-fit c = search needs
 
--- src/rows.rt:195:34
 mul-bits-fit-2 : tie.Need-mul-bits-fit-2
 mul-bits-fit-2 c = search needs
 
--- src/rows.rt:195:34
 shared-slice-read-bits-fit : tie.Need-shared-slice-read-bits-fit
 shared-slice-read-bits-fit c = search needs
 
--- src/rows.rt:195:9
 bits-fit-requires : tie.Need-bits-fit-requires
 bits-fit-requires c κs = search needs
 
--- src/rows.rt:196:37
 mul-bits-fit-3 : tie.Need-mul-bits-fit-3
 mul-bits-fit-3 c = search needs
 
--- src/rows.rt:196:37
 add-bits-fit : tie.Need-add-bits-fit
 add-bits-fit c = search needs
 
--- src/rows.rt:196:32
 mul-bits-fit-4 : tie.Need-mul-bits-fit-4
 mul-bits-fit-4 c = search needs
 
--- src/rows.rt:196:32
 shared-slice-read-bits-fit-2 : tie.Need-shared-slice-read-bits-fit-2
 shared-slice-read-bits-fit-2 c = search needs
 
--- src/rows.rt:196:9
 bits-fit-requires-2 : tie.Need-bits-fit-requires-2
 bits-fit-requires-2 c κs = search needs
 
--- src/rows.rt:197:33
 mul-no-null : tie.Need-mul-no-null
 mul-no-null c = search needs
 
--- src/rows.rt:197:33
 add-no-null : tie.Need-add-no-null
 add-no-null c = search needs
 
--- src/rows.rt:197:9
 no-null-requires : tie.Need-no-null-requires
 no-null-requires c κs = search needs
 
--- src/rows.rt:199:9
 -- The width of the samples.
 width-is : (c : tie.After-width) → let a = c .before .before .before .args in c .width .result ≡ widthGiven (givenAt (a .numbers .now) (a .bits .now) (a .i))
 width-is c = c .width .ensures ∙ ap widthOf (c .before .data-type .ensures)
@@ -92,11 +69,9 @@ returns c =
     bits-none (givenAt (a .numbers .now) (a .bits .now) (a .i)) (width-is at-width)
     (at-offset .bits-fit .ensures ∙ ap (bitsFit (at-width .width .result)) (offset-at (a .bits .now) (a .i))) (sym (c .before .no-null .ensures) ∙ c .if1 .taken)
 
--- src/rows.rt:201:5
 all-requires : tie.Need-all-requires
 all-requires c κs = search needs
 
--- src/rows.rt:190:1
 returns-2 : tie.Need-returns-2
 returns-2 c =
     let at-none = c .before .before in

@@ -7,12 +7,6 @@ use Prim.Native.Nat.{_-_}
 use borrow.Author.Needs.{needs}
 use Rattle.maker.proofs.rows.measure.Statement.{statement}
 use Rattle.maker.proofs.rows.measure.Tie as tie
-use Rattle.maker.proofs.rows.measure.Reads as reads
-use Rattle.maker.proofs.rows.measure.Lts as lts
-use Rattle.layout.proofs.Layout.more.Reads as more-reads
-use Rattle.layout.proofs.Layout.none.Reads as none-reads
-use Rattle.maker.proofs.rows.row_fits.Reads as row-fits-reads
-use Rattle.maker.proofs.rows.settings_at.Reads as settings-at-reads
 
 abbrev Inv-loop : tie.InvT-loop
 Inv-loop numbers bits n l₀ i₀ l i = Measuring n numbers bits i l
@@ -20,45 +14,36 @@ Inv-loop numbers bits n l₀ i₀ l i = Measuring n numbers bits i l
 abbrev μ-loop : tie.MeasureT-loop
 μ-loop numbers bits n l₀ i₀ l i = n - i
 
--- src/rows.rt:282:9
 none-requires : tie.Need-none-requires Inv-loop μ-loop
 none-requires c κs = search needs
 
--- src/rows.rt:284:5
 loop-holds : tie.Need-loop-holds Inv-loop μ-loop
 loop-holds c = measuring-first (c .before .before .pre) (c .none .ensures)
 
--- src/rows.rt:285:13
 row-fits-requires : tie.Need-row-fits-requires Inv-loop μ-loop
 row-fits-requires c κs = row-there (c .before .loop .inv .there) _ (c .loop-test .taken)
 
--- src/rows.rt:286:13
 returns : tie.Need-returns Inv-loop μ-loop
 returns c =
     let at-loop-test = c .before .before in
     measuring-outside (at-loop-test .before .loop .inv) (at-loop-test .loop-test .taken) (sym (c .before .row-fits .ensures) ∙ not-true _ (c .if1 .taken))
 
--- src/rows.rt:288:26
 settings-at-requires : tie.Need-settings-at-requires Inv-loop μ-loop
 settings-at-requires c κs =
     let at-loop-test = c .before .before in
     (row-there (at-loop-test .before .loop .inv .there) _ (at-loop-test .loop-test .taken), sym (c .before .row-fits .ensures) ∙ not-false _ (c .if1 .left))
 
--- src/rows.rt:288:9
 more-requires : tie.Need-more-requires Inv-loop μ-loop
 more-requires c κs = search needs
 
--- src/rows.rt:289:9
 add-i : tie.Need-add-i Inv-loop μ-loop
 add-i c =
     let at-loop-test = c .before .before .before .before in
     omega (arith, at-loop-test .before .loop .inv .there .few, at-loop-test .loop-test .taken)
 
--- src/rows.rt:284:5
 loop-less : tie.Need-loop-less Inv-loop μ-loop
 loop-less c = omega arith
 
--- src/rows.rt:284:5
 loop-again : tie.Need-loop-again Inv-loop μ-loop
 loop-again c =
     let at-if1 = c .before .before in
@@ -66,7 +51,6 @@ loop-again c =
     measuring-next (at-loop-test .before .loop .inv) (at-loop-test .loop-test .taken) (sym (at-if1 .before .row-fits .ensures) ∙ not-false _ (at-if1 .if1 .left))
     (c .before .settings-at .ensures) (c .more .ensures)
 
--- src/rows.rt:278:1
 returns-2 : tie.Need-returns-2 Inv-loop μ-loop
 returns-2 c = measuring-done (c .before .loop .inv) (c .loop-test .left)
 

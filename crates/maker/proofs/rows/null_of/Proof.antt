@@ -6,44 +6,32 @@ use mathlib.Core.Path.{sym, _∙_}
 use borrow.Author.Needs.{needs}
 use Rattle.maker.proofs.rows.null_of.Statement.{statement}
 use Rattle.maker.proofs.rows.null_of.Tie as tie
-use Rattle.maker.proofs.rows.null_of.Reads as reads
-use Rattle.maker.proofs.rows.null_of.Lts as lts
-use Rattle.maker.proofs.rows.no_null.Reads as no-null-reads
 
--- src/rows.rt:234:25
 mul-no-null : tie.Need-mul-no-null
 mul-no-null c = search needs
 
--- src/rows.rt:234:25
 add-no-null : tie.Need-add-no-null
 add-no-null c = search needs
 
--- src/rows.rt:234:8
 no-null-requires : tie.Need-no-null-requires
 no-null-requires c κs = search needs
 
--- src/rows.rt:235:9
 returns : tie.Need-returns
 unfolding nullMade
 returns c = sym (rw (sym (c .before .no-null .ensures) ∙ c .if1 .taken))
 
--- src/rows.rt:239:20
 mul-t6 : tie.Need-mul-t6
 mul-t6 c = search needs
 
--- src/rows.rt:239:20
 add-t7 : tie.Need-add-t7
 add-t7 c = search needs
 
--- src/rows.rt:239:15
 mul-t8 : tie.Need-mul-t8
 mul-t8 c = search needs
 
--- src/rows.rt:239:15
 shared-slice-read-t10 : tie.Need-shared-slice-read-t10
 shared-slice-read-t10 c = search needs
 
--- src/rows.rt:230:1
 returns-2 : tie.Need-returns-2
 returns-2 c =
     let at-if1 = c .before in

@@ -5,37 +5,25 @@ use mathlib.Core.Path.{sym, _∙_}
 use borrow.Author.Needs.{needs}
 use Rattle.maker.proofs.rows.row_fits.Statement.{statement}
 use Rattle.maker.proofs.rows.row_fits.Tie as tie
-use Rattle.maker.proofs.rows.row_fits.Reads as reads
-use Rattle.maker.proofs.rows.row_fits.Lts as lts
-use Rattle.maker.proofs.rows.all.Reads as all-reads
-use Rattle.maker.proofs.rows.bits_within.Reads as bits-within-reads
-use Rattle.maker.proofs.rows.numbers_fit.Reads as numbers-fit-reads
-use Rattle.maker.proofs.rows.scales_fit.Reads as scales-fit-reads
 
--- src/rows.rt:209:9
 numbers-fit-requires : tie.Need-numbers-fit-requires
 numbers-fit-requires c κs = search needs
 
--- src/rows.rt:210:9
 returns : tie.Need-returns
 unfolding inTable
 returns c = sym (rw (sym (c .before .numbers-fit .ensures) ∙ not-true _ (c .if1 .taken)))
 
--- src/rows.rt:212:9
 scales-fit-requires : tie.Need-scales-fit-requires
 scales-fit-requires c κs = search needs
 
--- src/rows.rt:213:9
 bits-within-requires : tie.Need-bits-within-requires
 bits-within-requires c κs =
     let at-if1 = c .before in
     (at-if1 .before .before .before .pre, sym (at-if1 .before .numbers-fit .ensures) ∙ not-false _ (at-if1 .if1 .left))
 
--- src/rows.rt:214:5
 all-requires : tie.Need-all-requires
 all-requires c κs = search needs
 
--- src/rows.rt:205:1
 returns-2 : tie.Need-returns-2
 unfolding inTable
 returns-2 c =

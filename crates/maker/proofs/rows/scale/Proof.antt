@@ -10,40 +10,28 @@ use native.Mathlib.Omega.{arith}
 use borrow.Author.Needs.{needs}
 use Rattle.maker.proofs.rows.scale.Statement.{statement}
 use Rattle.maker.proofs.rows.scale.Tie as tie
-use Rattle.maker.proofs.rows.scale.Reads as reads
-use Rattle.maker.proofs.rows.scale.Lts as lts
-use Rattle.maker.proofs.rows.exponent.Reads as exponent-reads
-use Rattle.maker.proofs.rows.mantissa.Reads as mantissa-reads
-use Rattle.maker.proofs.rows.natural.Reads as natural-reads
 
--- src/rows.rt:223:15
 split : (c : tie.Start) → ScaleFits (c .args .last) (givenScale (numberAt (c .args .numbers .now)) (c .args .at))
 split c = scale-split (c .args .last) _ (c .pre .2)
 
 natural-requires : tie.Need-natural-requires
 natural-requires c κs = search needs
 
--- src/rows.rt:223:15
 cast-t5 : tie.Need-cast-t5
 cast-t5 c = record { fits = omega (arith, c .natural .ensures, split (c .before) .unit) }
 
--- src/rows.rt:224:37
 add-exponent : tie.Need-add-exponent
 add-exponent c = search needs
 
--- src/rows.rt:224:19
 exponent-requires : tie.Need-exponent-requires
 exponent-requires c κs = (search needs, split (c .before) .exponent)
 
--- src/rows.rt:225:37
 add-mantissa : tie.Need-add-mantissa
 add-mantissa c = search needs
 
--- src/rows.rt:225:19
 mantissa-requires : tie.Need-mantissa-requires
 mantissa-requires c κs = (search needs, split (c .before .before) .mantissa)
 
--- src/rows.rt:218:1
 -- Exponent and mantissa are read back from their bits.
 in8 : (c : tie.After-exponent) → SFits w8 (c .exponent .result)
 in8 c = search needs

@@ -13,15 +13,7 @@ use mathlib.Core.Path.{_≡_, ap, sym, _∙_}
 use borrow.Author.Needs.{needs}
 use Rattle.maker.proofs.rows.settings_at.Statement.{statement}
 use Rattle.maker.proofs.rows.settings_at.Tie as tie
-use Rattle.maker.proofs.rows.settings_at.Reads as reads
-use Rattle.maker.proofs.rows.settings_at.Lts as lts
-use Rattle.maker.proofs.rows.data_type.Reads as data-type-reads
-use Rattle.maker.proofs.rows.natural.Reads as natural-reads
-use Rattle.maker.proofs.rows.null_of.Reads as null-of-reads
-use Rattle.maker.proofs.rows.scale.Reads as scale-reads
-use Rattle.values.proofs.width.Reads as width-reads
 
--- src/rows.rt:248:14
 -- What the row says, and that it is in the table.
 abbrev given : tie.Start → Given
 given c = givenAt (c .args .numbers .now) (c .args .bits .now) (c .args .i)
@@ -38,103 +30,80 @@ width-is c = c .width .ensures ∙ ap widthOf (c .before .data-type .ensures)
 mul-at : tie.Need-mul-at
 mul-at c = search needs
 
--- src/rows.rt:249:9
 data-type-requires : tie.Need-data-type-requires
 data-type-requires c κs = (c .before .pre .0, fits (c .before) .numbers)
 
--- src/rows.rt:250:17
 width-requires : tie.Need-width-requires
 width-requires c κs = search needs
 
--- src/rows.rt:250:17
 cast-width : tie.Need-cast-width
 cast-width c = record { fits = omega (arith, c .width .ensures, width-le (c .before .data-type .result)) }
 
--- src/rows.rt:253:9
 add-scale : tie.Need-add-scale
 add-scale c = search needs
 
--- src/rows.rt:254:9
 cast-scale : tie.Need-cast-scale
 cast-scale c = search needs
 
--- src/rows.rt:251:9
 scale-requires : tie.Need-scale-requires
 scale-requires c κs =
     let at-start = c .before .before .before in
     let a = at-start .args in
     (search needs, omega arith, ap (scaleInTable lastIntervalUnit) (scale-at (a .numbers .now) (a .i * attributeNumbers) 7) ∙ fits at-start .interval)
 
--- src/rows.rt:258:9
 add-scale-2 : tie.Need-add-scale-2
 add-scale-2 c = search needs
 
--- src/rows.rt:259:9
 cast-scale-2 : tie.Need-cast-scale-2
 cast-scale-2 c = search needs
 
--- src/rows.rt:256:9
 scale-requires-2 : tie.Need-scale-requires-2
 scale-requires-2 c κs =
     let at-start = c .before .before .before .before in
     let a = at-start .args in
     (search needs, omega arith, ap (scaleInTable lastResolutionUnit) (scale-at (a .numbers .now) (a .i * attributeNumbers) 10) ∙ fits at-start .resolution)
 
--- src/rows.rt:261:9
 null-of-requires : tie.Need-null-of-requires
 null-of-requires c κs =
     let at-width = c .before .before in
     (at-width .before .before .before .pre .0, width-is at-width)
 
--- src/rows.rt:263:33
 add-natural : tie.Need-add-natural
 add-natural c = search needs
 
--- src/rows.rt:263:16
 natural-requires : tie.Need-natural-requires
 natural-requires c κs = search needs
 
--- src/rows.rt:263:16
 cast-t12 : tie.Need-cast-t12
 cast-t12 c = record { fits = omega (arith, c .natural .ensures, numbers (c .before .before .before .before .before .before .before) .most) }
 
--- src/rows.rt:264:33
 add-natural-2 : tie.Need-add-natural-2
 add-natural-2 c = search needs
 
--- src/rows.rt:264:16
 natural-requires-2 : tie.Need-natural-requires-2
 natural-requires-2 c κs = search needs
 
--- src/rows.rt:264:16
 cast-t15 : tie.Need-cast-t15
 cast-t15 c = record { fits = omega (arith, c .natural2 .ensures, numbers (c .before .before .before .before .before .before .before .before) .class) }
 
--- src/rows.rt:265:32
 add-natural-3 : tie.Need-add-natural-3
 add-natural-3 c = search needs
 
--- src/rows.rt:265:15
 natural-requires-3 : tie.Need-natural-requires-3
 natural-requires-3 c κs = search needs
 
--- src/rows.rt:265:15
 cast-t18 : tie.Need-cast-t18
 cast-t18 c = record { fits = omega (arith, c .natural3 .ensures, numbers (c .before .before .before .before .before .before .before .before .before) .lead) }
 
--- src/rows.rt:271:24
 mul-t19 : tie.Need-mul-t19
 mul-t19 c = search needs
 
--- src/rows.rt:271:19
 mul-t20 : tie.Need-mul-t20
 mul-t20 c = search needs
 
--- src/rows.rt:271:19
 shared-slice-read-t22 : tie.Need-shared-slice-read-t22
 shared-slice-read-t22 c = search needs
 
--- src/rows.rt:244:1
 returns : tie.Need-returns
 returns c =
     let at-lead = c .before in
