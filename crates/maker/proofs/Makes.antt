@@ -4,7 +4,7 @@
 --     setting-refused, samples-refused, room-refused, made-answered    the ways of the answer
 --     room-yes, room-short, room-limit    the test of the room
 --     made-lies                 the frame's samples lie in what is handed over
---     made-parts, made-size     its octets, as they are written, and how many
+--     made-waveform, made-parts, made-size    its octets, as they are written, and how many
 --     rows-are, measured-out, measured-in, Found, found    what is found on the way
 --     product-small, groups-small, samples-other, samples-same, size-is, samples-long-out, store-asked    what follows from it
 --     made-refused, made-whole  the calls
@@ -41,7 +41,6 @@ use Rattle.pass.specs.Scan.{sizeOf}
 use Rattle.reader.proofs.Ordered.{Lies}
 use Rattle.groups.proofs.Puts.{put-as}
 use Rattle.frames.specs.Parts.{frameParts}
-use Rattle.canonical.specs.Recording.{recordedFrame}
 use Rattle.canonical.specs.Canonical.{waveformOf, frameOctets}
 use Rattle.canonical.proofs.Octets.{waveform-big, frame-long}
 use Rattle.canonical.proofs.Writing.{frame-is}
@@ -190,12 +189,15 @@ module _ (m : Making) (s : settingsFit m ≡ true) (f : samplesFit m ≡ true) w
         pointer = own .pointer;
       }
 
+  -- Its canonical waveform is the samples as they are handed over.
+  pub made-waveform : Octets (m .samples) → waveformOf (recordMade m) ≡ m .samples
+  unfolding recordMade
+  made-waveform o =
+      waveform-big (m .samples) (frameMade m) made-lies o refl ∙ take-all (octetsSampled (frameMade m)) (m .samples) (omega (arith, samples-long))
+
   pub made-parts : Octets (m .samples) → frameParts (m .start) (m .sequences) (channelsIn m) (m .samples) ≡ frameOctets (recordMade m)
   unfolding recordMade
-  made-parts o =
-      let w : waveformOf (recordedFrame (frameMade m)) ≡ m .samples =
-      waveform-big (m .samples) (frameMade m) made-lies o refl ∙ take-all (octetsSampled (frameMade m)) (m .samples) (omega (arith, samples-long)) in
-      sym (frame-is (frameMade m) ∙ ap (frameParts (m .start) (m .sequences) (channelsIn m)) w)
+  made-parts o = sym (frame-is (frameMade m) ∙ ap (frameParts (m .start) (m .sequences) (channelsIn m)) (made-waveform o))
 
 pub made-size : (m : Making) → length (frameOctets (recordMade m)) ≡ frameSize (m .sequences) (groupsSize 0 (channelsIn m)) (samplesOctets (channelsIn m) (m .sequences))
 unfolding recordMade sizeOf
