@@ -6,6 +6,7 @@ use crate::ffi::Stepped;
 use crate::file::File;
 use crate::refusal::Refusal;
 use crate::samples::{Bits, Values};
+use crate::settings::{ChannelSettings, FrameSettings};
 use crate::walk::Walk;
 use std::iter::FusedIterator;
 use std::ops::Range;
@@ -158,6 +159,18 @@ impl<'a> Frame<'a> {
     /// A channel.
     pub fn channel(&self, channel: u32) -> Result<Channel<'a>, Refusal> {
         Channel::look_up(self.file, self.walk.clone(), self.number, channel)
+    }
+
+    /// The settings that the frame was read with: those of a frame that can be made. Its samples stand as
+    /// [`FrameSettings::make`] takes them in the canonical file.
+    pub fn settings(&self) -> Result<FrameSettings, Refusal> {
+        let settings = |channel: Channel| ChannelSettings::from(channel.attributes());
+        let channels = self.channels().map(|channel| channel.map(settings));
+        Ok(FrameSettings {
+            start: self.start.into(),
+            sequences: self.sequences.into(),
+            channels: channels.collect::<Result<_, _>>()?,
+        })
     }
 
     /// How many samples all channels have together: the room that [`Frame::samples`] needs for all of

@@ -40,8 +40,10 @@ pub mod ffi;
 mod attributes;
 mod file;
 mod iterators;
+mod recorder;
 mod refusal;
 mod samples;
+mod settings;
 mod value;
 #[cfg(test)]
 mod vocabulary;
@@ -50,8 +52,10 @@ mod walk;
 pub use attributes::{Attributes, DataType, Scale};
 pub use file::File;
 pub use iterators::{ByteOrder, Channel, Channels, Frame, Frames};
+pub use recorder::{RecordError, Recorder};
 pub use refusal::Refusal;
 pub use samples::{Bits, Values};
+pub use settings::{ChannelSettings, FrameSettings};
 pub use value::{Sample, Value};
 
 /// The README's example is a test too.
