@@ -1344,6 +1344,28 @@ static void make_frame_numbers(void)
     expect_make_refusal(&changed, sizeof out, MFER_SETTING_RANGE);
 }
 
+/* A row for each of 256 channels is taken, for each of 257 not. */
+static void make_many_channels(void)
+{
+    static int64_t numbers[(MFER_MAX_CHANNELS + 1) * MFER_NUMBERS];
+    static uint64_t bits[(MFER_MAX_CHANNELS + 1) * 2];
+    static uint8_t out[MFER_MAKE_ROOM(MFER_MAX_CHANNELS + 1, 0)];
+    struct making m = {0, 0, MFER_MAX_CHANNELS, numbers, 0, bits, 0, NULL, 0};
+    struct rows rows;
+    uint64_t written;
+    size_t i;
+    set_rows(&rows);
+    for (i = 0; i <= MFER_MAX_CHANNELS; i++)
+        memcpy(numbers + i * MFER_NUMBERS, rows.numbers, MFER_NUMBERS * sizeof *numbers);
+    m.numbers_len = MFER_MAX_CHANNELS * MFER_NUMBERS;
+    m.bits_len = MFER_MAX_CHANNELS * 2;
+    EXPECT(make(&m, out, sizeof out, &written) == MFER_OK);
+    m.channels = MFER_MAX_CHANNELS + 1;
+    m.numbers_len = SIZE(numbers);
+    m.bits_len = SIZE(bits);
+    expect_make_refusal(&m, sizeof out, MFER_SETTING_RANGE);
+}
+
 /* Bits as wide as a sample of each type, and wider; any null width but 0 is a null. */
 static void make_bits(void)
 {
@@ -1408,8 +1430,9 @@ static void make_samples(void)
     expect_make_refusal(&m, 0, MFER_SAMPLES_LENGTH);
     rows.numbers[2 * MFER_NUMBERS + MFER_NUMBER_RESOLUTION_MANTISSA] = 0;
     expect_make_refusal(&m, 0, MFER_SETTING_RANGE);
+    for (m.sequences = 0; m.sequences <= 3; m.sequences++)
+        expect_make_refusal(&m, 0, MFER_SETTING_RANGE);
     m.sequences = 3;
-    expect_make_refusal(&m, 0, MFER_SETTING_RANGE);
     rows.numbers[2 * MFER_NUMBERS + MFER_NUMBER_RESOLUTION_MANTISSA] = 1;
     expect_make_refusal(&m, 0, MFER_NO_ROOM);
 }
@@ -1605,6 +1628,7 @@ int main(int argc, char **argv)
     run("make_p2", make_p2);
     run("make_numbers", make_numbers);
     run("make_frame_numbers", make_frame_numbers);
+    run("make_many_channels", make_many_channels);
     run("make_bits", make_bits);
     run("make_samples", make_samples);
     run("make_what_was_read", make_what_was_read);
