@@ -2,6 +2,7 @@
 //! purpose, and files damaged at random. The same seed always gives the same file.
 
 use crate::items::tag;
+use crate::random::Random;
 
 /// Tags that may be defined outside and inside groups.
 const CHANNEL_TAGS: [u8; 8] = [
@@ -47,79 +48,36 @@ pub fn file(seed: u64) -> Vec<u8> {
 
 /// A file that is accepted.
 pub fn good_file(seed: u64) -> Vec<u8> {
-    let mut maker = Maker::new(seed);
-    let rare = maker.random.below(600);
+    let mut draft = Draft::new(seed);
+    let rare = draft.random.below(600);
     match rare {
-        0 => maker.all_frames(),
-        1..=3 => maker.all_channels(),
+        0 => draft.all_frames(),
+        1..=3 => draft.all_channels(),
         _ => {
-            let steps = 1 + maker.random.below(14);
-            maker.steps(steps);
-            if maker.random.one_in(2) {
-                maker.frame();
+            let steps = 1 + draft.random.below(14);
+            draft.steps(steps);
+            if draft.random.one_in(2) {
+                draft.frame();
             }
         }
     }
-    maker.octets
+    draft.octets
 }
 
 /// A file refused with `number`, which is from 1 to 14, and the place of the refusal.
 pub fn faulty_file(number: u8, seed: u64) -> (Vec<u8>, u64) {
-    let mut maker = Maker::new(seed);
-    let steps = maker.random.below(7);
-    maker.steps(steps);
-    let fault = maker.fault(number);
+    let mut draft = Draft::new(seed);
+    let steps = draft.random.below(7);
+    draft.steps(steps);
+    let fault = draft.fault(number);
     if !fault.last {
-        maker.after_fault();
+        draft.after_fault();
     }
-    (maker.octets, fault.place as u64)
+    (draft.octets, fault.place as u64)
 }
 
-/// Numbers that only the seed decides (splitmix64).
-struct Random(u64);
-
+/// Choices that only a file needs.
 impl Random {
-    fn new(seed: u64) -> Random {
-        Random(seed)
-    }
-
-    fn next(&mut self) -> u64 {
-        self.0 = self.0.wrapping_add(0x9E37_79B9_7F4A_7C15);
-        let mixed = (self.0 ^ self.0 >> 30).wrapping_mul(0xBF58_476D_1CE4_E5B9);
-        let mixed = (mixed ^ mixed >> 27).wrapping_mul(0x94D0_49BB_1331_11EB);
-        mixed ^ mixed >> 31
-    }
-
-    fn below(&mut self, limit: u64) -> u64 {
-        self.next() % limit
-    }
-
-    fn between(&mut self, first: u64, last: u64) -> u64 {
-        first + self.below(last - first + 1)
-    }
-
-    fn one_in(&mut self, cases: u64) -> bool {
-        self.below(cases) == 0
-    }
-
-    fn pick<T: Copy>(&mut self, from: &[T]) -> T {
-        from[self.below(from.len() as u64) as usize]
-    }
-
-    fn octet(&mut self) -> u8 {
-        self.next() as u8
-    }
-
-    fn octets(&mut self, count: u64) -> Vec<u8> {
-        (0..count).map(|_| self.octet()).collect()
-    }
-
-    /// Fewer than `limit` octets.
-    fn some_octets(&mut self, limit: u64) -> Vec<u8> {
-        let count = self.below(limit);
-        self.octets(count)
-    }
-
     /// A primitive tag that means nothing here, other than 00.
     fn unknown_tag(&mut self) -> u8 {
         loop {
@@ -140,7 +98,7 @@ impl Random {
     }
 }
 
-/// What the maker keeps of a channel's settings, so as to know what is allowed next.
+/// What a draft keeps of a channel's settings, so as to know what is allowed next.
 #[derive(Clone, Copy)]
 struct Shape {
     block: u32,
@@ -208,7 +166,7 @@ struct Fault {
 }
 
 /// A file in the making, with what stands at its end.
-struct Maker {
+struct Draft {
     random: Random,
     octets: Vec<u8>,
     little: bool,
@@ -221,9 +179,9 @@ struct Maker {
     channels: [Shape; MOST_CHANNELS as usize],
 }
 
-impl Maker {
-    fn new(seed: u64) -> Maker {
-        Maker {
+impl Draft {
+    fn new(seed: u64) -> Draft {
+        Draft {
             random: Random::new(seed),
             octets: Vec::new(),
             little: false,
@@ -239,7 +197,7 @@ impl Maker {
 }
 
 /// Items and numbers.
-impl Maker {
+impl Draft {
     /// A length, now and then in a longer form than needed.
     fn length(&mut self, length: usize) -> Vec<u8> {
         if length < 0x80 && !self.random.one_in(6) {
@@ -363,7 +321,7 @@ impl Maker {
 }
 
 /// Definitions and groups.
-impl Maker {
+impl Draft {
     /// A value for `tag` that is allowed; `shape` is brought up to it.
     fn attribute(&mut self, tag: u8, shape: &mut Shape, fallback: &Shape) -> Vec<u8> {
         if self.random.one_in(7) {
@@ -570,7 +528,7 @@ impl Maker {
 }
 
 /// Frames.
-impl Maker {
+impl Draft {
     fn sequence_octets(&self) -> u64 {
         let channels = &self.channels[..self.channels()];
         channels.iter().map(Shape::block_octets).sum()
@@ -693,7 +651,7 @@ impl Maker {
 }
 
 /// Whole files.
-impl Maker {
+impl Draft {
     fn step(&mut self) {
         match self.random.below(24) {
             0..=5 => {
@@ -775,7 +733,7 @@ impl Maker {
 }
 
 /// Faults built in on purpose.
-impl Maker {
+impl Draft {
     fn fault(&mut self, number: u8) -> Fault {
         match number {
             1 => self.context_tag(),

@@ -5,6 +5,7 @@
 pub mod generator;
 mod items;
 pub mod papers;
+mod random;
 pub mod reader;
 mod scan;
 mod settings;
