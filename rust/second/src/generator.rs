@@ -29,6 +29,9 @@ const BARRED_TAGS: [u8; 7] = [
     tag::GROUP,
 ];
 
+/// Octets per sample by type.
+pub(crate) const SAMPLE_OCTETS: [u8; 9] = [2, 2, 4, 1, 2, 1, 4, 4, 8];
+
 const WIDTHS: [u8; 4] = [1, 2, 4, 8];
 const LAST_BLOCK: u64 = 1_048_576;
 const LAST_CHANNEL_NUMBER: u64 = (1 << 28) - 1;
@@ -76,6 +79,44 @@ pub fn faulty_file(number: u8, seed: u64) -> (Vec<u8>, u64) {
     (draft.octets, fault.place as u64)
 }
 
+/// Numbers within document 01's table.
+impl Random {
+    pub fn pointer(&mut self) -> i32 {
+        match self.below(5) {
+            0 => self.pick(&[i32::MIN, -1, 0, 127, 128, -128, -129, i32::MAX]),
+            1 => self.next() as i32,
+            _ => self.below(2000) as i32 - 1000,
+        }
+    }
+
+    pub fn block(&mut self) -> u64 {
+        match self.below(40) {
+            0 => LAST_BLOCK,
+            1 => self.between(1, LAST_BLOCK),
+            2..=4 => self.between(4, 40),
+            _ => self.between(1, 3),
+        }
+    }
+
+    pub fn channel_count(&mut self) -> u64 {
+        match self.below(60) {
+            0 => self.pick(&[127, 128, 129, 200, 255, 256]),
+            1..=4 => self.between(5, 12),
+            _ => self.between(1, 4),
+        }
+    }
+
+    /// Bits of an offset or null of this width.
+    pub fn sample_bits(&mut self, width: u8) -> u64 {
+        let bits = match self.below(3) {
+            0 => self.below(3),
+            1 => 1 << (8 * width - 1),
+            _ => self.next(),
+        };
+        masked(bits, width)
+    }
+}
+
 /// Choices that only a file needs.
 impl Random {
     /// A primitive tag that means nothing here, other than 00.
@@ -119,7 +160,7 @@ impl Shape {
     };
 
     fn width(&self) -> u8 {
-        [2, 2, 4, 1, 2, 1, 4, 4, 8][usize::from(self.data_type)]
+        SAMPLE_OCTETS[usize::from(self.data_type)]
     }
 
     fn block_octets(&self) -> u64 {
@@ -245,33 +286,6 @@ impl Draft {
         self.turned(number as u64, width)
     }
 
-    fn pointer(&mut self) -> i32 {
-        match self.random.below(5) {
-            0 => self
-                .random
-                .pick(&[i32::MIN, -1, 0, 127, 128, -128, -129, i32::MAX]),
-            1 => self.random.next() as i32,
-            _ => self.random.below(2000) as i32 - 1000,
-        }
-    }
-
-    fn block(&mut self) -> u64 {
-        match self.random.below(40) {
-            0 => LAST_BLOCK,
-            1 => self.random.between(1, LAST_BLOCK),
-            2..=4 => self.random.between(4, 40),
-            _ => self.random.between(1, 3),
-        }
-    }
-
-    fn channel_count(&mut self) -> u64 {
-        match self.random.below(60) {
-            0 => self.random.pick(&[127, 128, 129, 200, 255, 256]),
-            1..=4 => self.random.between(5, 12),
-            _ => self.random.between(1, 4),
-        }
-    }
-
     fn sequence_count(&mut self) -> u64 {
         match self.random.below(12) {
             0 => self.random.between(1, u32::MAX.into()),
@@ -330,7 +344,7 @@ impl Draft {
         }
         match tag {
             tag::BLOCK => {
-                let block = self.block();
+                let block = self.random.block();
                 shape.block = block as u32;
                 self.whole(block)
             }
@@ -354,12 +368,7 @@ impl Draft {
 
     /// Bits for an offset or null of this width.
     fn sample_bits(&mut self, tag: u8, width: u8, shape: &mut Shape) -> Vec<u8> {
-        let bits = match self.random.below(3) {
-            0 => self.random.below(3),
-            1 => 1 << (8 * width - 1),
-            _ => self.random.next(),
-        };
-        let bits = masked(bits, width);
+        let bits = self.random.sample_bits(width);
         match tag {
             tag::OFFSET => shape.offset = width,
             _ => (shape.null, shape.null_bits) = (width, bits),
@@ -556,7 +565,7 @@ impl Draft {
     /// Gives a start pointer where the continued one would leave 32 bits.
     fn settle_start(&mut self) {
         if self.start.is_none() && i32::try_from(self.continued).is_err() {
-            let start = self.pointer();
+            let start = self.random.pointer();
             self.set_start(Some(start));
         }
     }
@@ -659,7 +668,7 @@ impl Draft {
                 self.define_root(tag);
             }
             6..=7 => {
-                let count = self.channel_count();
+                let count = self.random.channel_count();
                 let kept = !self.random.one_in(8);
                 self.set_count(kept.then_some(count));
             }
@@ -669,7 +678,7 @@ impl Draft {
                 self.set_sequences(kept.then_some(sequences));
             }
             10 => {
-                let start = self.pointer();
+                let start = self.random.pointer();
                 let kept = !self.random.one_in(4);
                 self.set_start(kept.then_some(start));
             }
@@ -693,7 +702,7 @@ impl Draft {
     /// Steps, as long as the file stays small.
     fn steps(&mut self, steps: u64) {
         if self.random.one_in(2) {
-            let count = self.channel_count();
+            let count = self.random.channel_count();
             self.set_count(Some(count));
         }
         for _ in 0..steps {
@@ -889,7 +898,7 @@ impl Draft {
     /// Where an item stands whose length and value are looked at.
     fn around_looked_at(&mut self) -> Around {
         if self.count.is_none() && self.random.one_in(2) {
-            let count = self.channel_count();
+            let count = self.random.channel_count();
             self.set_count(Some(count));
         }
         match self.count {
@@ -978,7 +987,7 @@ impl Draft {
 
     fn channel_fault(&mut self) -> Fault {
         if self.count.is_none() {
-            let count = self.channel_count();
+            let count = self.random.channel_count();
             self.set_count(Some(count));
         }
         let count = self.channels() as u64;

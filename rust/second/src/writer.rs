@@ -12,7 +12,7 @@ pub fn canonical(octets: &[u8], out: &mut [u8]) -> Result<usize, Refusal> {
     if length > out.len() {
         return Err(Refusal::without_place(Refusal::NO_ROOM));
     }
-    let mut output = Output { octets: out, at: 0 };
+    let mut output = Output::new(out);
     if length > 0 {
         output.item(tag::BYTE_ORDER, &[0]);
     }
@@ -24,7 +24,8 @@ pub fn canonical(octets: &[u8], out: &mut [u8]) -> Result<usize, Refusal> {
 pub fn canonical_length(octets: &[u8]) -> Result<usize, Refusal> {
     let mut length = 0;
     let frames = scan(octets, |standing, frame| {
-        length += frame_length(standing, frame)
+        let records = standing.records(frame.channels);
+        length += frame_length(frame.sequences, records, frame.waveform.len());
     })?;
     if frames > 0 {
         length += 3;
@@ -35,22 +36,26 @@ pub fn canonical_length(octets: &[u8]) -> Result<usize, Refusal> {
     }
 }
 
-/// Octets of one frame in the canonical file.
-fn frame_length(standing: &Standing, frame: &Frame) -> u64 {
-    let sequences = match frame.sequences {
+/// Octets of one frame in the canonical file, which has so many octets of samples.
+pub(crate) fn frame_length<'a>(
+    sequences: u32,
+    records: impl Iterator<Item = &'a Record>,
+    samples: usize,
+) -> u64 {
+    let sequences = match sequences {
         0 => 2,
         _ => 6,
     };
-    let groups: u64 = (0..frame.channels)
-        .map(|channel| {
+    let groups: u64 = (0..)
+        .zip(records)
+        .map(|(channel, record)| {
             let number = match channel {
                 0..=0x7F => 1,
                 _ => 2,
             };
-            1 + number + 1 + u64::from(group_length(standing.record(channel)))
+            1 + number + 1 + u64::from(group_length(record))
         })
         .sum();
-    let samples = frame.waveform.len();
     6 + sequences + 6 + groups + 1 + length_octets(samples) as u64 + samples as u64
 }
 
@@ -78,12 +83,16 @@ fn length_octets(length: usize) -> usize {
 }
 
 /// The buffer and how far it is written; it is known to be long enough.
-struct Output<'a> {
+pub(crate) struct Output<'a> {
     octets: &'a mut [u8],
     at: usize,
 }
 
 impl Output<'_> {
+    pub fn new(octets: &mut [u8]) -> Output<'_> {
+        Output { octets, at: 0 }
+    }
+
     /// The next `count` octets, to be written by the caller.
     fn take(&mut self, count: usize) -> &mut [u8] {
         let from = self.at;
@@ -91,7 +100,7 @@ impl Output<'_> {
         &mut self.octets[from..self.at]
     }
 
-    fn put(&mut self, octets: &[u8]) {
+    pub fn put(&mut self, octets: &[u8]) {
         self.take(octets.len()).copy_from_slice(octets);
     }
 
@@ -101,18 +110,30 @@ impl Output<'_> {
     }
 
     fn frame(&mut self, standing: &Standing, frame: &Frame) {
-        self.item(tag::CHANNELS, &frame.channels.to_be_bytes());
-        match frame.sequences {
+        let records = standing.records(frame.channels);
+        self.head(frame.start, frame.sequences, records, frame.waveform.len());
+        self.samples(standing, frame);
+    }
+
+    /// A frame of these channels up to its samples, of which there are so many octets.
+    pub fn head<'a>(
+        &mut self,
+        start: i32,
+        sequences: u32,
+        records: impl ExactSizeIterator<Item = &'a Record>,
+        samples: usize,
+    ) {
+        self.item(tag::CHANNELS, &(records.len() as u32).to_be_bytes());
+        match sequences {
             0 => self.item(tag::SEQUENCES, &[]),
             sequences => self.item(tag::SEQUENCES, &sequences.to_be_bytes()),
         }
-        self.item(tag::START, &frame.start.to_be_bytes());
-        for channel in 0..frame.channels {
-            self.group(channel, standing.record(channel));
+        self.item(tag::START, &start.to_be_bytes());
+        for (channel, record) in (0..).zip(records) {
+            self.group(channel, record);
         }
         self.put(&[tag::WAVEFORM]);
-        self.length(frame.waveform.len());
-        self.samples(standing, frame);
+        self.length(samples);
     }
 
     fn group(&mut self, channel: u32, record: &Record) {
