@@ -4,7 +4,7 @@
 use crate::reader::{Attributes, Refusal, Scale};
 use crate::scan::{Frame, FILE_LIMIT};
 use crate::settings::{sample_width, Bits, Record};
-use crate::writer::{frame_length, Output};
+use crate::writer::{frame_length, Output, BEFORE_FRAMES};
 
 /// Where the numbers of a channel stand in its row.
 pub mod number {
@@ -81,7 +81,7 @@ pub fn make_frame(
     }
     let records = settings.records.iter();
     let length = frame_length(settings.sequences, records.clone(), samples.len());
-    if length > out.len() as u64 || length + BYTE_ORDER > FILE_LIMIT {
+    if length > out.len() as u64 || length + BEFORE_FRAMES > FILE_LIMIT {
         return Err(Refusal::without_place(Refusal::NO_ROOM));
     }
     let mut output = Output::new(out);
@@ -101,9 +101,6 @@ pub fn sample_octets(
     let settings = Settings::new(start, sequences, channels, numbers, bits)?;
     Some(settings.sample_octets())
 }
-
-/// Octets that a file has before its first frame.
-const BYTE_ORDER: u64 = 3;
 
 /// Settings that are all in document 01's table.
 struct Settings {

@@ -5,6 +5,9 @@ use crate::reader::{Refusal, Scale};
 use crate::scan::{scan, Frame, Standing, FILE_LIMIT};
 use crate::settings::Record;
 
+/// Octets that a file has before its first frame: 01 01 00.
+pub(crate) const BEFORE_FRAMES: u64 = 3;
+
 /// Writes the canonical file of an accepted file to the start of `out` and answers its length. On
 /// a refusal `out` keeps all its octets.
 pub fn canonical(octets: &[u8], out: &mut [u8]) -> Result<usize, Refusal> {
@@ -28,7 +31,7 @@ pub fn canonical_length(octets: &[u8]) -> Result<usize, Refusal> {
         length += frame_length(frame.sequences, records, frame.waveform.len());
     })?;
     if frames > 0 {
-        length += 3;
+        length += BEFORE_FRAMES;
     }
     match length <= FILE_LIMIT {
         true => Ok(length as usize),
