@@ -64,6 +64,21 @@ impl DataType {
     pub fn code(self) -> u8 {
         self as u8
     }
+
+    /// The type of a code; none has a code above 8.
+    pub fn from_code(code: u8) -> Option<DataType> {
+        DataType::ALL.get(usize::from(code)).copied()
+    }
+
+    /// Octets of a sample: 1, 2, 4 or 8.
+    pub fn width(self) -> u8 {
+        match self {
+            DataType::Unsigned8 | DataType::Signed8 => 1,
+            DataType::Signed16 | DataType::Unsigned16 | DataType::Status => 2,
+            DataType::Signed32 | DataType::Unsigned32 | DataType::Single => 4,
+            DataType::Double => 8,
+        }
+    }
 }
 
 /// What a recording holds of one channel in one frame, but for its samples.

@@ -145,6 +145,22 @@ extern "C" {
         written: *mut u64,
         place: *mut u64,
     ) -> u32;
+
+    fn mfer_make_frame(
+        start: i64,
+        sequences: u64,
+        channels: u64,
+        numbers: *const i64,
+        numbers_len: usize,
+        bits: *const u64,
+        bits_len: usize,
+        samples: *const u8,
+        samples_len: usize,
+        out: *mut u8,
+        out_len: usize,
+        written: *mut u64,
+        place: *mut u64,
+    ) -> u32;
 }
 
 /// What outputs hold before a call, so that one the library left alone would show.
@@ -255,8 +271,8 @@ pub fn sample(file: &[u8], frame: u32, channel: u32, number: u64) -> Sampled {
     }
 }
 
-/// What `mfer_samples`, `mfer_values`, those of a walk, `mfer_canonical_length` and `mfer_canonical`
-/// answer, but for the buffers.
+/// What `mfer_samples`, `mfer_values`, those of a walk, `mfer_canonical_length`, `mfer_canonical` and
+/// `mfer_make_frame` answer, but for the buffers.
 #[derive(Clone, Copy, PartialEq, Eq, Debug)]
 pub struct Filled {
     /// The refusal's number, 0 for none.
@@ -482,6 +498,36 @@ pub fn canonical(file: &[u8], out: &mut [u8]) -> Filled {
         mfer_canonical(
             file.as_ptr(),
             file.len(),
+            out.as_mut_ptr(),
+            out.len(),
+            count,
+            place,
+        )
+    })
+}
+
+/// Asks `mfer_make_frame`. `numbers` are rows of [`NUMBERS`], `bits` rows of two, one for each channel.
+pub fn make_frame(
+    start: i64,
+    sequences: u64,
+    channels: u64,
+    numbers: &[i64],
+    bits: &[u64],
+    samples: &[u8],
+    out: &mut [u8],
+) -> Filled {
+    // SAFETY: see the module's first lines.
+    filled(|count, place| unsafe {
+        mfer_make_frame(
+            start,
+            sequences,
+            channels,
+            numbers.as_ptr(),
+            numbers.len(),
+            bits.as_ptr(),
+            bits.len(),
+            samples.as_ptr(),
+            samples.len(),
             out.as_mut_ptr(),
             out.len(),
             count,

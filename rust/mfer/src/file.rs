@@ -24,6 +24,12 @@ impl<'a> File<'a> {
     /// The most octets a file may have.
     pub const LIMIT: u64 = 2_147_483_647;
 
+    /// The most frames a file may have.
+    pub const MAX_FRAMES: u32 = 4_096;
+
+    /// What stands ahead of the first frame of a file that is made: samples are big-endian.
+    pub const HEAD: [u8; 3] = [0x01, 0x01, 0x00];
+
     /// The file of these octets.
     pub const fn new(octets: &'a [u8]) -> File<'a> {
         File(octets)

@@ -6,6 +6,7 @@ use crate::ffi::Stepped;
 use crate::file::File;
 use crate::refusal::Refusal;
 use crate::samples::{Bits, Values};
+use crate::settings::{ChannelSettings, FrameSettings};
 use crate::walk::Walk;
 use std::iter::FusedIterator;
 use std::ops::Range;
@@ -158,6 +159,33 @@ impl<'a> Frame<'a> {
     /// A channel.
     pub fn channel(&self, channel: u32) -> Result<Channel<'a>, Refusal> {
         Channel::look_up(self.file, self.walk.clone(), self.number, channel)
+    }
+
+    /// The settings that the frame was read with, to make one like it. In a canonical file its waveform is
+    /// the samples as [`FrameSettings::make`] takes them.
+    ///
+    /// ```
+    /// use mfer::{File, Recorder};
+    ///
+    /// // Two frames, little-endian, with an octet past the samples of the first.
+    /// let octets = [0x01, 1, 1, 0x1E, 3, 1, 0, 9, 0x0A, 1, 3, 0x1E, 2, 7, 8];
+    /// let canonical = File::new(&octets).canonical_vec()?;
+    /// let mut recorder = Recorder::new(Vec::new());
+    /// for frame in File::new(&canonical).frames()? {
+    ///     let frame = frame?;
+    ///     recorder.frame(&frame.settings()?, &canonical[frame.waveform()])?;
+    /// }
+    /// assert_eq!(recorder.finish()?, canonical);
+    /// # Ok::<(), Box<dyn std::error::Error>>(())
+    /// ```
+    pub fn settings(&self) -> Result<FrameSettings, Refusal> {
+        let settings = |channel: Channel| ChannelSettings::from(channel.attributes());
+        let channels = self.channels().map(|channel| channel.map(settings));
+        Ok(FrameSettings {
+            start: self.start.into(),
+            sequences: self.sequences.into(),
+            channels: channels.collect::<Result<_, _>>()?,
+        })
     }
 
     /// How many samples all channels have together: the room that [`Frame::samples`] needs for all of

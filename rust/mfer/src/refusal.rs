@@ -56,7 +56,9 @@ refusals! {
     NO_FRAME = 20, "no such frame";
     NO_CHANNEL = 21, "no such channel";
     NO_SAMPLE = 22, "no such sample";
-    NO_ROOM = 23, "canonical file longer than the output buffer or than 15's limit (2,147,483,647 octets)";
+    NO_ROOM = 23, "what is written is longer than the output buffer, or the file than 15's limit (2,147,483,647 octets)";
+    SETTING_RANGE = 24, "a setting outside the table of attributes, or bits wider than the sample";
+    SAMPLES_LENGTH = 25, "sample octets not exactly sequences times G (the octets of a sequence)";
 }
 
 impl Refusal {
