@@ -5,6 +5,7 @@ use crate::generator::SAMPLE_OCTETS;
 use crate::maker::{make_frame, number, sample_octets, Numbers, Pair, BITS, NUMBERS};
 use crate::random::Random;
 use crate::reader::Refusal;
+use crate::shrink::hex;
 use std::fmt;
 
 /// Settings and samples of one frame, and the length of the buffer that it is to be written to.
@@ -114,8 +115,8 @@ impl fmt::Display for Input {
             self.start, self.sequences, self.channels, self.room
         )?;
         writeln!(f, "  numbers {:?}", self.numbers)?;
-        writeln!(f, "  bits {:#X?}", self.bits)?;
-        write!(f, "  samples {:02X?}", self.samples)
+        writeln!(f, "  bits, hexadecimal {:X?}", self.bits)?;
+        write!(f, "  samples {}", hex(&self.samples))
     }
 }
 
