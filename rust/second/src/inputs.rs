@@ -54,6 +54,24 @@ impl Input {
         )
     }
 
+    /// The numbers and bits of a channel as they are told when the frame that is made is read.
+    pub fn told(&self, channel: usize) -> (Numbers, Pair) {
+        let mut row = self.numbers.as_chunks().0[channel];
+        let [offset, null] = self.bits.as_chunks().0[channel];
+        let width = SAMPLE_OCTETS[row[number::DATA_TYPE] as usize].into();
+        row[number::START] = self.start;
+        row[number::CHANNELS] = self.channels as i64;
+        row[number::SEQUENCES] = self.sequences as i64;
+        row[number::WIDTH] = width;
+        match row[number::NULL_WIDTH] {
+            0 => (row, [offset, 0]),
+            _ => {
+                row[number::NULL_WIDTH] = width;
+                (row, [offset, null])
+            }
+        }
+    }
+
     /// The bits of all samples, those of one channel after those of another, where the frame is made.
     pub fn sample_bits(&self) -> Vec<u64> {
         let mut channels = vec![Vec::new(); self.channels as usize];

@@ -145,12 +145,16 @@ impl<F: FnMut(&Input) -> bool> Search<Input, F> {
         self.keeps(candidate) || fitted.is_some_and(|fitted| self.keeps(fitted))
     }
 
-    /// Takes a number nearer to its aim, which `put` puts in its place.
+    /// Takes a number nearer to its aim, by the longest step that does; `put` puts it in its place.
     fn brings_nearer(&mut self, number: i128, aim: i128, put: impl Fn(&mut Input, i128)) -> bool {
-        let towards = (aim - number).signum();
-        [aim, aim + (number - aim) / 2, number + towards]
-            .into_iter()
-            .any(|nearer| self.changes(|input| put(input, nearer)))
+        let mut step = number - aim;
+        while step != 0 {
+            if self.changes(|input| put(input, number - step)) {
+                return true;
+            }
+            step /= 2;
+        }
+        false
     }
 
     fn channels(&mut self) -> bool {

@@ -105,6 +105,20 @@ fn made_inputs_become_small() {
 }
 
 #[test]
+fn numbers_come_near_their_limits() {
+    let mut wide = good_input(1);
+    wide.numbers[number::LEAD] = i64::MIN;
+    wide.bits[0] = u64::MAX;
+    let matters = |input: &Input| {
+        let lead = input.numbers.get(number::LEAD);
+        lead.is_some_and(|lead| *lead < -1000) && input.bits.iter().any(|bits| *bits > 0xFFFF)
+    };
+    let left = shrink_input(&wide, matters);
+    assert_eq!(left.numbers[number::LEAD], -1001);
+    assert_eq!(left.bits, [0x1_0000, 0]);
+}
+
+#[test]
 fn work_on_inputs_is_bounded() {
     let mut calls = 0;
     let many = (0..).map(good_input).find(|input| input.channels == 256);
