@@ -139,6 +139,8 @@ impl Output<'_> {
         self.length(samples);
     }
 
+    /// Inline, so that the place in the buffer need not go through memory.
+    #[inline(always)]
     fn group(&mut self, channel: u32, record: &Record) {
         self.put(&[tag::GROUP]);
         if channel > 0x7F {
