@@ -35,7 +35,7 @@ impl Input {
         )
     }
 
-    /// The frame in a buffer that has room for it.
+    /// The frame in a buffer that has room for it: 24 octets at most, 57 for each channel, and the samples.
     pub fn frame(&self) -> Result<Vec<u8>, Refusal> {
         let mut out = vec![0; 24 + 57 * (self.bits.len() / BITS) + self.samples.len()];
         let length = self.make(&mut out)?;

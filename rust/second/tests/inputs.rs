@@ -108,57 +108,112 @@ fn good_inputs_have_every_shape() {
     assert_eq!(seen.len(), 7 + 7 + 2 * RANGES.len() + 4 + 1 + 9);
 }
 
-/// What a fault of 24 has changed.
-fn changes(good: &Input, faulty: &Input) -> BTreeSet<String> {
-    let mut changes = BTreeSet::new();
-    let mut note = |what: String, changed: bool| {
-        if changed {
-            changes.insert(what);
+/// What of an input is outside document 01's table, or wider than the sample.
+fn outside(input: &Input) -> BTreeSet<String> {
+    let mut found = BTreeSet::new();
+    let mut note = |what: &str, holds: bool| {
+        if holds {
+            found.insert(what.to_string());
         }
     };
-    let side = |more: bool| if more { "above" } else { "below" };
-    note(
-        format!("start {}", side(faulty.start > 0)),
-        faulty.start != good.start,
-    );
-    note("sequences above".into(), faulty.sequences >> 32 != 0);
-    note("no channels".into(), faulty.channels == 0);
-    note("channels above".into(), faulty.channels > 256);
-    let (numbers, bits) = (faulty.numbers.len(), faulty.bits.len());
-    if faulty.channels == good.channels && [numbers, bits] != [good.numbers.len(), good.bits.len()]
+    note("start below", input.start < -2_147_483_648);
+    note("start above", input.start > 2_147_483_647);
+    note("sequences above", input.sequences > 4_294_967_295);
+    note("no channels", input.channels == 0);
+    note("channels above", input.channels > 256);
+    let more =
+        |count: usize, each: usize| count as i128 - each as i128 * i128::from(input.channels);
+    match (
+        more(input.numbers.len(), NUMBERS),
+        more(input.bits.len(), BITS),
+    ) {
+        (0, 0) => {}
+        (numbers @ -15..=15, bits @ -2..=2) => note(&format!("rows by {numbers}, {bits}"), true),
+        _ => note("rows by more", true),
+    }
+    for (row, bits) in input
+        .numbers
+        .chunks_exact(NUMBERS)
+        .zip(input.bits.chunks_exact(BITS))
     {
-        let by = |now: usize, before: usize| format!("{:+}", now as i64 - before as i64);
-        let all = numbers == 0 || bits == 0;
-        let by = (by(numbers, good.numbers.len()), by(bits, good.bits.len()));
-        note(format!("rows by {by:?}"), !all);
-        return changes;
-    }
-    for (channel, row) in faulty.numbers.chunks(NUMBERS).enumerate() {
         for (at, first, last) in RANGES {
-            note(format!("number {at} below"), row[at] < first);
-            note(format!("number {at} above"), row[at] > last);
+            note(&format!("number {at} below"), row[at] < first);
+            note(&format!("number {at} above"), row[at] > last);
         }
-        let wide = |at: usize| {
-            let same = good.bits.get(BITS * channel + at) == faulty.bits.get(BITS * channel + at);
-            !same && faulty.channels == good.channels
-        };
-        note("offset".into(), wide(0));
-        note("null".into(), wide(1));
+        let most = width(row).map_or(u64::MAX, |width| u64::MAX >> (64 - 8 * width));
+        note("offset", bits[0] > most);
+        note("null", bits[1] > most && row[number::NULL_WIDTH] != 0);
     }
-    changes
+    found
 }
 
+/// Octets of a channel's samples, where its type is in the table.
+fn width(row: &[i64]) -> Option<u64> {
+    match row[number::DATA_TYPE] {
+        3 | 5 => Some(1),
+        0 | 1 | 4 => Some(2),
+        2 | 6 | 7 => Some(4),
+        8 => Some(8),
+        _ => None,
+    }
+}
+
+/// What the request has for an input that is in the table: 25, 23, or the frame's length.
+fn expected(input: &Input) -> Result<usize, u8> {
+    let (mut sequence, mut length) = (0, if input.sequences == 0 { 14 } else { 18 });
+    for (channel, row) in input.numbers.chunks(NUMBERS).enumerate() {
+        let width = width(row).unwrap();
+        let null = if row[number::NULL_WIDTH] == 0 {
+            0
+        } else {
+            width
+        };
+        let number = if channel < 128 { 1 } else { 2 };
+        sequence += row[number::BLOCK] as u64 * width;
+        length += 2 + number + 37 + width + null;
+    }
+    let samples = input.samples.len() as u64;
+    let form = match samples {
+        0..0x80 => 1,
+        0x80..0x100 => 2,
+        0x100..0x1_0000 => 3,
+        _ => 4,
+    };
+    length += 1 + form + samples;
+    if samples != input.sequences * sequence {
+        return Err(25);
+    }
+    match length > input.room as u64 {
+        true => Err(23),
+        false => Ok(length as usize),
+    }
+}
+
+/// Each refusal exactly when the request has it, and each thing that may be outside alone outside in some
+/// input, so that it is known to be looked for.
 #[test]
-fn every_setting_is_put_outside() {
+fn answers_are_the_requests() {
     let mut seen = BTreeSet::new();
     for seed in 0..SEEDS {
-        let faulty = faulty_input(Refusal::SETTING_RANGE, seed);
-        seen.extend(changes(&good_input(seed), &faulty));
+        let input = input(seed);
+        let found = outside(&input);
+        let expected = match found.is_empty() {
+            true => expected(&input),
+            false => Err(24),
+        };
+        assert_eq!(answer(&input), expected, "seed {seed}: {input}");
+        if found.len() == 1 {
+            seen.extend(found);
+        }
     }
-    for change in &seen {
-        println!("{change}");
+    for what in &seen {
+        println!("{what}");
     }
-    // Start on both sides, sequences, channels on both sides; numbers and bits by one and by a row, and
-    // both by a row, more and fewer; both sides of each number; the bits.
-    assert_eq!(seen.len(), 5 + 10 + 2 * RANGES.len() + 2);
+    for rows in [
+        "-1, 0", "1, 0", "-15, 0", "15, 0", "0, -1", "0, 1", "0, -2", "0, 2", "-15, -2", "15, 2",
+    ] {
+        assert!(seen.contains(&format!("rows by {rows}")), "{rows}");
+    }
+    seen.retain(|what| !what.starts_with("rows by"));
+    assert_eq!(seen.len(), 5 + 2 * RANGES.len() + 2);
 }
