@@ -1,0 +1,57 @@
+//! The frames that a text of settings lays out.
+
+use crate::draft::{Draft, Laid};
+use crate::failure::Failure;
+use crate::lines::{quoted, Lines};
+use std::ffi::OsStr;
+
+/// The frames of a text in their order.
+pub fn read(name: &OsStr) -> Result<Vec<Laid>, Failure> {
+    let mut lines = Lines::open(name)?;
+    let mut frames = Vec::new();
+    let mut draft: Option<Draft> = None;
+    while let Some(line) = lines.next()? {
+        let Some((word, value)) = split(&line) else {
+            continue;
+        };
+        let number = lines.number();
+        match &mut draft {
+            _ if word == "frame" => {
+                finish(draft.take(), &mut frames, name)?;
+                if let Some(Laid {
+                    by_length: true, ..
+                }) = frames.last()
+                {
+                    let words =
+                        "expected the sequences of the frame before: only the last may lack them";
+                    return Err(lines.wrong(words));
+                }
+                draft = Some(Draft::new(number, &value));
+            }
+            Some(draft) => draft.take(number, &word, value),
+            None => {
+                let words = format!("expected 'frame' first, found {}", quoted(&word));
+                return Err(lines.wrong(&words));
+            }
+        }
+    }
+    finish(draft, &mut frames, name)?;
+    Ok(frames)
+}
+
+/// The first word of a line and those behind it, but for a comment.
+fn split(line: &str) -> Option<(String, String)> {
+    let mut words = line.split('#').next()?.split_whitespace();
+    let word = words.next()?.into();
+    let value: Vec<&str> = words.collect();
+    Some((word, value.join(" ")))
+}
+
+/// Adds the frame of a draft to those before it.
+fn finish(draft: Option<Draft>, frames: &mut Vec<Laid>, name: &OsStr) -> Result<(), Failure> {
+    let Some(draft) = draft else { return Ok(()) };
+    let laid = draft.laid(frames.last());
+    let laid = laid.map_err(|wrong| wrong.failure(name, frames.len()))?;
+    frames.push(laid);
+    Ok(())
+}

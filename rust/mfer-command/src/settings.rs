@@ -1,0 +1,175 @@
+//! The settings of frames as text: their names, how each is written and how it is read.
+
+use crate::{names, values};
+use mfer::{ChannelSettings, FrameSettings};
+use std::io::{self, Write};
+
+/// A setting of a channel.
+pub struct Setting {
+    pub name: &'static str,
+    /// What its value has to be, in words.
+    pub expected: &'static str,
+    pub write: fn(&ChannelSettings) -> String,
+    /// Sets it as the text says; none where the text is no such value.
+    pub read: fn(&str, &mut ChannelSettings) -> Option<()>,
+}
+
+/// How many settings a channel has, and which of them is the block length.
+pub const COUNT: usize = 8;
+pub const BLOCK: usize = 0;
+
+/// A lead is read by the class, an offset and a null by the type, which therefore come before them.
+pub const SETTINGS: [Setting; COUNT] = [
+    Setting {
+        name: "block",
+        expected: "a number from 1 to 1048576",
+        write: |channel| channel.block.to_string(),
+        read: |text, channel| set(&mut channel.block, text.parse().ok()),
+    },
+    Setting {
+        name: "class",
+        expected: "a code from 0 to 65535, its name, or both",
+        write: |channel| names::named(channel.class, class(channel.class)),
+        read: |text, channel| set(&mut channel.class, names::code(text, class)),
+    },
+    Setting {
+        name: "lead",
+        expected: "a code from 0 to 65535, its name in this class, or both",
+        write: |channel| names::named(channel.lead, names::lead(channel.class, channel.lead)),
+        read: |text, channel| {
+            let lead = names::code(text, |code| names::lead(channel.class, code));
+            set(&mut channel.lead, lead)
+        },
+    },
+    Setting {
+        name: "type",
+        expected: "a number from 0 to 8, or a name as 'signed 16 bits'",
+        write: |channel| names::data_type(channel.data_type).into(),
+        read: |text, channel| set(&mut channel.data_type, names::data_type_of(text)),
+    },
+    Setting {
+        name: "interval",
+        expected: "a number from 1 and a unit, as '500 Hz', '2e-3 s' or '1e-3 m'",
+        write: |channel| names::scaled(channel.interval, &names::INTERVAL_UNITS),
+        read: |text, channel| {
+            let interval = names::scale_of(text, &names::INTERVAL_UNITS);
+            set(&mut channel.interval, interval)
+        },
+    },
+    Setting {
+        name: "resolution",
+        expected: "a number from 1 and a unit, as '1e-6 V', '1.25e-6 V' or '1 mmHg'",
+        write: |channel| names::scaled(channel.resolution, &names::RESOLUTION_UNITS),
+        read: |text, channel| {
+            let resolution = names::scale_of(text, &names::RESOLUTION_UNITS);
+            set(&mut channel.resolution, resolution)
+        },
+    },
+    Setting {
+        name: "offset",
+        expected: "bits of a sample as '0x8000', or a number of the type",
+        write: |channel| bits(channel.offset, channel),
+        read: |text, channel| {
+            let offset = bits_of(text, channel);
+            set(&mut channel.offset, offset)
+        },
+    },
+    Setting {
+        name: "null",
+        expected: "bits of a sample as '0x8000', a number of the type, or 'none'",
+        write: |channel| match channel.null {
+            Some(null) => bits(null, channel),
+            None => "none".into(),
+        },
+        read: |text, channel| {
+            let null = match text {
+                "none" => Some(None),
+                _ => bits_of(text, channel).map(Some),
+            };
+            set(&mut channel.null, null)
+        },
+    },
+];
+
+fn set<T>(setting: &mut T, value: Option<T>) -> Option<()> {
+    *setting = value?;
+    Some(())
+}
+
+fn class(code: u16) -> Option<String> {
+    names::class(code).map(String::from)
+}
+
+/// Bits of a sample's width.
+fn bits(bits: u64, channel: &ChannelSettings) -> String {
+    let digits = 2 * usize::from(channel.data_type.width());
+    format!("0x{bits:0digits$X}")
+}
+
+/// Bits, also wider ones than the channel's samples, or a number of its type.
+fn bits_of(text: &str, channel: &ChannelSettings) -> Option<u64> {
+    values::hexadecimal(text).or_else(|| values::number(text, channel.data_type))
+}
+
+/// Writes frames one after another.
+#[derive(Default)]
+pub struct Writer {
+    /// The frame whose channels were written last.
+    last: Option<(u32, Vec<ChannelSettings>)>,
+}
+
+impl Writer {
+    /// Writes the settings of a frame. Channels are written where they are other than the frame's before.
+    pub fn frame(
+        &mut self,
+        out: &mut impl Write,
+        number: u32,
+        frame: FrameSettings,
+    ) -> io::Result<()> {
+        let FrameSettings {
+            start,
+            sequences,
+            channels,
+        } = frame;
+        match &self.last {
+            Some((last, written)) if *written == channels => {
+                writeln!(out, "frame  # {number}, channels as in frame {last}")?;
+                writeln!(out, "  start {start}\n  sequences {sequences}")
+            }
+            _ => {
+                writeln!(out, "frame  # {number}")?;
+                writeln!(out, "  start {start}\n  sequences {sequences}")?;
+                write_channels(out, &channels)?;
+                self.last = Some((number, channels));
+                Ok(())
+            }
+        }
+    }
+}
+
+/// What all channels share is the frame's, the rest is theirs.
+fn write_channels(out: &mut impl Write, channels: &[ChannelSettings]) -> io::Result<()> {
+    let columns = SETTINGS.map(|Setting { name, write, .. }| {
+        let values: Vec<String> = channels.iter().map(write).collect();
+        (name, values)
+    });
+    let (shared, own): (Vec<_>, Vec<_>) = columns
+        .into_iter()
+        .partition(|(_, values)| values.iter().all(|value| *value == values[0]));
+    if own.is_empty() && channels.len() > 1 {
+        writeln!(out, "  channels {}", channels.len())?;
+    }
+    for (name, values) in shared {
+        writeln!(out, "  {name} {}", values[0])?;
+    }
+    if own.is_empty() {
+        return Ok(());
+    }
+    for number in 0..channels.len() {
+        writeln!(out, "  channel  # {number}")?;
+        for (name, values) in &own {
+            writeln!(out, "    {name} {}", values[number])?;
+        }
+    }
+    Ok(())
+}
