@@ -1,5 +1,5 @@
 /*
- * mfer.h: reads medical waveform files (MFER) and writes them in canonical form.
+ * mfer.h: reads medical waveform files (MFER), writes them in canonical form, and makes new ones.
  *
  * The header is C99 and C++11. The library, libmfer.a, is for x86-64. Link it with nothing but the C
  * library:
@@ -11,6 +11,9 @@
  * A file is octets in memory, from `file` on, `file_len` of them. Any octets will do: what is no
  * MFER file is refused. A file has frames, a frame has channels, a channel in a frame has samples;
  * all three count from 0. A sample's place is the offset of its first octet in the file.
+ *
+ * A file is made frame by frame: MFER_HEAD, then 1 to MFER_MAX_FRAMES frames that mfer_make_frame
+ * made, at most MFER_MAX_OCTETS octets in all.
  *
  * ANSWERS AND REFUSALS
  *
@@ -28,7 +31,8 @@
  * The whole file is checked at every question, but in a walk: there mfer_walk_open checks it, and the
  * other functions of the walk do not do so again. Where it is refused, every function that checks it
  * answers that one refusal, whatever was asked for. Only then come MFER_NO_FRAME, MFER_NO_CHANNEL and
- * MFER_NO_SAMPLE, in that order, and MFER_NO_ROOM.
+ * MFER_NO_SAMPLE, in that order, and MFER_NO_ROOM. mfer_make_frame is given no file; it checks the
+ * settings, then the number of sample octets, then the room.
  *
  * TWO WAYS TO ASK
  *
@@ -40,10 +44,10 @@
  * POINTERS, OWNERSHIP, THREADS
  *
  * The caller owns all memory. The library allocates none, keeps no pointer after a call and never
- * writes to `file`. A pointer that goes with a length may be null where the length is 0, and is not
- * followed then. Every other pointer must not be null: it points to one object of its type, or to
- * as many as the array in the prototype has. Outputs, buffers and walks overlap neither each other
- * nor the file.
+ * writes to what is const in a prototype. A pointer that goes with a length may be null where the
+ * length is 0, and is not followed then. Every other pointer must not be null: it points to one object
+ * of its type, or to as many as the array in the prototype has. Outputs, buffers and walks overlap
+ * neither each other nor anything that the call reads.
  *
  * There is no global state. Any number of threads may call any function at the same time, also on
  * the same file, as long as nobody changes the file and each thread has outputs of its own. A walk is
@@ -67,6 +71,8 @@
  * Walk instead. To read many samples of one channel, ask mfer_samples or mfer_values once, not
  * mfer_sample many times.
  *
+ * mfer_make_frame looks at each channel's settings and copies the samples.
+ *
  * WHAT IS PROVED
  *
  * Of each function, for any octets, any numbers and any content of a walk: it returns, and its
@@ -76,12 +82,13 @@
  * This and all above is about the functions of the library. mfer_words and mfer_kind_name are none of
  * them: they stand in this header, and are only tested.
  *
- * EXAMPLE
+ * EXAMPLES
  *
  * Prints every sample of a file, frame after frame and channel after channel:
  *
  *     #include <inttypes.h>
  *     #include <stdio.h>
+ *     #include <string.h>
  *     #include "mfer.h"
  *
  *     static void print_channel(const uint8_t *file, size_t file_len, const uint64_t walk[MFER_WALK],
@@ -126,6 +133,42 @@
  *     }
  *
  * Behind the last frame mfer_walk_next answers MFER_NO_FRAME; a refused file has another number.
+ *
+ * Makes a file of two frames with one channel: lead II, 500 Hz, steps of 5 microvolts, 8000h for no
+ * value. The buffer has room for MFER_HEAD at least:
+ *
+ *     static int add_frame(uint8_t *file, size_t file_len, size_t *length, int64_t start,
+ *                          const uint8_t *samples, size_t samples_len)
+ *     {
+ *         const uint64_t bits[2] = {0, 0x8000};
+ *         int64_t numbers[MFER_NUMBERS] = {0};
+ *         uint64_t written, place;
+ *         uint32_t refusal;
+ *         numbers[MFER_NUMBER_BLOCK] = 1;
+ *         numbers[MFER_NUMBER_LEAD] = 2;
+ *         numbers[MFER_NUMBER_TYPE] = MFER_TYPE_SIGNED_16;
+ *         numbers[MFER_NUMBER_INTERVAL_MANTISSA] = 500;
+ *         numbers[MFER_NUMBER_RESOLUTION_EXPONENT] = -6;
+ *         numbers[MFER_NUMBER_RESOLUTION_MANTISSA] = 5;
+ *         numbers[MFER_NUMBER_NULL_WIDTH] = 2;
+ *         refusal = mfer_make_frame(start, samples_len / 2, 1, numbers, MFER_NUMBERS, bits, 2, samples,
+ *                                   samples_len, file + *length, file_len - *length, &written, &place);
+ *         if (refusal != MFER_OK) {
+ *             fprintf(stderr, "refused %" PRIu32 ": %s\n", refusal, mfer_words(refusal));
+ *             return 1;
+ *         }
+ *         *length += (size_t)written;
+ *         return 0;
+ *     }
+ *
+ *     int make_file(uint8_t *file, size_t file_len, size_t *length)
+ *     {
+ *         static const uint8_t samples[] = {0x00, 0x01, 0x80, 0x00, 0xFF, 0xFF};
+ *         memcpy(file, MFER_HEAD, MFER_HEAD_OCTETS);
+ *         *length = MFER_HEAD_OCTETS;
+ *         return add_frame(file, file_len, length, 0, samples, 4) != 0 ||
+ *                add_frame(file, file_len, length, 2, samples + 4, 2) != 0;
+ *     }
  */
 #ifndef MFER_H
 #define MFER_H
@@ -147,7 +190,8 @@ extern "C" {
  * Refusals: MFER_REFUSALS(X) is X(constant, number, words) for each. The words are those of document
  * 01, whose table of attributes has the lengths and values of each tag. Where several apply to a
  * file, 15 comes first; then the first refused item in file order decides, and within an item the
- * order 1, 5, channel number (4 or 3 as met), 2, 3, 9, 8, 6, 7; at a waveform 11, 12, 13, 14.
+ * order 1, 5, channel number (4 or 3 as met), 2, 3, 9, 8, 6, 7; at a waveform 11, 12, 13, 14. Where
+ * several apply to a frame that is to be made, the order is 24, 25, 23.
  */
 #define MFER_REFUSALS(X) \
     X(MFER_CONTEXT_TAG, 1, "context tag other than 3Fh") \
@@ -168,7 +212,9 @@ extern "C" {
     X(MFER_NO_FRAME, 20, "no such frame") \
     X(MFER_NO_CHANNEL, 21, "no such channel") \
     X(MFER_NO_SAMPLE, 22, "no such sample") \
-    X(MFER_NO_ROOM, 23, "canonical file longer than the output buffer or than 15's limit (2,147,483,647 octets)") \
+    X(MFER_NO_ROOM, 23, "what is written is longer than the output buffer, or the file than 15's limit (2,147,483,647 octets)") \
+    X(MFER_SETTING_RANGE, 24, "a setting outside the table of attributes, or bits wider than the sample") \
+    X(MFER_SAMPLES_LENGTH, 25, "sample octets not exactly sequences times G (the octets of a sequence)") \
     /* end */
 
 /* What is made of an entry of MFER_REFUSALS or MFER_KINDS: its constant, and the case of its number. */
@@ -445,11 +491,59 @@ uint32_t mfer_canonical_length(const uint8_t *file, size_t file_len, uint64_t *l
  * *written  the canonical file's length; 0 for a file without frames
  *
  * Refusals: 1 to 15, and MFER_NO_ROOM where the buffer is too short: mfer_canonical_length says how
- * long it has to be, or that none will do. A canonical frame has at most 24 octets, 57 more for each
- * channel, and its samples; the file has 3 octets more.
+ * long it has to be, or that none will do.
  */
 uint32_t mfer_canonical(const uint8_t *file, size_t file_len, uint8_t *out, size_t out_len,
                         uint64_t *written, uint64_t *place);
+
+/* What stands ahead of the first frame in a canonical file and in a file that is made: 01 01 00, the
+   item that says big-endian. */
+#define MFER_HEAD "\x01\x01\x00"
+#define MFER_HEAD_OCTETS 3
+
+/* The most octets that a canonical frame takes, and so one that is made. */
+#define MFER_MAKE_ROOM(channels, samples_len) (24 + 57 * (size_t)(channels) + (size_t)(samples_len))
+
+/*
+ * Makes a frame from its settings and samples, as a canonical file has it. The frame alone, without
+ * MFER_HEAD, stands at the start of the buffer of `out_len` octets at `out`; what is past it keeps what
+ * it held.
+ *
+ * start      the start pointer
+ * sequences  how many sequences; where they are 0, there are no samples
+ * channels   how many channels
+ * numbers    a row of MFER_NUMBERS for each channel in order, as mfer_attributes has them; numbers_len
+ *            counts numbers, not rows
+ * bits       a row of two for each channel in order, as mfer_attributes has them: the offset's bits,
+ *            then the null bits; bits_len counts numbers, not rows
+ * samples    the octets of all samples in file order: sequence after sequence, in each the block of
+ *            channel 0, then that of channel 1, and so on; each sample with its highest octet first
+ * *written   the frame's length, at most MFER_MAKE_ROOM(channels, samples_len)
+ *
+ * What mfer_attributes or mfer_walk_channel told of a channel can be handed back as it is. In a row
+ * start, channels, sequences and width are not looked at: the first three are parameters here, and the
+ * type says the width. A null width of 0 says that there are no null bits, and those of the row are not
+ * looked at; any other number says that there are.
+ *
+ * Refusals, each of them looked for in all channels before the next:
+ *
+ *   - MFER_SETTING_RANGE where `start`, `sequences`, `channels` or a number that is looked at is out of
+ *     the range that the list of MFER_NUMBER_... has for it; where numbers_len is not channels times
+ *     MFER_NUMBERS, or bits_len not channels times 2; or where an offset's bits, or null bits, are more
+ *     than fit in the octets of a sample;
+ *   - MFER_SAMPLES_LENGTH where samples_len is not exactly sequences times the octets of a sequence,
+ *     which are the sum over all channels of block times width;
+ *   - MFER_NO_ROOM where the frame is longer than out_len, or with MFER_HEAD longer than
+ *     MFER_MAX_OCTETS.
+ *
+ * A file that is made of such frames is its own canonical file, and reading it gives the settings and
+ * samples again, frame by frame. That it has no more than MFER_MAX_FRAMES frames and MFER_MAX_OCTETS
+ * octets is for the caller to see to; a file with more is refused by those who read it.
+ */
+uint32_t mfer_make_frame(int64_t start, uint64_t sequences, uint64_t channels,
+                         const int64_t *numbers, size_t numbers_len, const uint64_t *bits,
+                         size_t bits_len, const uint8_t *samples, size_t samples_len, uint8_t *out,
+                         size_t out_len, uint64_t *written, uint64_t *place);
 
 #ifdef __cplusplus
 }

@@ -1146,6 +1146,405 @@ static void canonical(void)
     expect_canonical_refusal(P6, sizeof P6, 100, MFER_CHANNEL_NUMBER, 3);
 }
 
+/* What a frame is made of. */
+struct making {
+    int64_t start;
+    uint64_t sequences, channels;
+    const int64_t *numbers;
+    size_t numbers_len;
+    const uint64_t *bits;
+    size_t bits_len;
+    const uint8_t *samples;
+    size_t samples_len;
+};
+
+static uint32_t make(const struct making *m, uint8_t *out, size_t room, uint64_t *written)
+{
+    uint64_t place = UNSET;
+    uint32_t refusal;
+    *written = UNSET;
+    refusal = mfer_make_frame(m->start, m->sequences, m->channels, m->numbers, m->numbers_len, m->bits,
+                              m->bits_len, m->samples, m->samples_len, out, room, written, &place);
+    EXPECT(place == 0);
+    EXPECT(refusal == MFER_OK || *written == 0);
+    return refusal;
+}
+
+/* The frame is refused so, and the buffer keeps what it held. */
+static void expect_make_refusal(const struct making *m, size_t room, uint32_t refusal)
+{
+    uint8_t *out = (uint8_t *)malloc(room + 1);
+    uint64_t written;
+    size_t i;
+    memset(out, 0xA5, room + 1);
+    EXPECT(make(m, out, room, &written) == refusal);
+    for (i = 0; i < room + 1; i++)
+        EXPECT(out[i] == 0xA5);
+    free(out);
+}
+
+/* The frame is made of these octets, in just their room and in more, and in less it is not. */
+static void expect_made(const struct making *m, const uint8_t *expected, size_t length)
+{
+    uint8_t *out = (uint8_t *)malloc(length + 9);
+    uint64_t written;
+    size_t more, i;
+    EXPECT(length <= MFER_MAKE_ROOM(m->channels, m->samples_len));
+    for (more = 0; more <= 9; more += 9) {
+        memset(out, 0xA5, length + 9);
+        EXPECT(make(m, out, length + more, &written) == MFER_OK && written == length);
+        EXPECT(memcmp(out, expected, length) == 0);
+        for (i = length; i < length + 9; i++)
+            EXPECT(out[i] == 0xA5);
+    }
+    free(out);
+    expect_make_refusal(m, length - 1, MFER_NO_ROOM);
+    expect_make_refusal(m, 0, MFER_NO_ROOM);
+    EXPECT(make(m, NULL, 0, &written) == MFER_NO_ROOM);
+}
+
+/* Rows of channels, which a test may change. */
+#define ROWS 3
+
+struct rows {
+    int64_t numbers[ROWS * MFER_NUMBERS];
+    uint64_t bits[ROWS * 2];
+};
+
+/* Signed 16 bits in blocks of one; no null. What is not looked at is far out of its range. */
+static void set_rows(struct rows *rows)
+{
+    static const int64_t row[MFER_NUMBERS] = {INT64_MAX, 0, -1, 1, 0, 0, 0, 0, 0, 1000, 0, -6, 1, INT64_MIN, 0};
+    size_t i;
+    for (i = 0; i < ROWS; i++) {
+        memcpy(rows->numbers + i * MFER_NUMBERS, row, sizeof row);
+        rows->bits[2 * i] = 0;
+        rows->bits[2 * i + 1] = UINT64_MAX;
+    }
+}
+
+/* A frame of these rows without samples. */
+static struct making of_rows(const struct rows *rows)
+{
+    struct making m = {0, 0, ROWS, NULL, ROWS * MFER_NUMBERS, NULL, ROWS * 2, NULL, 0};
+    m.numbers = rows->numbers;
+    m.bits = rows->bits;
+    return m;
+}
+
+/* Enough for a frame of rows without samples. */
+#define ROWS_ROOM MFER_MAKE_ROOM(ROWS, 0)
+
+static void expect_rows(const struct rows *rows, uint32_t refusal)
+{
+    struct making m = of_rows(rows);
+    uint8_t out[ROWS_ROOM];
+    uint64_t written;
+    if (refusal == MFER_OK)
+        EXPECT(make(&m, out, sizeof out, &written) == MFER_OK);
+    else
+        expect_make_refusal(&m, ROWS_ROOM, refusal);
+}
+
+/* What was read of P2 is handed back: behind MFER_HEAD stands its canonical file. */
+static void make_p2(void)
+{
+    static const uint8_t samples[] = {0, 1, 0, 2, 0xFF, 0xFF};
+    int64_t numbers[2 * MFER_NUMBERS];
+    uint64_t bits[4], place;
+    struct making m = {0, 1, 2, NULL, 2 * MFER_NUMBERS, NULL, 4, samples, sizeof samples};
+    m.numbers = numbers;
+    m.bits = bits;
+    EXPECT(mfer_attributes(P2, sizeof P2, 0, 0, numbers, bits, &place) == MFER_OK);
+    EXPECT(mfer_attributes(P2, sizeof P2, 0, 1, numbers + MFER_NUMBERS, bits + 2, &place) == MFER_OK);
+    EXPECT(sizeof MFER_HEAD == MFER_HEAD_OCTETS + 1);
+    EXPECT(memcmp(P2_CANONICAL, MFER_HEAD, MFER_HEAD_OCTETS) == 0);
+    expect_made(&m, P2_CANONICAL + MFER_HEAD_OCTETS, sizeof P2_CANONICAL - MFER_HEAD_OCTETS);
+}
+
+/* Each number at the ends of its range, and past them; in the first channel, one between and the last. */
+static void make_numbers(void)
+{
+    static const struct {
+        size_t number;
+        int64_t low, high;
+    } ranges[] = {
+        {MFER_NUMBER_BLOCK, 1, MFER_MAX_BLOCK},
+        {MFER_NUMBER_CLASS, 0, 65535},
+        {MFER_NUMBER_LEAD, 0, 65535},
+        {MFER_NUMBER_TYPE, 0, 8},
+        {MFER_NUMBER_INTERVAL_UNIT, 0, 2},
+        {MFER_NUMBER_INTERVAL_EXPONENT, -128, 127},
+        {MFER_NUMBER_INTERVAL_MANTISSA, 1, 2147483647},
+        {MFER_NUMBER_RESOLUTION_UNIT, 0, 22},
+        {MFER_NUMBER_RESOLUTION_EXPONENT, -128, 127},
+        {MFER_NUMBER_RESOLUTION_MANTISSA, 1, 2147483647},
+    };
+    struct rows rows;
+    size_t i, channel, j;
+    for (i = 0; i < SIZE(ranges); i++)
+        for (channel = 0; channel < ROWS; channel++) {
+            const int64_t good[] = {ranges[i].low, ranges[i].high};
+            const int64_t bad[] = {ranges[i].low - 1, ranges[i].high + 1, ranges[i].low + ((int64_t)1 << 32),
+                                   INT64_MIN, INT64_MAX};
+            int64_t *number = rows.numbers + channel * MFER_NUMBERS + ranges[i].number;
+            set_rows(&rows);
+            for (j = 0; j < SIZE(good); j++) {
+                *number = good[j];
+                expect_rows(&rows, MFER_OK);
+            }
+            for (j = 0; j < SIZE(bad); j++) {
+                *number = bad[j];
+                expect_rows(&rows, MFER_SETTING_RANGE);
+            }
+        }
+}
+
+/* The frame's own numbers, and how many rows there are. */
+static void make_frame_numbers(void)
+{
+    static const int64_t good[] = {0, -1, INT32_MIN, INT32_MAX};
+    static const int64_t bad[] = {(int64_t)INT32_MIN - 1, (int64_t)INT32_MAX + 1, INT64_MIN, INT64_MAX};
+    struct rows rows;
+    struct making m, changed;
+    uint8_t out[ROWS_ROOM];
+    uint64_t written;
+    size_t i;
+    set_rows(&rows);
+    m = changed = of_rows(&rows);
+    for (i = 0; i < SIZE(good); i++) {
+        changed.start = good[i];
+        EXPECT(make(&changed, out, sizeof out, &written) == MFER_OK);
+        EXPECT((int32_t)bits_of(out + 10, 4, 0) == good[i]);
+        changed.start = bad[i];
+        expect_make_refusal(&changed, sizeof out, MFER_SETTING_RANGE);
+    }
+    for (i = 0; i < 2; i++) {
+        changed = m;
+        changed.sequences = MFER_MAX_SEQUENCES + i;
+        expect_make_refusal(&changed, sizeof out, i == 0 ? MFER_SAMPLES_LENGTH : MFER_SETTING_RANGE);
+        changed = m;
+        changed.numbers_len = m.numbers_len - 1 + 2 * i;
+        expect_make_refusal(&changed, sizeof out, MFER_SETTING_RANGE);
+        changed = m;
+        changed.bits_len = m.bits_len - 1 + 2 * i;
+        expect_make_refusal(&changed, sizeof out, MFER_SETTING_RANGE);
+        changed = m;
+        changed.channels = m.channels - 1 + 2 * i;
+        expect_make_refusal(&changed, sizeof out, MFER_SETTING_RANGE);
+    }
+    changed = m;
+    changed.channels = changed.numbers_len = changed.bits_len = 0;
+    expect_make_refusal(&changed, sizeof out, MFER_SETTING_RANGE);
+    changed.numbers = NULL;
+    changed.bits = NULL;
+    expect_make_refusal(&changed, sizeof out, MFER_SETTING_RANGE);
+    changed = m;
+    changed.channels = UINT64_MAX;
+    expect_make_refusal(&changed, sizeof out, MFER_SETTING_RANGE);
+}
+
+/* A row for each of 256 channels is taken, for each of 257 not. */
+static void make_many_channels(void)
+{
+    static int64_t numbers[(MFER_MAX_CHANNELS + 1) * MFER_NUMBERS];
+    static uint64_t bits[(MFER_MAX_CHANNELS + 1) * 2];
+    static uint8_t out[MFER_MAKE_ROOM(MFER_MAX_CHANNELS + 1, 0)];
+    struct making m = {0, 0, MFER_MAX_CHANNELS, numbers, 0, bits, 0, NULL, 0};
+    struct rows rows;
+    uint64_t written;
+    size_t i;
+    set_rows(&rows);
+    for (i = 0; i <= MFER_MAX_CHANNELS; i++)
+        memcpy(numbers + i * MFER_NUMBERS, rows.numbers, MFER_NUMBERS * sizeof *numbers);
+    m.numbers_len = MFER_MAX_CHANNELS * MFER_NUMBERS;
+    m.bits_len = MFER_MAX_CHANNELS * 2;
+    EXPECT(make(&m, out, sizeof out, &written) == MFER_OK);
+    m.channels = MFER_MAX_CHANNELS + 1;
+    m.numbers_len = SIZE(numbers);
+    m.bits_len = SIZE(bits);
+    expect_make_refusal(&m, sizeof out, MFER_SETTING_RANGE);
+}
+
+/* Bits as wide as a sample of each type, and wider; any null width but 0 is a null. */
+static void make_bits(void)
+{
+    static const unsigned widths[] = {2, 2, 4, 1, 2, 1, 4, 4, 8};
+    static const int64_t nulls[] = {1, 3, -1, INT64_MIN, INT64_MAX};
+    struct rows rows;
+    struct making m = of_rows(&rows);
+    uint8_t out[ROWS_ROOM], again[ROWS_ROOM];
+    uint64_t written, without, widest;
+    size_t type, channel, i;
+    for (type = 0; type < SIZE(widths); type++)
+        for (channel = 0; channel < ROWS; channel++) {
+            uint64_t *bits = rows.bits + 2 * channel;
+            int64_t *row = rows.numbers + channel * MFER_NUMBERS;
+            widest = UINT64_MAX >> (64 - 8 * widths[type]);
+            set_rows(&rows);
+            row[MFER_NUMBER_TYPE] = (int64_t)type;
+            bits[0] = widest;
+            EXPECT(make(&m, out, sizeof out, &without) == MFER_OK);
+            bits[1] = widest;
+            row[MFER_NUMBER_NULL_WIDTH] = widths[type];
+            EXPECT(make(&m, out, sizeof out, &written) == MFER_OK && written == without + widths[type]);
+            for (i = 0; i < SIZE(nulls); i++) {
+                row[MFER_NUMBER_NULL_WIDTH] = nulls[i];
+                EXPECT(make(&m, again, sizeof again, &written) == MFER_OK);
+                EXPECT(memcmp(again, out, (size_t)written) == 0);
+            }
+            for (i = 0; i < 2 && widest < UINT64_MAX; i++) {
+                bits[i] = widest + 1;
+                expect_rows(&rows, MFER_SETTING_RANGE);
+                bits[i] = (uint64_t)1 << 63;
+                expect_rows(&rows, MFER_SETTING_RANGE);
+                bits[i] = widest;
+            }
+        }
+}
+
+/* Sequences times the octets of a sequence, exactly: 2 and 4 and 8. Before them the settings are looked at
+   in all channels, after them the room. */
+static void make_samples(void)
+{
+    static const uint8_t samples[43] = {0};
+    struct rows rows;
+    struct making m = of_rows(&rows);
+    uint8_t out[MFER_MAKE_ROOM(ROWS, sizeof samples)];
+    uint64_t written;
+    size_t length;
+    set_rows(&rows);
+    rows.numbers[MFER_NUMBERS + MFER_NUMBER_BLOCK] = 2;
+    rows.numbers[2 * MFER_NUMBERS + MFER_NUMBER_TYPE] = MFER_TYPE_DOUBLE;
+    m.samples = samples;
+    for (m.sequences = 0; m.sequences <= 3; m.sequences++)
+        for (length = 0; length <= sizeof samples; length++) {
+            m.samples_len = length;
+            if (length == 14 * m.sequences)
+                EXPECT(make(&m, out, sizeof out, &written) == MFER_OK);
+            else
+                expect_make_refusal(&m, sizeof out, MFER_SAMPLES_LENGTH);
+        }
+    m.samples_len = 42;
+    m.sequences = MFER_MAX_SEQUENCES;
+    expect_make_refusal(&m, 0, MFER_SAMPLES_LENGTH);
+    rows.numbers[2 * MFER_NUMBERS + MFER_NUMBER_RESOLUTION_MANTISSA] = 0;
+    expect_make_refusal(&m, 0, MFER_SETTING_RANGE);
+    for (m.sequences = 0; m.sequences <= 3; m.sequences++)
+        expect_make_refusal(&m, 0, MFER_SETTING_RANGE);
+    m.sequences = 3;
+    rows.numbers[2 * MFER_NUMBERS + MFER_NUMBER_RESOLUTION_MANTISSA] = 1;
+    expect_make_refusal(&m, 0, MFER_NO_ROOM);
+}
+
+/* Frame after frame of a file, made from what a walk over it tells and the canonical samples. */
+static void make_again(const uint8_t *file, size_t file_len)
+{
+    static int64_t numbers[MFER_MAX_CHANNELS * MFER_NUMBERS];
+    static uint64_t bits[MFER_MAX_CHANNELS * 2], walk[MFER_WALK], canonical_walk[MFER_WALK];
+    uint64_t frame[MFER_FRAME_NUMBERS], written, place, below, length = 0;
+    uint8_t *out;
+    size_t at = MFER_HEAD_OCTETS;
+    uint32_t channel;
+    int64_t start;
+
+    EXPECT(mfer_canonical_length(file, file_len, &length, &place) == MFER_OK);
+    out = (uint8_t *)malloc((size_t)length);
+    EXPECT(mfer_canonical(file, file_len, out, (size_t)length, &written, &place) == MFER_OK);
+    EXPECT(mfer_walk_open(file, file_len, walk, &written, &place) == MFER_OK);
+    EXPECT(mfer_walk_open(out, (size_t)length, canonical_walk, &written, &place) == MFER_OK);
+    while (mfer_walk_next(file, file_len, walk, &start, frame, &place) == MFER_OK) {
+        struct making m = {start, 0, 0, numbers, 0, bits, 0, NULL, 0};
+        for (channel = 0; channel < frame[MFER_FRAME_CHANNELS]; channel++)
+            EXPECT(mfer_walk_channel(walk, channel, numbers + channel * MFER_NUMBERS, bits + 2 * channel,
+                                     &below, &place) == MFER_OK);
+        EXPECT(mfer_walk_next(out, (size_t)length, canonical_walk, &start, frame, &place) == MFER_OK);
+        m.sequences = frame[MFER_FRAME_SEQUENCES];
+        m.channels = frame[MFER_FRAME_CHANNELS];
+        m.numbers_len = (size_t)m.channels * MFER_NUMBERS;
+        m.bits_len = (size_t)m.channels * 2;
+        m.samples = out + frame[MFER_FRAME_PLACE];
+        m.samples_len = (size_t)frame[MFER_FRAME_LENGTH];
+        written = frame[MFER_FRAME_PLACE] + frame[MFER_FRAME_LENGTH] - at;
+        expect_made(&m, out + at, (size_t)written);
+        at += (size_t)written;
+    }
+    EXPECT(at == length);
+    free(out);
+}
+
+static void make_what_was_read(void)
+{
+    static const uint8_t p3[] = {0x1E, 0x00};
+    static const uint8_t most[] = {0x05, 2, 1, 0, 0x0A, 1, 8, 0x12, 8, 0, 0, 0, 0, 0, 0, 0, 1, 0x1E, 0};
+    size_t length;
+    uint8_t *file = many_frames(100, &length);
+    make_again(P2, sizeof P2);
+    make_again(p3, sizeof p3);
+    make_again(P4, sizeof P4);
+    make_again(P2_CANONICAL, sizeof P2_CANONICAL);
+    make_again(FLOATS, sizeof FLOATS);
+    make_again(LASTING, sizeof LASTING);
+    make_again(BLOCKS, sizeof BLOCKS);
+    make_again(most, sizeof most);
+    make_again(file, length);
+    free(file);
+}
+
+/* A file of as many frames as there may be, and then one more. */
+static void made_files(void)
+{
+    static const uint8_t samples[] = {0, 1, 0xFF, 0xFE, 7, 8};
+    struct rows rows;
+    struct making m = of_rows(&rows);
+    const size_t room = MFER_HEAD_OCTETS + (MFER_MAX_FRAMES + 1) * MFER_MAKE_ROOM(ROWS, sizeof samples);
+    uint8_t *file = (uint8_t *)malloc(room);
+    size_t length = MFER_HEAD_OCTETS, i;
+    uint64_t written;
+    set_rows(&rows);
+    m.sequences = 1;
+    m.samples = samples;
+    m.samples_len = sizeof samples;
+    memcpy(file, MFER_HEAD, MFER_HEAD_OCTETS);
+    for (i = 0; i < MFER_MAX_FRAMES; i++) {
+        m.start = -(int64_t)i;
+        rows.numbers[MFER_NUMBER_LEAD] = (int64_t)i;
+        EXPECT(make(&m, file + length, room - length, &written) == MFER_OK);
+        length += (size_t)written;
+        if (i == 9)
+            same_by_walk(file, length);
+    }
+    expect_check(file, length, MFER_OK, MFER_MAX_FRAMES, 0);
+    expect_sample(file, length, MFER_MAX_FRAMES - 1, 1, 0, length - 4, MFER_WHOLE, -2, 0xFFFE);
+    EXPECT(make(&m, file + length, room - length, &written) == MFER_OK);
+    expect_check(file, length + (size_t)written, MFER_MANY_FRAMES, 0, length + (size_t)written - 8);
+    free(file);
+}
+
+/* With MFER_HEAD the frame would be one octet too long for a file. Nobody writes to this memory. */
+static void too_long_a_made_frame(void)
+{
+    struct rows rows;
+    struct making m = of_rows(&rows);
+    size_t length = MFER_MAX_OCTETS - MFER_HEAD_OCTETS + 1;
+    uint8_t *samples = (uint8_t *)calloc(length, 1), *out = (uint8_t *)calloc(length, 1);
+    uint64_t written;
+    EXPECT(samples != NULL && out != NULL);
+    if (samples != NULL && out != NULL) {
+        set_rows(&rows);
+        rows.numbers[MFER_NUMBER_TYPE] = MFER_TYPE_UNSIGNED_8;
+        m.channels = 1;
+        m.numbers_len = MFER_NUMBERS;
+        m.bits_len = 2;
+        m.samples = samples;
+        m.sequences = m.samples_len = length - 65;
+        EXPECT(make(&m, out, length, &written) == MFER_NO_ROOM);
+        EXPECT(out[0] == 0);
+    }
+    free(out);
+    free(samples);
+}
+
 static int same(const char *a, const char *b)
 {
     return strcmp(a, b) == 0;
@@ -1208,6 +1607,7 @@ int main(int argc, char **argv)
     if (argc == 1) {
         run("too_long_a_file", too_long_a_file);
         run("too_long_a_canonical_file", too_long_a_canonical_file);
+        run("too_long_a_made_frame", too_long_a_made_frame);
     }
     run("huge_indexes", huge_indexes);
     run("attributes", attributes);
@@ -1225,6 +1625,14 @@ int main(int argc, char **argv)
     run("walk_with_one_word_changed", walk_with_one_word_changed);
     run("canonical_length", canonical_length);
     run("canonical", canonical);
+    run("make_p2", make_p2);
+    run("make_numbers", make_numbers);
+    run("make_frame_numbers", make_frame_numbers);
+    run("make_many_channels", make_many_channels);
+    run("make_bits", make_bits);
+    run("make_samples", make_samples);
+    run("make_what_was_read", make_what_was_read);
+    run("made_files", made_files);
     run("words_of_refusals", words_of_refusals);
     run("names_of_kinds", names_of_kinds);
     run("version", version);

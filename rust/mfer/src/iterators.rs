@@ -161,8 +161,23 @@ impl<'a> Frame<'a> {
         Channel::look_up(self.file, self.walk.clone(), self.number, channel)
     }
 
-    /// The settings that the frame was read with: those of a frame that can be made. Its samples stand as
-    /// [`FrameSettings::make`] takes them in the canonical file.
+    /// The settings that the frame was read with, to make one like it. In a canonical file its waveform is
+    /// the samples as [`FrameSettings::make`] takes them.
+    ///
+    /// ```
+    /// use mfer::{File, Recorder};
+    ///
+    /// // Two frames, little-endian, with an octet past the samples of the first.
+    /// let octets = [0x01, 1, 1, 0x1E, 3, 1, 0, 9, 0x0A, 1, 3, 0x1E, 2, 7, 8];
+    /// let canonical = File::new(&octets).canonical_vec()?;
+    /// let mut recorder = Recorder::new(Vec::new());
+    /// for frame in File::new(&canonical).frames()? {
+    ///     let frame = frame?;
+    ///     recorder.frame(&frame.settings()?, &canonical[frame.waveform()])?;
+    /// }
+    /// assert_eq!(recorder.finish()?, canonical);
+    /// # Ok::<(), Box<dyn std::error::Error>>(())
+    /// ```
     pub fn settings(&self) -> Result<FrameSettings, Refusal> {
         let settings = |channel: Channel| ChannelSettings::from(channel.attributes());
         let channels = self.channels().map(|channel| channel.map(settings));

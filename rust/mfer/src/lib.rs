@@ -1,4 +1,4 @@
-//! Reads medical waveform files in the MFER format and writes them in canonical form.
+//! Reads medical waveform files in the MFER format, writes them in canonical form, and makes new ones.
 //!
 //! Everything is answered by a proved library with a C interface; this crate makes its answers
 //! Rust's. A [`File`] is octets in memory. A question on it answers a `Result`, whose error is a
@@ -32,6 +32,11 @@
 //! frame, and reads each sample once. A single question, as [`File::attributes`] or [`File::sample`],
 //! goes through all items, whatever it asks for, and steps over the waveforms: where many things are
 //! asked, [`File::frames`] is the way. Where bits will do, [`Frame::samples`] reads a frame in one call.
+//!
+//! # Making a file
+//!
+//! A [`Recorder`] makes a file over any [`std::io::Write`], frame after frame, of [`FrameSettings`] and
+//! samples. [`Frame::settings`] hands back what was read.
 #![deny(unsafe_code)]
 #![warn(missing_docs)]
 

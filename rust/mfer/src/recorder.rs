@@ -8,10 +8,11 @@ use std::error::Error;
 use std::fmt;
 use std::io::{self, Write};
 
-/// Makes a file of frames and writes it, frame after frame.
+/// Makes a file of frames and hands it to a writer, frame after frame.
 ///
-/// [`File::HEAD`] goes ahead of the first frame; without a frame no octet is written. Each frame is handed
-/// to the writer at once and in one piece. The recorder keeps a buffer as long as the longest frame.
+/// [`File::HEAD`] goes ahead of the first frame: without a frame no octet is written. Each frame is
+/// written in one piece, and nothing of it is held back. The recorder keeps a buffer that is as long as
+/// the longest frame so far.
 ///
 /// ```
 /// use mfer::{ChannelSettings, File, FrameSettings, Recorder};
@@ -30,6 +31,12 @@ use std::io::{self, Write};
 /// assert_eq!(File::new(&octets).check()?, 2);
 /// # Ok::<(), Box<dyn std::error::Error>>(())
 /// ```
+///
+/// # When the writer fails
+///
+/// Then it may hold a part of a frame, behind which no other can stand. So a recorder whose writer has
+/// failed takes no more frames: [`RecordError::Broken`]. What the writer was handed before, the first
+/// [`Recorder::octets`], is a file of [`Recorder::frames`] frames: whoever can cut the rest off keeps it.
 pub struct Recorder<W> {
     writer: W,
     frames: u32,
@@ -40,8 +47,19 @@ pub struct Recorder<W> {
     buffer: Vec<u8>,
 }
 
+/// What it has written: the writer's octets can be many.
+impl<W> fmt::Debug for Recorder<W> {
+    fn fmt(&self, f: &mut fmt::Formatter<'_>) -> fmt::Result {
+        f.debug_struct("Recorder")
+            .field("frames", &self.frames)
+            .field("octets", &self.octets)
+            .field("broken", &self.broken)
+            .finish_non_exhaustive()
+    }
+}
+
 impl<W: Write> Recorder<W> {
-    /// A recorder that has written nothing.
+    /// A recorder of a file that has no frame yet.
     pub fn new(writer: W) -> Recorder<W> {
         Recorder {
             writer,
@@ -53,11 +71,14 @@ impl<W: Write> Recorder<W> {
         }
     }
 
-    /// Makes a frame and writes it.
+    /// Makes a frame, as [`FrameSettings::make`] does, and writes it.
+    ///
+    /// Refused with [`Refusal::SETTING_RANGE`] and [`Refusal::SAMPLES_LENGTH`] as there. Then come the
+    /// refusals that a reader of the file would give: [`Refusal::LONG_FILE`] where it would pass
+    /// [`File::LIMIT`], and [`Refusal::MANY_FRAMES`] where it would pass [`File::MAX_FRAMES`]. The place is
+    /// 0. Of a refused frame nothing is written, and the recorder goes on without it.
     pub fn frame(&mut self, settings: &FrameSettings, samples: &[u8]) -> Result<(), RecordError> {
-        if self.broken {
-            return Err(RecordError::Broken);
-        }
+        self.unbroken()?;
         let end = File::HEAD.len() + self.make(settings, samples)?;
         let begin = match self.frames {
             0 => 0,
@@ -77,10 +98,10 @@ impl<W: Write> Recorder<W> {
         Ok(())
     }
 
-    /// Makes a frame in the buffer and answers its length. There is always room, so a frame that the
-    /// library has no room for is too long for a file.
+    /// Makes a frame in the buffer and answers its length. The buffer has room for any frame, so one that
+    /// does not fit is too long for a file.
     fn make(&mut self, settings: &FrameSettings, samples: &[u8]) -> Result<usize, RecordError> {
-        let room = settings.room(samples).min(File::LIMIT as usize) + File::HEAD.len();
+        let room = File::HEAD.len() + settings.most_room(samples);
         if self.buffer.len() < room {
             self.buffer = vec![0; room];
             self.buffer[..File::HEAD.len()].copy_from_slice(&File::HEAD);
@@ -93,18 +114,25 @@ impl<W: Write> Recorder<W> {
         })
     }
 
-    /// What the writer answered. After a failure nobody knows what it has.
+    fn unbroken(&self) -> Result<(), RecordError> {
+        match self.broken {
+            true => Err(RecordError::Broken),
+            false => Ok(()),
+        }
+    }
+
+    /// What the writer answered, which is kept in mind.
     fn noted(&mut self, answer: io::Result<()>) -> Result<(), RecordError> {
         self.broken |= answer.is_err();
         answer.map_err(RecordError::Write)
     }
 
-    /// How many frames are written.
+    /// How many frames the file has.
     pub fn frames(&self) -> u32 {
         self.frames
     }
 
-    /// How many octets the file has: all that is written, but for a frame at which the writer failed.
+    /// How many octets the file has. A frame at which the writer failed is not counted.
     pub fn octets(&self) -> u64 {
         self.octets
     }
@@ -116,20 +144,19 @@ impl<W: Write> Recorder<W> {
 
     /// Flushes the writer.
     pub fn flush(&mut self) -> Result<(), RecordError> {
-        if self.broken {
-            return Err(RecordError::Broken);
-        }
+        self.unbroken()?;
         let flushed = self.writer.flush();
         self.noted(flushed)
     }
 
-    /// Flushes the writer and hands it back.
+    /// Flushes the writer and hands it back. At an error it is dropped; [`Recorder::flush`] and
+    /// [`Recorder::into_inner`] keep it.
     pub fn finish(mut self) -> Result<W, RecordError> {
         self.flush()?;
         Ok(self.writer)
     }
 
-    /// Hands the writer back as it is.
+    /// Hands the writer back as it is, also that of a broken recorder.
     pub fn into_inner(self) -> W {
         self.writer
     }
@@ -140,14 +167,14 @@ fn refused(number: u32) -> RecordError {
     RecordError::Refused(Refusal { number, place: 0 })
 }
 
-/// Why a frame is not in the file.
+/// Why a recorder did not do what it was asked for.
 #[derive(Debug)]
 pub enum RecordError {
     /// The frame is refused. Nothing of it is written, and the recorder takes other frames.
     Refused(Refusal),
-    /// The writer failed.
+    /// The writer failed. The recorder takes no more frames.
     Write(io::Error),
-    /// The writer failed before.
+    /// The writer failed before. Nothing more is written.
     Broken,
 }
 
@@ -156,16 +183,17 @@ impl fmt::Display for RecordError {
         match self {
             RecordError::Refused(refusal) => refusal.fmt(f),
             RecordError::Write(error) => error.fmt(f),
-            RecordError::Broken => f.write_str("the writer failed at an earlier frame"),
+            RecordError::Broken => f.write_str("the recorder's writer failed before"),
         }
     }
 }
 
+/// It says what its inner error says, so its source is that one's.
 impl Error for RecordError {
     fn source(&self) -> Option<&(dyn Error + 'static)> {
         match self {
-            RecordError::Refused(refusal) => Some(refusal),
-            RecordError::Write(error) => Some(error),
+            RecordError::Refused(refusal) => refusal.source(),
+            RecordError::Write(error) => error.source(),
             RecordError::Broken => None,
         }
     }

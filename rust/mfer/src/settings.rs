@@ -119,13 +119,19 @@ impl FrameSettings {
         let octets = |channel: &ChannelSettings| {
             u64::from(channel.block) * u64::from(channel.data_type.width())
         };
-        self.channels.iter().map(octets).sum()
+        let channels = self.channels.iter();
+        channels.map(octets).fold(0, u64::saturating_add)
     }
 
     /// Room that is enough for the frame with these samples: 24 octets, 57 for each channel, and the
     /// samples.
     pub fn room(&self, samples: &[u8]) -> usize {
         24 + 57 * self.channels.len() + samples.len()
+    }
+
+    /// The same, but no more than any frame needs that is not refused.
+    pub(crate) fn most_room(&self, samples: &[u8]) -> usize {
+        self.room(samples).min(File::LIMIT as usize)
     }
 
     /// The frame with these samples, as the canonical file has it, without [`File::HEAD`].
@@ -139,7 +145,7 @@ impl FrameSettings {
     /// [`FrameSettings::sequence_octets`]; then with [`Refusal::NO_ROOM`] where the frame and
     /// [`File::HEAD`] are longer than a file may be.
     pub fn make(&self, samples: &[u8]) -> Result<Vec<u8>, Refusal> {
-        let mut out = vec![0; self.room(samples).min(File::LIMIT as usize)];
+        let mut out = vec![0; self.most_room(samples)];
         let length = self.make_into(samples, &mut out)?;
         out.truncate(length);
         Ok(out)

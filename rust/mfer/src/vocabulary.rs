@@ -1,8 +1,9 @@
 //! One vocabulary: refusals and kinds of values have the same names, numbers and words in this crate,
 //! in the header, in the definitions and in Rattle, and the same names in the second program. The
-//! header has this crate's version, and arrays of the same sizes.
+//! header has this crate's version, arrays of the same sizes, and the same limits.
 
 use crate::ffi::{self, Sampled};
+use crate::file::File;
 use crate::refusal::REFUSALS;
 use crate::value::{Sample, Value};
 
@@ -144,11 +145,14 @@ fn the_header_has_these_sizes() {
         ("MFER_NUMBERS", ffi::NUMBERS),
         ("MFER_WALK", ffi::WALK),
         ("MFER_FRAME_NUMBERS", ffi::FRAME_NUMBERS),
+        ("MFER_MAX_OCTETS", File::LIMIT as usize),
+        ("MFER_MAX_FRAMES", File::MAX_FRAMES as usize),
+        ("MFER_HEAD_OCTETS", File::HEAD.len()),
     ];
     for (name, size) in sizes {
         let begins = format!("#define {name} ");
         let line = HEADER.lines().find_map(|line| line.strip_prefix(&begins));
-        let number = line.and_then(|line| line.split(' ').next());
+        let number = line.and_then(|line| line.split([' ', 'u']).next());
         assert_eq!(number, Some(size.to_string().as_str()), "{name}");
     }
 }

@@ -344,7 +344,7 @@ fn values_over_many_pieces_are_those_of_the_samples() {
 
 #[test]
 fn refusals_say_what_and_where() {
-    for number in (1..=15).chain(20..=23) {
+    for number in (1..=15).chain(20..=25) {
         let refusal = Refusal { number, place: 7 };
         let words = refusal.to_string();
         assert!(words.starts_with(&format!("refused {number} at 7: ")));
@@ -429,7 +429,10 @@ fn a_call_needs_less_than_256_kib_of_stack() {
         assert!(file.canonical_vec().is_ok());
         assert_eq!(file.channel(0, 1).unwrap().bits().count(), 2000);
         assert_eq!(file.channel(0, 1).unwrap().values().count(), 2000);
-        assert_eq!(file.frame(0).unwrap().samples(&mut vec![0; 3000]), Ok(3000));
+        let frame = file.frame(0).unwrap();
+        assert_eq!(frame.samples(&mut vec![0; 3000]), Ok(3000));
+        let made = frame.settings().unwrap().make(&octets[frame.waveform()]);
+        assert_eq!(made.unwrap(), file.canonical_vec().unwrap()[3..]);
     };
     let thread = std::thread::Builder::new().stack_size(256 * 1024);
     thread.spawn(questions).unwrap().join().unwrap();
