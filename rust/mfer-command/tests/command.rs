@@ -1,100 +1,13 @@
 //! The command as a user meets it: its output, its words on standard error, its exit status.
 
+mod common;
+
+use common::{mfer, read, run, run_on, shown, Folder, P2, P6};
 use std::fs;
-use std::io::{ErrorKind, Read, Write};
-use std::path::{Path, PathBuf};
-use std::process::{self, Command, Output, Stdio};
-use std::sync::atomic::{AtomicU32, Ordering};
+use std::io::{Read, Write};
+use std::process::Stdio;
 use std::thread;
 use std::time::Duration;
-
-/// A folder of one test's own, removed when the test is over.
-struct Folder(PathBuf);
-
-impl Folder {
-    fn new() -> Folder {
-        static NEXT: AtomicU32 = AtomicU32::new(0);
-        loop {
-            let number = NEXT.fetch_add(1, Ordering::Relaxed);
-            let name = format!("mfer-command-{}-{number}", process::id());
-            let folder = Path::new(env!("CARGO_TARGET_TMPDIR")).join(name);
-            match fs::create_dir(&folder) {
-                // Left behind by a run that was stopped.
-                Err(error) if error.kind() == ErrorKind::AlreadyExists => {}
-                created => {
-                    created.unwrap();
-                    return Folder(folder);
-                }
-            }
-        }
-    }
-
-    fn path(&self, name: &str) -> PathBuf {
-        self.0.join(name)
-    }
-
-    fn file(&self, name: &str, octets: &[u8]) -> PathBuf {
-        let path = self.path(name);
-        fs::write(&path, octets).unwrap();
-        path
-    }
-
-    fn names(&self) -> Vec<String> {
-        let entries = fs::read_dir(&self.0).unwrap();
-        let mut names: Vec<String> = entries
-            .map(|entry| entry.unwrap().file_name().into_string().unwrap())
-            .collect();
-        names.sort();
-        names
-    }
-}
-
-impl Drop for Folder {
-    fn drop(&mut self) {
-        let _ = fs::remove_dir_all(&self.0);
-    }
-}
-
-/// Document 01's P2: two channels, little-endian.
-const P2: [u8; 23] = [
-    0x01, 0x01, 0x01, 0x04, 0x01, 0x02, 0x05, 0x01, 0x02, 0x3F, 0x01, 0x03, 0x04, 0x01, 0x01, 0x1E,
-    0x06, 0x01, 0x00, 0x02, 0x00, 0xFF, 0xFF,
-];
-
-/// Document 01's P6: a channel number that is not below the channel count.
-const P6: [u8; 6] = [0x05, 0x01, 0x02, 0x3F, 0x02, 0x00];
-
-fn mfer() -> Command {
-    Command::new(env!("CARGO_BIN_EXE_mfer"))
-}
-
-fn run(command: &mut Command) -> (String, String, i32) {
-    read(command.output().unwrap())
-}
-
-fn read(output: Output) -> (String, String, i32) {
-    (
-        String::from_utf8(output.stdout).unwrap(),
-        String::from_utf8(output.stderr).unwrap(),
-        output.status.code().unwrap(),
-    )
-}
-
-/// Runs with these octets on standard input.
-fn run_on(command: &mut Command, input: &[u8]) -> Output {
-    let mut child = command
-        .stdin(Stdio::piped())
-        .stdout(Stdio::piped())
-        .stderr(Stdio::piped())
-        .spawn()
-        .unwrap();
-    child.stdin.take().unwrap().write_all(input).unwrap();
-    child.wait_with_output().unwrap()
-}
-
-fn shown(path: &Path) -> String {
-    path.display().to_string()
-}
 
 #[test]
 fn check_of_one_file() {
