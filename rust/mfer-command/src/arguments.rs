@@ -39,20 +39,20 @@ file names.
 SETTINGS is text, one setting a line, as 'mfer show FILE --settings' prints it. #
 begins a comment. What is left out has its default, in brackets:
 
-  frame                 begins a frame
-    start 0             [where the frame before ends; 0 in the first]
-    sequences 500       [in the last frame: as many as there are samples for]
-    channels 2          [as many as lines 'channel', or 1]
-    block 1             samples of a channel in a sequence [1]
-    class 1             code, or name as 'standard 12 lead ECG' [0]
-    lead 2              code, or name as 'II' [0]
-    type signed 16 bits  name, or code 0 to 8 [signed 16 bits]
-    interval 500 Hz     or in s or m [1000 Hz]
-    resolution 1e-6 V   or in another unit [1e-6 V]
-    offset 0x0000       bits or number [0]
-    null 0x8000         bits, number or 'none' [none]
-    channel             begins a channel
-      lead V1           one of the settings from block to null
+  frame                    begins a frame
+    start 0                [where the frame before ends; 0 in the first]
+    sequences 500          [in the last frame: by the number of samples]
+    channels 2             [the number of lines 'channel', or 1]
+    block 1                samples of the channel in a sequence [1]
+    class 1                code, or name as 'standard 12 lead ECG' [0]
+    lead 2                 code, or name as 'II' [0]
+    type signed 16 bits    name, or code from 0 to 8 [signed 16 bits]
+    interval 500 Hz        in Hz, s or m [1000 Hz]
+    resolution 1e-6 V      in V, mmHg or another unit [1e-6 V]
+    offset 0x0000          bits or number [0]
+    null 0x8000            bits, number or 'none' [none]
+    channel                begins a channel
+      lead V1              a setting from block to null
 
 What stands ahead of a frame's first channel holds for all its channels. A frame
 that says nothing of its channels has those of the frame before it.

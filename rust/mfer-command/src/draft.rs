@@ -159,9 +159,14 @@ impl Draft {
 
 /// What they come to.
 impl Draft {
-    /// The frame, or the first line that is wrong. `before` is the frame before it.
-    pub fn laid(mut self, before: Option<&Laid>) -> Result<Laid, Wrong> {
+    /// The frame, or the first line that is wrong. `before` is the frame before it; the last frame may
+    /// leave out its sequences.
+    pub fn laid(mut self, before: Option<&Laid>, last: bool) -> Result<Laid, Wrong> {
         let laid = self.lay(before);
+        if laid.by_length && !last {
+            let words = "sequences: expected in every frame but the last, found nothing";
+            self.wrong.push(Wrong::new(self.line, words.into()));
+        }
         let wrong = mem::take(&mut self.wrong);
         if let Some(first) = wrong.into_iter().min_by_key(|wrong| wrong.line) {
             return Err(first);

@@ -24,23 +24,66 @@ pub fn shown(name: &OsStr) -> String {
 
 /// The octets of the file of this name, or of standard input for `-`.
 pub fn read(name: &OsStr) -> Result<Vec<u8>, Failure> {
-    let result = match name == "-" {
-        true => read_all(io::stdin().lock(), 0),
-        false => fs::File::open(name).and_then(|file| {
-            let length = file.metadata().map_or(0, |metadata| metadata.len());
-            read_all(file, length)
-        }),
-    };
-    result.map_err(|error| Failure::file(name, error))
+    Input::open(name)?.take(MOST)
 }
 
-/// The file of this name, or standard input for `-`, to be read piece by piece.
-pub fn open(name: &OsStr) -> Result<Box<dyn BufRead>, Failure> {
-    if name == "-" {
-        return Ok(Box::new(io::stdin().lock()));
+/// A file or standard input, read piece by piece.
+pub struct Input<'a> {
+    name: &'a OsStr,
+    reader: Box<dyn BufRead>,
+    /// Octets that are to be expected; 0 where that is not known.
+    left: u64,
+}
+
+impl<'a> Input<'a> {
+    pub fn open(name: &'a OsStr) -> Result<Input<'a>, Failure> {
+        let (reader, left): (Box<dyn BufRead>, u64) = match name == "-" {
+            true => (Box::new(io::stdin().lock()), 0),
+            false => {
+                let file = fs::File::open(name).map_err(|error| Failure::file(name, error))?;
+                let length = file.metadata().map_or(0, |metadata| metadata.len());
+                (Box::new(BufReader::with_capacity(1 << 16, file)), length)
+            }
+        };
+        Ok(Input { name, reader, left })
     }
-    let file = fs::File::open(name).map_err(|error| Failure::file(name, error))?;
-    Ok(Box::new(BufReader::with_capacity(1 << 16, file)))
+
+    pub fn name(&self) -> &'a OsStr {
+        self.name
+    }
+
+    /// The next octets, `most` of them or as many as there are.
+    pub fn take(&mut self, most: u64) -> Result<Vec<u8>, Failure> {
+        let expected = self.left.min(most);
+        let mut octets = Vec::with_capacity(expected as usize);
+        let mut progress = Progress::new("reading");
+        loop {
+            let done = octets.len() as u64;
+            let chunk = CHUNK.min(most - done);
+            let read = self.reader.by_ref().take(chunk).read_to_end(&mut octets);
+            let count = read.map_err(|error| Failure::file(self.name, error))? as u64;
+            self.left = self.left.saturating_sub(count);
+            if count < chunk || octets.len() as u64 == most {
+                return Ok(octets);
+            }
+            progress.step(done + chunk, expected);
+        }
+    }
+
+    /// The next octets up to the end of a line, `most` of them or as many as there are.
+    pub fn take_line(&mut self, most: u64, line: &mut Vec<u8>) -> Result<(), Failure> {
+        line.clear();
+        let read = self.reader.by_ref().take(most).read_until(b'\n', line);
+        read.map_err(|error| Failure::file(self.name, error))?;
+        Ok(())
+    }
+
+    /// Whether there are no more octets.
+    pub fn is_empty(&mut self) -> Result<bool, Failure> {
+        let next = self.reader.fill_buf();
+        let next = next.map_err(|error| Failure::file(self.name, error))?;
+        Ok(next.is_empty())
+    }
 }
 
 /// How many frames a file has, and all of them or the one of the number `only`.
@@ -54,18 +97,3 @@ pub fn chosen<'a>(file: File<'a>, only: Option<u32>) -> Result<(u64, Chosen<'a>)
 }
 
 pub type Chosen<'a> = Box<dyn Iterator<Item = Result<Frame<'a>, Refusal>> + 'a>;
-
-/// Reads to the end; `length` is what is to be expected, 0 where that is not known.
-fn read_all(mut from: impl Read, length: u64) -> io::Result<Vec<u8>> {
-    let mut octets = Vec::with_capacity(length.min(MOST) as usize);
-    let mut progress = Progress::new("reading");
-    loop {
-        let done = octets.len() as u64;
-        let chunk = CHUNK.min(MOST - done);
-        let count = from.by_ref().take(chunk).read_to_end(&mut octets)?;
-        if (count as u64) < chunk || octets.len() as u64 == MOST {
-            return Ok(octets);
-        }
-        progress.step(done + chunk, length.min(MOST));
-    }
-}

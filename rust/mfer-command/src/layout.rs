@@ -17,16 +17,8 @@ pub fn read(name: &OsStr) -> Result<Vec<Laid>, Failure> {
         let number = lines.number();
         match &mut draft {
             _ if word == "frame" => {
-                finish(draft.take(), &mut frames, name)?;
-                if let Some(Laid {
-                    by_length: true, ..
-                }) = frames.last()
-                {
-                    let words =
-                        "expected the sequences of the frame before: only the last may lack them";
-                    return Err(lines.wrong(words));
-                }
-                draft = Some(Draft::new(number, &value));
+                let before = draft.replace(Draft::new(number, &value));
+                finish(before, false, &mut frames, name)?;
             }
             Some(draft) => draft.take(number, &word, value),
             None => {
@@ -35,7 +27,7 @@ pub fn read(name: &OsStr) -> Result<Vec<Laid>, Failure> {
             }
         }
     }
-    finish(draft, &mut frames, name)?;
+    finish(draft, true, &mut frames, name)?;
     Ok(frames)
 }
 
@@ -47,10 +39,15 @@ fn split(line: &str) -> Option<(String, String)> {
     Some((word, value.join(" ")))
 }
 
-/// Adds the frame of a draft to those before it.
-fn finish(draft: Option<Draft>, frames: &mut Vec<Laid>, name: &OsStr) -> Result<(), Failure> {
+/// Adds the frame of a draft, if there is one, to those before it.
+fn finish(
+    draft: Option<Draft>,
+    last: bool,
+    frames: &mut Vec<Laid>,
+    name: &OsStr,
+) -> Result<(), Failure> {
     let Some(draft) = draft else { return Ok(()) };
-    let laid = draft.laid(frames.last());
+    let laid = draft.laid(frames.last(), last);
     let laid = laid.map_err(|wrong| wrong.failure(name, frames.len()))?;
     frames.push(laid);
     Ok(())

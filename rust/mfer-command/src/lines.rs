@@ -1,29 +1,29 @@
 //! A text line by line, each with its number.
 
 use crate::failure::Failure;
-use crate::input;
+use crate::input::Input;
 use std::borrow::Cow;
 use std::ffi::OsStr;
-use std::io::{BufRead, Read};
 
 /// The lines of a file or of standard input.
 pub struct Lines<'a> {
-    name: &'a OsStr,
-    reader: Box<dyn BufRead>,
+    input: Input<'a>,
     /// The number of the line that was read last, from 1.
     number: u64,
     line: Vec<u8>,
 }
 
 impl<'a> Lines<'a> {
-    /// More octets than a line has that says anything. A file of other things is not read whole for its
-    /// first line.
+    /// More octets than a line has that says anything. What is no text is not read whole for its first
+    /// line.
     const LONGEST: u64 = 4096;
+
+    /// What some programs put ahead of a text.
+    const MARK: &'static [u8] = "\u{FEFF}".as_bytes();
 
     pub fn open(name: &'a OsStr) -> Result<Lines<'a>, Failure> {
         Ok(Lines {
-            name,
-            reader: input::open(name)?,
+            input: Input::open(name)?,
             number: 0,
             line: Vec::new(),
         })
@@ -33,33 +33,27 @@ impl<'a> Lines<'a> {
         self.number
     }
 
-    /// The next line, without its end. What is no UTF-8 in it is replaced.
+    /// The next line, without blanks at its end. What is no UTF-8 in it is replaced.
     pub fn next(&mut self) -> Result<Option<Cow<'_, str>>, Failure> {
-        self.line.clear();
-        let mut part = self.reader.by_ref().take(Self::LONGEST);
-        let read = part.read_until(b'\n', &mut self.line);
-        let count = read.map_err(|error| Failure::file(self.name, error))? as u64;
-        if count == 0 {
+        self.input.take_line(Self::LONGEST, &mut self.line)?;
+        if self.line.is_empty() {
             return Ok(None);
         }
         self.number += 1;
-        if count == Self::LONGEST && !self.line.ends_with(b"\n") {
+        if self.line.len() as u64 == Self::LONGEST && !self.line.ends_with(b"\n") {
             let words = format!("expected a line of fewer than {} octets", Self::LONGEST);
             return Err(self.wrong(&words));
         }
-        if self.number == 1 && self.line.starts_with(Self::MARK) {
-            self.line.drain(..Self::MARK.len());
-        }
-        let end = self.line.trim_ascii_end().len();
-        Ok(Some(String::from_utf8_lossy(&self.line[..end])))
+        let line = match self.number {
+            1 => self.line.strip_prefix(Self::MARK).unwrap_or(&self.line),
+            _ => &self.line,
+        };
+        Ok(Some(String::from_utf8_lossy(line.trim_ascii_end())))
     }
 
-    /// What some programs put ahead of a text.
-    const MARK: &'static [u8] = "\u{FEFF}".as_bytes();
-
-    /// That the line that was read last is wrong.
+    /// The line that was read last is not as expected.
     pub fn wrong(&self, words: &str) -> Failure {
-        Failure::line(self.name, self.number, words)
+        Failure::line(self.input.name(), self.number, words)
     }
 }
 

@@ -1,38 +1,31 @@
 //! The samples that frames are made of, as octets or as numbers.
 
 use crate::failure::Failure;
-use crate::input::{self, MOST};
+use crate::input::{Input, MOST};
 use crate::lines::{quoted, Lines};
 use crate::progress::Progress;
 use crate::values;
 use mfer::{ChannelSettings, FrameSettings};
 use std::ffi::OsStr;
-use std::io::{BufRead, Read};
 
 /// Samples in file order, for one frame after another.
-pub struct Source<'a> {
-    name: &'a OsStr,
-    form: Form<'a>,
-}
-
-enum Form<'a> {
+pub enum Source<'a> {
     /// Big-endian octets.
-    Raw(Box<dyn BufRead>),
+    Raw(Input<'a>),
     /// One number a line.
     Numbers(Lines<'a>),
 }
 
 impl<'a> Source<'a> {
     pub fn open(name: &'a OsStr, raw: bool) -> Result<Source<'a>, Failure> {
-        let form = match raw {
-            true => Form::Raw(input::open(name)?),
-            false => Form::Numbers(Lines::open(name)?),
-        };
-        Ok(Source { name, form })
+        Ok(match raw {
+            true => Source::Raw(Input::open(name)?),
+            false => Source::Numbers(Lines::open(name)?),
+        })
     }
 
-    /// The octets of samples for a frame of this number: as many as it asks for, fewer where there are no
-    /// more. The last frame gets all that are there.
+    /// The octets of samples for the frame of this number: as many as it asks for, fewer where there are
+    /// no more. The last frame gets all that are there.
     pub fn take(
         &mut self,
         number: usize,
@@ -43,34 +36,29 @@ impl<'a> Source<'a> {
             true => u64::MAX,
             false => settings.sequences,
         };
-        match &mut self.form {
-            Form::Numbers(lines) => numbers(lines, number, settings, sequences),
-            Form::Raw(reader) => {
+        match self {
+            Source::Numbers(lines) => numbers(lines, number, settings, sequences),
+            Source::Raw(input) => {
                 let octets = sequences.saturating_mul(settings.sequence_octets());
-                let mut taken = Vec::new();
-                let read = reader.take(octets.min(MOST)).read_to_end(&mut taken);
-                read.map_err(|error| Failure::file(self.name, error))?;
-                Ok(taken)
+                input.take(octets.min(MOST))
             }
         }
     }
 
     /// Where what was taken ends, in words that go before others.
     pub fn place(&self) -> String {
-        match &self.form {
-            Form::Numbers(lines) if lines.number() > 0 => format!("line {}: ", lines.number()),
+        match self {
+            Source::Numbers(lines) if lines.number() > 0 => format!("line {}: ", lines.number()),
             _ => String::new(),
         }
     }
 
     /// Whether nothing is left.
     pub fn is_empty(&mut self) -> Result<bool, Failure> {
-        let left = match &mut self.form {
-            Form::Raw(reader) => reader.fill_buf().map(|octets| !octets.is_empty()),
-            Form::Numbers(lines) => return Ok(lines.next()?.is_none()),
-        };
-        left.map(|left| !left)
-            .map_err(|error| Failure::file(self.name, error))
+        match self {
+            Source::Numbers(lines) => Ok(lines.next()?.is_none()),
+            Source::Raw(input) => input.is_empty(),
+        }
     }
 }
 
