@@ -280,6 +280,20 @@ mod tests {
         }
     }
 
+    /// The page lists types and units with their codes.
+    #[test]
+    fn the_page_has_all_names() {
+        const PAGE: &str = include_str!("../../../docs/SETTINGS.md");
+        let page = PAGE.split_whitespace().collect::<Vec<_>>().join(" ");
+        for code in 0..=8 {
+            let name = data_type(DataType::from_code(code).unwrap());
+            assert!(page.contains(&format!("{code} `{name}`")), "{name}");
+        }
+        let (last, others) = RESOLUTION_UNITS.split_last().unwrap();
+        let units = format!("`{}` and `{last}`", others.join("`, `"));
+        assert!(page.contains(&units), "{units}");
+    }
+
     const fn scale(unit: u8, exponent: i8, mantissa: i32) -> Scale {
         Scale {
             unit,

@@ -249,3 +249,17 @@ fn no_frames() {
         assert_eq!(answer, ("".into(), "".into(), 0));
     }
 }
+
+/// The example on the page about settings.
+#[test]
+fn the_page_tells_the_truth() {
+    const PAGE: &str = include_str!("../../../docs/SETTINGS.md");
+    let block = |kind: &str| {
+        let (_, rest) = PAGE.split_once(&format!("```{kind}\n")).unwrap();
+        rest.split_once("```").unwrap().0
+    };
+    let folder = Folder::new();
+    folder.file("ecg.mwf", &made(block("settings"), block("samples")));
+    let answer = run(mfer().args(["show", "ecg.mwf"]).current_dir(&folder.0));
+    assert_eq!(answer, (block("shown").into(), "".into(), 0));
+}
