@@ -20,8 +20,8 @@ mfer: checks medical waveform files (MFER), shows what they hold and makes them
   mfer samples FILE --all [--frame F]
   mfer samples FILE --raw [--frame F]
       all samples of all frames, or of frame F, in file order: sequence after
-      sequence, and in each the block of each channel. --all: values, one a line;
-      --raw: big-endian octets
+      sequence, and in each the block of each channel; --all: the values, one a
+      line; --raw: big-endian octets
   mfer canonical IN OUT
       writes the canonical form of IN to OUT; OUT is replaced when all is
       written, so a failure leaves it as it was
@@ -36,23 +36,23 @@ FILE, IN, SETTINGS or SAMPLES may be - for standard input, OUT may be - for
 standard output. Frames, channels and samples count from 0. Words after -- are
 file names.
 
-SETTINGS is text, one setting a line, as 'mfer show FILE --settings' prints it. #
-begins a comment. What is left out has its default, in brackets:
+SETTINGS is text, one setting a line; 'mfer show FILE --settings' prints such a
+text. What is left out has its default, here in brackets:
 
-  frame                    begins a frame
-    start 0                [where the frame before ends; 0 in the first]
-    sequences 500          [in the last frame: by the number of samples]
-    channels 2             [the number of lines 'channel', or 1]
-    block 1                samples of the channel in a sequence [1]
-    class 1                code, or name as 'standard 12 lead ECG' [0]
-    lead 2                 code, or name as 'II' [0]
-    type signed 16 bits    name, or code from 0 to 8 [signed 16 bits]
-    interval 500 Hz        in Hz, s or m [1000 Hz]
-    resolution 1e-6 V      in V, mmHg or another unit [1e-6 V]
-    offset 0x0000          bits or number [0]
-    null 0x8000            bits, number or 'none' [none]
-    channel                begins a channel
-      lead V1              a setting from block to null
+  frame                  # begins a frame
+    start 0              # [where the frame before ends; 0 in the first]
+    sequences 500        # [in the last frame: by the number of samples]
+    channels 1           # [as many as lines 'channel'; 1 without such lines]
+    block 1              # samples of a channel in a sequence [1]
+    class 1              # code, or name as 'standard 12 lead ECG' [0]
+    lead 2               # code, or name as 'II' [0]
+    type signed 16 bits  # name, or code from 0 to 8 [signed 16 bits]
+    interval 500 Hz      # in Hz, s or m [1000 Hz]
+    resolution 1e-6 V    # in V, mmHg or another unit [1e-6 V]
+    offset 0x0000        # bits or number [0]
+    null 0x8000          # bits, number or 'none' [none]
+    channel              # begins a channel
+      lead V1            # any setting from block to null
 
 What stands ahead of a frame's first channel holds for all its channels. A frame
 that says nothing of its channels has those of the frame before it.

@@ -250,6 +250,17 @@ fn no_frames() {
     }
 }
 
+/// The settings in the help are some.
+#[test]
+fn the_help_tells_the_truth() {
+    let help = String::from_utf8(written(mfer().arg("--help"))).unwrap();
+    let begin = help.find("\n  frame ").unwrap();
+    let (settings, _) = help[begin..].split_once("\n\n").unwrap();
+    let made = made(settings, &"1\n".repeat(500));
+    let attributes = File::new(&made).attributes(0, 0).unwrap();
+    assert_eq!((attributes.lead, attributes.null), (3, Some(0x8000)));
+}
+
 /// The example on the page about settings.
 #[test]
 fn the_page_tells_the_truth() {
