@@ -4,10 +4,8 @@
 
 mod arguments;
 mod canonical;
-mod draft;
 mod failure;
 mod input;
-mod layout;
 mod lines;
 mod make;
 mod names;

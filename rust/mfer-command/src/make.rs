@@ -1,10 +1,10 @@
 //! `mfer make`: a file from settings and samples.
 
-use crate::draft::Laid;
 use crate::failure::Failure;
 use crate::input::shown;
+use crate::output;
+use crate::settings::{self, Described};
 use crate::source::Source;
-use crate::{layout, output};
 use mfer::{RecordError, Recorder, Refusal};
 use std::ffi::OsStr;
 use std::io::{self, Write};
@@ -17,24 +17,25 @@ pub fn make(
     output: &OsStr,
     out: &mut impl Write,
 ) -> Result<(), Failure> {
-    let frames = layout::read(settings)?;
+    let frames = settings::read(settings)?;
     let mut source = Source::open(samples, raw)?;
     if frames.is_empty() {
         say_no_frames(settings, &mut source)?;
     }
     let mut recorder = Recorder::new(Vec::new());
     let last = frames.len().saturating_sub(1);
-    for (number, mut laid) in frames.into_iter().enumerate() {
-        let octets = source.take(number, &laid.settings, number == last)?;
-        if laid.by_length {
-            laid.settings.sequences = octets.len() as u64 / laid.settings.sequence_octets();
+    for (number, mut described) in frames.into_iter().enumerate() {
+        let octets = source.take(number, &described.settings, number == last)?;
+        if described.by_length {
+            described.settings.sequences =
+                octets.len() as u64 / described.settings.sequence_octets();
         }
         let frame = format!("frame {number}");
-        let made = recorder.frame(&laid.settings, &octets);
+        let made = recorder.frame(&described.settings, &octets);
         made.map_err(|error| match error {
             RecordError::Refused(refusal) if refusal.number == Refusal::SAMPLES_LENGTH => {
                 let place = format!("{}{frame}", source.place());
-                let words = format!("{refusal}: {}", lengths(&laid, octets.len()));
+                let words = format!("{refusal}: {}", lengths(&described, octets.len()));
                 Failure::refused_in(samples, &place, words)
             }
             error => Failure::refused_in(settings, &frame, error),
@@ -44,12 +45,12 @@ pub fn make(
 }
 
 /// How many octets of samples a frame wants, and how many there are.
-fn lengths(laid: &Laid, found: usize) -> String {
-    let octets = laid.settings.sequence_octets();
-    match laid.by_length {
+fn lengths(described: &Described, found: usize) -> String {
+    let octets = described.settings.sequence_octets();
+    match described.by_length {
         true => format!("expected a multiple of {octets} octets, found {found}"),
         false => {
-            let sequences = laid.settings.sequences;
+            let sequences = described.settings.sequences;
             format!("expected {sequences} times {octets} octets, found {found}")
         }
     }

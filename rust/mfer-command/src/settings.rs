@@ -1,8 +1,16 @@
 //! The settings of frames as text: their names, how each is written and how it is read.
 
+mod cause;
+mod draft;
+mod read;
+mod write;
+
+pub use draft::Described;
+pub use read::read;
+pub use write::Writer;
+
 use crate::{names, values};
-use mfer::{ChannelSettings, FrameSettings};
-use std::io::{self, Write};
+use mfer::ChannelSettings;
 
 /// A setting of a channel.
 pub struct Setting {
@@ -109,67 +117,4 @@ fn bits(bits: u64, channel: &ChannelSettings) -> String {
 /// Bits, also wider ones than the channel's samples, or a number of its type.
 fn bits_of(text: &str, channel: &ChannelSettings) -> Option<u64> {
     values::hexadecimal(text).or_else(|| values::number(text, channel.data_type))
-}
-
-/// Writes frames one after another.
-#[derive(Default)]
-pub struct Writer {
-    /// The frame whose channels were written last.
-    last: Option<(u32, Vec<ChannelSettings>)>,
-}
-
-impl Writer {
-    /// Writes the settings of a frame. Channels are written where they are other than the frame's before.
-    pub fn frame(
-        &mut self,
-        out: &mut impl Write,
-        number: u32,
-        frame: FrameSettings,
-    ) -> io::Result<()> {
-        let FrameSettings {
-            start,
-            sequences,
-            channels,
-        } = frame;
-        match &self.last {
-            Some((last, written)) if *written == channels => {
-                writeln!(out, "frame  # {number}, channels as in frame {last}")?;
-                writeln!(out, "  start {start}\n  sequences {sequences}")
-            }
-            _ => {
-                writeln!(out, "frame  # {number}")?;
-                writeln!(out, "  start {start}\n  sequences {sequences}")?;
-                write_channels(out, &channels)?;
-                self.last = Some((number, channels));
-                Ok(())
-            }
-        }
-    }
-}
-
-/// What all channels share is the frame's, the rest is theirs.
-fn write_channels(out: &mut impl Write, channels: &[ChannelSettings]) -> io::Result<()> {
-    let columns = SETTINGS.map(|Setting { name, write, .. }| {
-        let values: Vec<String> = channels.iter().map(write).collect();
-        (name, values)
-    });
-    let (shared, own): (Vec<_>, Vec<_>) = columns
-        .into_iter()
-        .partition(|(_, values)| values.iter().all(|value| *value == values[0]));
-    if own.is_empty() && channels.len() > 1 {
-        writeln!(out, "  channels {}", channels.len())?;
-    }
-    for (name, values) in shared {
-        writeln!(out, "  {name} {}", values[0])?;
-    }
-    if own.is_empty() {
-        return Ok(());
-    }
-    for number in 0..channels.len() {
-        writeln!(out, "  channel  # {number}")?;
-        for (name, values) in &own {
-            writeln!(out, "    {name} {}", values[number])?;
-        }
-    }
-    Ok(())
 }

@@ -186,6 +186,10 @@ fn values_of_settings() {
             assert_eq!(answer, (format!("line 2: {words}"), 2));
         }
     }
+    // Ahead of channels that all have their own.
+    let settings = "frame\nblock x\nchannel\nblock 1\nchannel\nblock 2\n";
+    let words = "line 2: block: expected a number from 1 to 1048576, found 'x'";
+    assert_eq!(settings_fail(settings), (words.into(), 2));
     // For one channel alone: the type there is another.
     let settings = "frame\nchannel\nnull 200\nchannel\ntype 5\nnull 200\n";
     let words =

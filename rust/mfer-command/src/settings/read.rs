@@ -1,12 +1,12 @@
-//! The frames that a text of settings lays out.
+//! The frames that a text of settings describes.
 
-use crate::draft::{Draft, Laid};
+use super::draft::{Described, Draft};
 use crate::failure::Failure;
 use crate::lines::{quoted, Lines};
 use std::ffi::OsStr;
 
 /// The frames of a text in their order.
-pub fn read(name: &OsStr) -> Result<Vec<Laid>, Failure> {
+pub fn read(name: &OsStr) -> Result<Vec<Described>, Failure> {
     let mut lines = Lines::open(name)?;
     let mut frames = Vec::new();
     let mut draft: Option<Draft> = None;
@@ -43,12 +43,12 @@ fn split(line: &str) -> Option<(String, String)> {
 fn finish(
     draft: Option<Draft>,
     last: bool,
-    frames: &mut Vec<Laid>,
+    frames: &mut Vec<Described>,
     name: &OsStr,
 ) -> Result<(), Failure> {
     let Some(draft) = draft else { return Ok(()) };
-    let laid = draft.laid(frames.last(), last);
-    let laid = laid.map_err(|wrong| wrong.failure(name, frames.len()))?;
-    frames.push(laid);
+    let described = draft.described(frames.last(), last);
+    let described = described.map_err(|wrong| wrong.failure(name, frames.len()))?;
+    frames.push(described);
     Ok(())
 }

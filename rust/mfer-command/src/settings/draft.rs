@@ -1,15 +1,16 @@
 //! A frame as a text of settings has it, and what it comes to.
 
+use super::cause;
+use super::{Setting, BLOCK, COUNT, SETTINGS};
 use crate::failure::Failure;
 use crate::lines::quoted;
-use crate::settings::{BLOCK, COUNT, SETTINGS};
 use mfer::{ChannelSettings, FrameSettings, Refusal};
 use std::ffi::OsStr;
 use std::mem;
 use std::str::FromStr;
 
-/// A frame that is laid out. The library takes its settings.
-pub struct Laid {
+/// A frame as a text describes it. The library takes its settings.
+pub struct Described {
     /// Sequences are 0 where they are left out.
     pub settings: FrameSettings,
     /// Sequences are left out: they go by the number of samples.
@@ -18,7 +19,7 @@ pub struct Laid {
     block: u32,
 }
 
-impl Laid {
+impl Described {
     /// Where the next frame's start pointer is continued.
     fn end(&self) -> i64 {
         let FrameSettings {
@@ -30,21 +31,21 @@ impl Laid {
 }
 
 /// What is expected of a frame's own settings.
-const START: &str = "a number from -2147483648 to 2147483647";
-const SEQUENCES: &str = "a number from 0 to 4294967295";
-const CHANNELS: &str = "a number from 1 to 256";
+pub const START: &str = "a number from -2147483648 to 2147483647";
+pub const SEQUENCES: &str = "a number from 0 to 4294967295";
+pub const CHANNELS: &str = "a number from 1 to 256";
 
 /// One channel more than a frame may have is enough to have it refused.
 const MOST_CHANNELS: u64 = 257;
 
 /// What a line sets.
-struct Given {
-    line: u64,
-    text: String,
+pub struct Given {
+    pub line: u64,
+    pub text: String,
 }
 
 /// What lines set of a channel, or of all channels.
-type Section = [Option<Given>; COUNT];
+pub type Section = [Option<Given>; COUNT];
 
 /// A line that cannot stand so, and why.
 pub struct Wrong {
@@ -55,7 +56,7 @@ pub struct Wrong {
 }
 
 impl Wrong {
-    fn new(line: u64, words: String) -> Wrong {
+    pub fn new(line: u64, words: String) -> Wrong {
         Wrong {
             line,
             words,
@@ -63,7 +64,7 @@ impl Wrong {
         }
     }
 
-    fn value(line: u64, name: &str, expected: &str, found: &str) -> Wrong {
+    pub fn value(line: u64, name: &str, expected: &str, found: &str) -> Wrong {
         let found = quoted(found);
         Wrong::new(line, format!("{name}: expected {expected}, found {found}"))
     }
@@ -84,13 +85,13 @@ impl Wrong {
 /// The lines of a frame.
 #[derive(Default)]
 pub struct Draft {
-    line: u64,
-    start: Option<Given>,
-    sequences: Option<Given>,
-    channels: Option<Given>,
+    pub line: u64,
+    pub start: Option<Given>,
+    pub sequences: Option<Given>,
+    pub channels: Option<Given>,
     /// What holds for each channel that does not set it itself.
-    shared: Section,
-    own: Vec<Section>,
+    pub shared: Section,
+    pub own: Vec<Section>,
     wrong: Vec<Wrong>,
 }
 
@@ -161,9 +162,9 @@ impl Draft {
 impl Draft {
     /// The frame, or the first line that is wrong. `before` is the frame before it; the last frame may
     /// leave out its sequences.
-    pub fn laid(mut self, before: Option<&Laid>, last: bool) -> Result<Laid, Wrong> {
-        let laid = self.lay(before);
-        if laid.by_length && !last {
+    pub fn described(mut self, before: Option<&Described>, last: bool) -> Result<Described, Wrong> {
+        let described = self.describe(before);
+        if described.by_length && !last {
             let words = "sequences: expected in every frame but the last, found nothing";
             self.wrong.push(Wrong::new(self.line, words.into()));
         }
@@ -171,15 +172,18 @@ impl Draft {
         if let Some(first) = wrong.into_iter().min_by_key(|wrong| wrong.line) {
             return Err(first);
         }
-        match refusal(&laid.settings) {
-            Some(refusal) => Err(self.cause(&laid.settings, refusal)),
-            None => Ok(laid),
+        match cause::refusal(&described.settings) {
+            None => Ok(described),
+            refusal => Err(Wrong {
+                refusal,
+                ..cause::cause(&self, &described.settings)
+            }),
         }
     }
 
     /// The frame, as far as its lines can be read. One that says nothing of its channels has those of the
     /// frame before it.
-    fn lay(&mut self, before: Option<&Laid>) -> Laid {
+    fn describe(&mut self, before: Option<&Described>) -> Described {
         let start = number(&self.start, "start", START, &mut self.wrong);
         let sequences = number(&self.sequences, "sequences", SEQUENCES, &mut self.wrong);
         let (channels, block) = match before {
@@ -188,9 +192,9 @@ impl Draft {
             }
             _ => (self.channels(), self.block()),
         };
-        Laid {
+        Described {
             settings: FrameSettings {
-                start: start.unwrap_or_else(|| before.map_or(0, Laid::end)),
+                start: start.unwrap_or_else(|| before.map_or(0, Described::end)),
                 sequences: sequences.unwrap_or(0),
                 channels,
             },
@@ -215,21 +219,33 @@ impl Draft {
             }
             _ => {}
         }
-        if lines > 0 {
-            let channel = |own: &Section| channel(own, shared, wrong);
-            return self.own.iter().map(channel).collect();
+        if lines == 0 {
+            let alike = channel(&Section::default(), shared, wrong);
+            return vec![alike; count.unwrap_or(1).min(MOST_CHANNELS) as usize];
         }
-        let alike = channel(&Section::default(), shared, wrong);
-        vec![alike; count.unwrap_or(1).min(MOST_CHANNELS) as usize]
+        let channel = |own: &Section| channel(own, shared, wrong);
+        let channels: Vec<_> = self.own.iter().map(channel).collect();
+        self.read_unused(channels[0]);
+        channels
+    }
+
+    /// Reads what holds for no channel, since each has a line of its own for it.
+    fn read_unused(&mut self, mut channel: ChannelSettings) {
+        for (number, setting) in SETTINGS.iter().enumerate() {
+            let unused = self.own.iter().all(|own| own[number].is_some());
+            if let Some(given) = self.shared[number].as_ref().filter(|_| unused) {
+                self.wrong.extend(read(setting, given, &mut channel));
+            }
+        }
     }
 
     /// The block length that stands ahead of the channels.
     fn block(&self) -> u32 {
-        let mut settings = ChannelSettings::default();
+        let mut channel = ChannelSettings::default();
         if let Some(given) = &self.shared[BLOCK] {
-            (SETTINGS[BLOCK].read)(&given.text, &mut settings);
+            (SETTINGS[BLOCK].read)(&given.text, &mut channel);
         }
-        settings.block
+        channel.block
     }
 }
 
@@ -250,102 +266,27 @@ fn number<T: FromStr>(
 
 /// A channel: each setting its own, else the one for all channels, else the default.
 fn channel(own: &Section, shared: &Section, wrong: &mut Vec<Wrong>) -> ChannelSettings {
-    let mut settings = ChannelSettings::default();
+    let mut channel = ChannelSettings::default();
     for (setting, given) in SETTINGS.iter().zip(standing(own, shared)) {
-        let Some(Given { line, text }) = given else {
-            continue;
-        };
-        if (setting.read)(text, &mut settings).is_none() {
-            wrong.push(Wrong::value(*line, setting.name, setting.expected, text));
-        }
+        wrong.extend(given.and_then(|given| read(setting, given, &mut channel)));
     }
-    settings
+    channel
 }
 
 /// What holds for a channel, setting by setting.
-fn standing<'a>(own: &'a Section, shared: &'a Section) -> impl Iterator<Item = Option<&'a Given>> {
+pub fn standing<'a>(
+    own: &'a Section,
+    shared: &'a Section,
+) -> impl Iterator<Item = Option<&'a Given>> {
     let pairs = own.iter().zip(shared);
     pairs.map(|(own, shared)| own.as_ref().or(shared.as_ref()))
 }
 
-/// What the library refuses settings with, whatever the samples are.
-fn refusal(settings: &FrameSettings) -> Option<Refusal> {
-    let made = settings.make(&[]);
-    made.err()
-        .filter(|refusal| refusal.number == Refusal::SETTING_RANGE)
-}
-
-/// Why the library refuses them: it is asked for each setting alone, beside defaults.
-impl Draft {
-    fn cause(&self, settings: &FrameSettings, refusal: Refusal) -> Wrong {
-        let wrong = self
-            .cause_in_frame(settings)
-            .or_else(|| self.cause_in_channels(settings))
-            .unwrap_or_else(|| Wrong::new(self.line, "in the frame that begins here".into()));
-        Wrong {
-            refusal: Some(refusal),
-            ..wrong
-        }
-    }
-
-    fn cause_in_frame(&self, settings: &FrameSettings) -> Option<Wrong> {
-        let FrameSettings {
-            start,
-            sequences,
-            channels,
-        } = settings;
-        let count = channels.len();
-        let alone = |start, sequences, count| FrameSettings {
-            start,
-            sequences,
-            channels: vec![ChannelSettings::default(); count],
-        };
-        let (given, name, expected, found) = if refusal(&alone(*start, 0, 1)).is_some() {
-            (&self.start, "start", START, start.to_string())
-        } else if refusal(&alone(0, *sequences, 1)).is_some() {
-            (
-                &self.sequences,
-                "sequences",
-                SEQUENCES,
-                sequences.to_string(),
-            )
-        } else if refusal(&alone(0, 0, count)).is_some() {
-            (&self.channels, "channels", CHANNELS, count.to_string())
-        } else {
-            return None;
-        };
-        // A start that is continued and channels that are counted stand in no line.
-        Some(match given {
-            Some(Given { line, text }) => Wrong::value(*line, name, expected, text),
-            None => Wrong::value(self.line, name, expected, &found),
-        })
-    }
-
-    fn cause_in_channels(&self, settings: &FrameSettings) -> Option<Wrong> {
-        let none = Section::default();
-        for (number, read) in settings.channels.iter().enumerate() {
-            let own = self.own.get(number).unwrap_or(&none);
-            for (setting, given) in SETTINGS.iter().zip(standing(own, &self.shared)) {
-                let Some(Given { line, text }) = given else {
-                    continue;
-                };
-                // What other settings are read by.
-                let mut channel = ChannelSettings {
-                    class: read.class,
-                    data_type: read.data_type,
-                    ..ChannelSettings::default()
-                };
-                (setting.read)(text, &mut channel);
-                let alone = FrameSettings {
-                    start: 0,
-                    sequences: 0,
-                    channels: vec![channel],
-                };
-                if refusal(&alone).is_some() {
-                    return Some(Wrong::value(*line, setting.name, setting.expected, text));
-                }
-            }
-        }
-        None
+/// Sets what is given; answers what is wrong with it.
+fn read(setting: &Setting, given: &Given, channel: &mut ChannelSettings) -> Option<Wrong> {
+    let Given { line, text } = given;
+    match (setting.read)(text, channel) {
+        Some(()) => None,
+        None => Some(Wrong::value(*line, setting.name, setting.expected, text)),
     }
 }
