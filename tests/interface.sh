@@ -1,6 +1,6 @@
 #!/bin/bash
 # The C interface: compiles tests/interface.c as C99 and as C++ with warnings as errors, runs both, and runs the first once more under
-# valgrind. The header's example is compiled and run too. The library is taken from MFER_LIB_DIR, else from target/staticlib. The last
+# valgrind. The header's examples are compiled and run too. The library is taken from MFER_LIB_DIR, else from target/staticlib. The last
 # line counts the tests.
 set -u
 cd "$(dirname "$0")/.." || exit 2

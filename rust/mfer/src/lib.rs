@@ -63,7 +63,7 @@ pub use samples::{Bits, Values};
 pub use settings::{ChannelSettings, FrameSettings};
 pub use value::{Sample, Value};
 
-/// The README's example is a test too.
+/// The README's examples are tests too.
 #[cfg(doctest)]
 #[doc = include_str!("../../../README.md")]
 struct Readme;

@@ -41,6 +41,7 @@ pub struct Recorder<W> {
     writer: W,
     frames: u32,
     octets: u64,
+    /// The writer has failed, or is being asked: it may panic.
     broken: bool,
     rows: Rows,
     /// [`File::HEAD`], and behind it the frame that was made last.
@@ -91,8 +92,10 @@ impl<W: Write> Recorder<W> {
         if self.frames == File::MAX_FRAMES {
             return Err(refused(Refusal::MANY_FRAMES));
         }
+        self.broken = true;
         let written = self.writer.write_all(&self.buffer[begin..end]);
-        self.noted(written)?;
+        written.map_err(RecordError::Write)?;
+        self.broken = false;
         self.frames += 1;
         self.octets = octets;
         Ok(())
@@ -121,12 +124,6 @@ impl<W: Write> Recorder<W> {
         }
     }
 
-    /// What the writer answered, which is kept in mind.
-    fn noted(&mut self, answer: io::Result<()>) -> Result<(), RecordError> {
-        self.broken |= answer.is_err();
-        answer.map_err(RecordError::Write)
-    }
-
     /// How many frames the file has.
     pub fn frames(&self) -> u32 {
         self.frames
@@ -145,8 +142,10 @@ impl<W: Write> Recorder<W> {
     /// Flushes the writer.
     pub fn flush(&mut self) -> Result<(), RecordError> {
         self.unbroken()?;
-        let flushed = self.writer.flush();
-        self.noted(flushed)
+        self.broken = true;
+        self.writer.flush().map_err(RecordError::Write)?;
+        self.broken = false;
+        Ok(())
     }
 
     /// Flushes the writer and hands it back. At an error it is dropped; [`Recorder::flush`] and

@@ -9,7 +9,8 @@ use crate::refusal::Refusal;
 /// The settings of a channel in a frame that is to be made.
 ///
 /// The default has what holds in a file that sets nothing. What was read can be handed back as it is:
-/// see [`ChannelSettings::from`] and [`Frame::settings`](crate::Frame::settings).
+/// see [`ChannelSettings::from`] and [`Frame::settings`](crate::Frame::settings). With a number out of its
+/// range no frame is made: [`Refusal::SETTING_RANGE`].
 ///
 /// ```
 /// use mfer::{ChannelSettings, DataType, Scale};
@@ -180,7 +181,7 @@ impl FrameSettings {
 }
 
 /// The channels' settings as the library takes them.
-#[derive(Clone, Default, Debug)]
+#[derive(Default)]
 pub(crate) struct Rows {
     numbers: Vec<i64>,
     bits: Vec<u64>,

@@ -3,6 +3,7 @@
 use mfer::{ChannelSettings, DataType, File, FrameSettings, RecordError, Recorder, Refusal, Scale};
 use std::env;
 use std::io::{self, Write};
+use std::panic::{catch_unwind, AssertUnwindSafe};
 
 /// Document 01's P2.
 const P2: [u8; 23] = [
@@ -467,6 +468,28 @@ fn a_writer_that_fails() {
         assert_eq!(octets.len(), room);
         assert_eq!(File::new(&octets[..good]).check(), Ok(whole as u32));
     }
+}
+
+/// Nobody knows how much a writer took that panics.
+#[test]
+fn a_writer_that_panics() {
+    struct Panics;
+
+    impl Write for Panics {
+        fn write(&mut self, _: &[u8]) -> io::Result<usize> {
+            panic!("as it should")
+        }
+
+        fn flush(&mut self) -> io::Result<()> {
+            Ok(())
+        }
+    }
+
+    let mut recorder = Recorder::new(Panics);
+    let frame = AssertUnwindSafe(|| recorder.frame(&p2(), &P2_SAMPLES));
+    assert!(catch_unwind(frame).is_err());
+    let again = recorder.frame(&p2(), &P2_SAMPLES);
+    assert!(matches!(again, Err(RecordError::Broken)));
 }
 
 #[test]
