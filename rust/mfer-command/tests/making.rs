@@ -128,19 +128,17 @@ frame
   lead 1
   class 1
   channel
-    lead V1
-  channel
     lead FP1-A1
     class 40
     type 5
     null -128
+  channel
+    lead V1
 ";
-    let mut file = vec![8, 1, 1, 0x12, 2, 0x80, 0, 5, 1, 2, 0x3F, 0, 3, 9, 1, 3];
-    file.extend([
-        0x3F, 1, 13, 9, 2, 0x46, 0x4A, 8, 1, 40, 0x0A, 1, 5, 0x12, 1, 0x80,
-    ]);
-    file.extend([0x1E, 3, 0, 7, 0x80]);
-    assert_eq!(made(settings, "7\nnull\n"), canonical(&file));
+    let mut file = vec![8, 1, 1, 0x12, 2, 0x80, 0, 5, 1, 2];
+    file.extend([0x3F, 0, 13, 9, 2, 0x46, 0x4A, 8, 1, 40, 0x0A, 1, 5]);
+    file.extend([0x12, 1, 0x80, 0x3F, 1, 3, 9, 1, 3, 0x1E, 3, 0x80, 0, 7]);
+    assert_eq!(made(settings, "null\n7\n"), canonical(&file));
 }
 
 #[test]

@@ -56,9 +56,8 @@ fn in_channels(draft: &Draft, settings: &FrameSettings) -> Option<Wrong> {
             let Some(Given { line, text }) = given else {
                 continue;
             };
-            // Class and type stay: other settings are read by them.
+            // Bits are wide or not by the type.
             let mut channel = ChannelSettings {
-                class: read.class,
                 data_type: read.data_type,
                 ..ChannelSettings::default()
             };
