@@ -3,6 +3,7 @@
 use crate::input::shown;
 use mfer::Refusal;
 use std::ffi::OsStr;
+use std::fmt::Display;
 use std::io::{self, Write};
 use std::process::ExitCode;
 
@@ -13,7 +14,7 @@ pub enum Failure {
     Refused(String),
     /// The words of the command line are wrong: status 2.
     Usage(String),
-    /// Reading or writing failed: status 2.
+    /// Reading or writing failed, or a text is not as expected: status 2.
     InputOutput(String),
     /// All that is to be said was said.
     Reported(ExitStatus),
@@ -29,6 +30,16 @@ pub enum ExitStatus {
 impl Failure {
     pub fn refused(name: &OsStr, refusal: Refusal) -> Failure {
         Failure::Refused(format!("{}: {refusal}", shown(name)))
+    }
+
+    /// A refusal, in words, at a place in the file.
+    pub fn refused_in(name: &OsStr, place: &str, words: impl Display) -> Failure {
+        Failure::Refused(format!("{}: {place}: {words}", shown(name)))
+    }
+
+    /// A line of a text is not as expected.
+    pub fn line(name: &OsStr, line: u64, words: &str) -> Failure {
+        Failure::InputOutput(format!("{}: line {line}: {words}", shown(name)))
     }
 
     pub fn file(name: &OsStr, error: io::Error) -> Failure {

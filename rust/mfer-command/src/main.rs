@@ -1,16 +1,22 @@
-//! The command `mfer`: checks medical waveform files, shows what they hold, lists samples and
-//! writes the canonical form.
+//! The command `mfer`: checks medical waveform files, shows what they hold, lists samples, writes the
+//! canonical form and makes files.
 #![forbid(unsafe_code)]
 
 mod arguments;
 mod canonical;
 mod failure;
 mod input;
+mod lines;
+mod make;
 mod names;
+mod output;
 mod progress;
 mod samples;
+mod settings;
 mod show;
+mod source;
 mod table;
+mod values;
 
 use arguments::Command;
 use failure::Failure;
@@ -37,14 +43,23 @@ fn run(words: Vec<OsString>) -> Result<(), Failure> {
         Command::Help => print(&mut out, arguments::HELP),
         Command::Version => print(&mut out, concat!("mfer ", env!("CARGO_PKG_VERSION"), "\n")),
         Command::Check { files } => check(&files, &mut out),
-        Command::Show { file } => show::show(&file, &mut out),
+        Command::Show { file, frame } => show::show(&file, frame, &mut out),
+        Command::ShowSettings { file, frame } => show::show_settings(&file, frame, &mut out),
         Command::Samples {
             file,
             frame,
             channel,
             csv,
         } => samples::samples(&file, frame, channel, csv, &mut out),
+        Command::AllSamples { file, frame } => samples::all(&file, frame, &mut out),
+        Command::RawSamples { file, frame } => samples::raw(&file, frame, &mut out),
         Command::Canonical { input, output } => canonical::canonical(&input, &output, &mut out),
+        Command::Make {
+            settings,
+            samples,
+            raw,
+            output,
+        } => make::make(&settings, &samples, raw, &output, &mut out),
     };
     let flushed = out.flush().map_err(Failure::output);
     outcome.and(flushed)

@@ -1,9 +1,30 @@
-//! Names of codes, from the tables of ISO/TS 11073-92001:2007 (the numbers of tables are its).
+//! Names of codes, from the tables of ISO/TS 11073-92001:2007 (the numbers of tables are its), as they are
+//! written, and read again.
 
 use mfer::{DataType, Scale};
 
 /// From this code on, classes and leads are anyone's.
 const PRIVATE: u16 = 49_152;
+
+/// A code, and its name where it has one.
+pub fn named(code: u16, name: Option<String>) -> String {
+    match name {
+        Some(name) => format!("{code} {name}"),
+        None => code.to_string(),
+    }
+}
+
+/// The code that is written so: alone, with its name, or as its name alone. `name` tells the name of a
+/// code.
+pub fn code(text: &str, name: impl Fn(u16) -> Option<String>) -> Option<u16> {
+    let has = |code: u16, text: &str| name(code).is_some_and(|name| name == text);
+    let (first, rest) = text.split_once(' ').unwrap_or((text, ""));
+    match first.parse() {
+        Ok(code) => (rest.is_empty() || has(code, rest)).then_some(code),
+        // Private codes share one name.
+        Err(_) => (0..PRIVATE).find(|code| has(*code, text)),
+    }
+}
 
 /// Table 10.
 pub fn class(code: u16) -> Option<&'static str> {
@@ -124,43 +145,48 @@ pub fn data_type(data_type: DataType) -> &'static str {
     }
 }
 
-/// Table 3.
-pub fn interval(scale: Scale) -> String {
-    scaled(scale, &["Hz", "s", "m"])
+/// The data type that is written so: its name or its code.
+pub fn data_type_of(text: &str) -> Option<DataType> {
+    match text.parse() {
+        Ok(code) => DataType::from_code(code),
+        Err(_) => (0..)
+            .map_while(DataType::from_code)
+            .find(|known| data_type(*known) == text),
+    }
 }
+
+/// Table 3.
+pub const INTERVAL_UNITS: [&str; 3] = ["Hz", "s", "m"];
 
 /// Table 5.
-pub fn resolution(scale: Scale) -> String {
-    const UNITS: [&str; 23] = [
-        "V",
-        "mmHg",
-        "Pa",
-        "cmH2O",
-        "mmHg/s",
-        "dyne",
-        "N",
-        "%",
-        "°C",
-        "/min",
-        "/s",
-        "Ω",
-        "A",
-        "r/min",
-        "W",
-        "dB",
-        "kg",
-        "J",
-        "dyne s m-2 cm-5",
-        "l",
-        "l/s",
-        "l/min",
-        "cd",
-    ];
-    scaled(scale, &UNITS)
-}
+pub const RESOLUTION_UNITS: [&str; 23] = [
+    "V",
+    "mmHg",
+    "Pa",
+    "cmH2O",
+    "mmHg/s",
+    "dyne",
+    "N",
+    "%",
+    "°C",
+    "/min",
+    "/s",
+    "Ω",
+    "A",
+    "r/min",
+    "W",
+    "dB",
+    "kg",
+    "J",
+    "dyne s m-2 cm-5",
+    "l",
+    "l/s",
+    "l/min",
+    "cd",
+];
 
 /// Mantissa and exponent as the file has them, and the unit's name.
-fn scaled(scale: Scale, units: &[&str]) -> String {
+pub fn scaled(scale: Scale, units: &[&str]) -> String {
     let Scale {
         unit,
         exponent,
@@ -173,6 +199,32 @@ fn scaled(scale: Scale, units: &[&str]) -> String {
     match exponent {
         0 => format!("{mantissa} {unit}"),
         _ => format!("{mantissa}e{exponent} {unit}"),
+    }
+}
+
+/// The scale that is written so. The mantissa may have a decimal point, which lowers the exponent, and
+/// the unit may be given by its code.
+pub fn scale_of(text: &str, units: &[&str]) -> Option<Scale> {
+    let (number, unit) = text.split_once(' ')?;
+    let (digits, exponent) = number.split_once(['e', 'E']).unwrap_or((number, "0"));
+    let (whole, decimals) = digits.split_once('.').unwrap_or((digits, ""));
+    let exponent: i64 = exponent.parse().ok()?;
+    Some(Scale {
+        unit: unit_of(unit, units)?,
+        exponent: exponent
+            .checked_sub(decimals.len() as i64)?
+            .try_into()
+            .ok()?,
+        mantissa: format!("{whole}{decimals}").parse().ok()?,
+    })
+}
+
+fn unit_of(text: &str, units: &[&str]) -> Option<u8> {
+    match text.strip_prefix("unit ") {
+        Some(code) => code.parse().ok(),
+        None => (0..)
+            .zip(units)
+            .find_map(|(code, unit)| (*unit == text).then_some(code)),
     }
 }
 
@@ -201,15 +253,104 @@ mod tests {
     }
 
     #[test]
-    fn scales() {
-        let scale = |unit, exponent, mantissa| Scale {
+    fn codes_are_read_with_and_without_names() {
+        let lead_of = |text| code(text, |code| lead(1, code));
+        for text in ["3", "3 V1", "V1", "003"] {
+            assert_eq!(lead_of(text), Some(3), "{text}");
+        }
+        assert_eq!(lead_of("10"), Some(10));
+        assert_eq!(lead_of("65535 private"), Some(65_535));
+        for text in ["3 V2", "10 V1", "v1", "private", "65536", "-1", ""] {
+            assert_eq!(lead_of(text), None, "{text}");
+        }
+        let electrodes = |text| code(text, |code| lead(40, code));
+        assert_eq!(electrodes("FP1-A1"), Some(17_994));
+        assert_eq!(electrodes("0-0"), Some(0x4000));
+    }
+
+    #[test]
+    fn data_types_are_read_by_name_and_by_code() {
+        for code in 0..=8 {
+            let known = DataType::from_code(code);
+            assert_eq!(data_type_of(&code.to_string()), known);
+            assert_eq!(data_type_of(data_type(known.unwrap())), known);
+        }
+        for text in ["9", "-1", "256", "signed", "signed 16", ""] {
+            assert_eq!(data_type_of(text), None, "{text}");
+        }
+    }
+
+    /// The page lists types and units with their codes.
+    #[test]
+    fn the_page_has_all_names() {
+        const PAGE: &str = include_str!("../../../docs/SETTINGS.md");
+        let page = PAGE.split_whitespace().collect::<Vec<_>>().join(" ");
+        for code in 0..=8 {
+            let name = data_type(DataType::from_code(code).unwrap());
+            assert!(page.contains(&format!("{code} `{name}`")), "{name}");
+        }
+        let (last, others) = RESOLUTION_UNITS.split_last().unwrap();
+        let units = format!("`{}` and `{last}`", others.join("`, `"));
+        assert!(page.contains(&units), "{units}");
+    }
+
+    const fn scale(unit: u8, exponent: i8, mantissa: i32) -> Scale {
+        Scale {
             unit,
             exponent,
             mantissa,
-        };
-        assert_eq!(interval(scale(0, 0, 1000)), "1000 Hz");
-        assert_eq!(interval(scale(1, -3, 1)), "1e-3 s");
-        assert_eq!(resolution(scale(0, -9, 1000)), "1000e-9 V");
-        assert_eq!(resolution(scale(22, 2, 5)), "5e2 cd");
+        }
+    }
+
+    #[test]
+    fn scales() {
+        for (scale, units, text) in [
+            (scale(0, 0, 1000), &INTERVAL_UNITS[..], "1000 Hz"),
+            (scale(1, -3, 1), &INTERVAL_UNITS, "1e-3 s"),
+            (scale(0, -9, 1000), &RESOLUTION_UNITS, "1000e-9 V"),
+            (scale(22, 2, 5), &RESOLUTION_UNITS, "5e2 cd"),
+            (
+                scale(18, -128, i32::MAX),
+                &RESOLUTION_UNITS,
+                "2147483647e-128 dyne s m-2 cm-5",
+            ),
+            (scale(23, 127, 1), &RESOLUTION_UNITS, "1e127 unit 23"),
+        ] {
+            assert_eq!(scaled(scale, units), text);
+            assert_eq!(scale_of(text, units), Some(scale));
+        }
+    }
+
+    #[test]
+    fn scales_by_hand() {
+        for (text, expected) in [
+            ("1.25e-6 V", scale(0, -8, 125)),
+            ("0.5 mmHg", scale(1, -1, 5)),
+            (".50E3 unit 1", scale(1, 1, 50)),
+            ("2. °C", scale(8, 0, 2)),
+            ("-1 unit 255", scale(255, 0, -1)),
+        ] {
+            assert_eq!(scale_of(text, &RESOLUTION_UNITS), Some(expected), "{text}");
+        }
+        for text in [
+            "V",
+            "1",
+            "1 v",
+            "1 uV",
+            "x V",
+            "1e V",
+            "1e128 V",
+            "0.1e-128 V",
+            "1.2.3 V",
+            "1.-2 V",
+            ". V",
+            "3000000000 V",
+            "1 unit 256",
+            "1 unit",
+            "1e-9223372036854775808 V",
+            "0.1e-9223372036854775808 V",
+        ] {
+            assert_eq!(scale_of(text, &RESOLUTION_UNITS), None, "{text}");
+        }
     }
 }

@@ -1,9 +1,10 @@
-//! `mfer samples`: the values of a channel in a frame.
+//! `mfer samples`: the values of a channel in a frame, or all samples in file order.
 
 use crate::failure::Failure;
-use crate::input::read;
+use crate::input::{chosen, read};
 use crate::progress::Progress;
-use mfer::{File, Value};
+use crate::values;
+use mfer::{Attributes, Channel, File, Refusal};
 use std::ffi::OsStr;
 use std::io::{self, Write};
 
@@ -29,7 +30,7 @@ pub fn samples(
         if csv {
             write!(out, "{number},").map_err(Failure::output)?;
         }
-        write_value(out, value).map_err(Failure::output)?;
+        values::write(out, value).map_err(Failure::output)?;
         if number % 65_536 == 0 {
             progress.step(number, count);
         }
@@ -37,14 +38,48 @@ pub fn samples(
     Ok(())
 }
 
-/// Floats are written so that reading them gives the same bits.
-fn write_value(out: &mut impl Write, value: Value) -> io::Result<()> {
-    match value {
-        Value::Whole(whole) => writeln!(out, "{whole}"),
-        Value::Status(status) => writeln!(out, "0x{status:04X}"),
-        Value::Single(single) => writeln!(out, "{single:?}"),
-        Value::Double(double) => writeln!(out, "{double:?}"),
-        Value::NotNumber(bits) => writeln!(out, "{} 0x{bits:X}", value.kind()),
-        Value::Null => writeln!(out, "{}", value.kind()),
+/// All samples of all frames, or of the frame of the number `only`, in file order, one a line.
+pub fn all(name: &OsStr, only: Option<u32>, out: &mut impl Write) -> Result<(), Failure> {
+    let octets = read(name)?;
+    let write = |value, _: &Attributes| values::write(out, value);
+    in_file_order(name, File::new(&octets), only, Channel::values, write)
+}
+
+/// The same as big-endian octets.
+pub fn raw(name: &OsStr, only: Option<u32>, out: &mut impl Write) -> Result<(), Failure> {
+    let octets = read(name)?;
+    let write = |bits: u64, attributes: &Attributes| {
+        out.write_all(&bits.to_be_bytes()[8 - usize::from(attributes.width)..])
+    };
+    in_file_order(name, File::new(&octets), only, Channel::bits, write)
+}
+
+/// Frame after frame, in a frame sequence after sequence, in a sequence the block of each channel.
+fn in_file_order<'a, T, I: Iterator<Item = Result<T, Refusal>>>(
+    name: &OsStr,
+    file: File<'a>,
+    only: Option<u32>,
+    samples: impl Fn(&Channel<'a>) -> I,
+    mut write: impl FnMut(T, &Attributes) -> io::Result<()>,
+) -> Result<(), Failure> {
+    let refused = |refusal| Failure::refused(name, refusal);
+    let mut progress = Progress::beside_output("writing samples");
+    for frame in chosen(file, only).map_err(refused)?.1 {
+        let frame = frame.map_err(refused)?;
+        let with_samples = |channel: Channel<'a>| (samples(&channel), *channel.attributes());
+        let channels = frame.channels().map(|channel| channel.map(with_samples));
+        let mut channels: Vec<_> = channels.collect::<Result<_, _>>().map_err(refused)?;
+        for sequence in 0..u64::from(frame.sequences()) {
+            for (samples, attributes) in &mut channels {
+                for sample in samples.take(attributes.block as usize) {
+                    write(sample.map_err(refused)?, attributes).map_err(Failure::output)?;
+                }
+            }
+            if sequence % 4096 == 0 {
+                let done = frame.waveform().start as u64 + sequence * frame.sequence_octets();
+                progress.step(done, file.octets().len() as u64);
+            }
+        }
     }
+    Ok(())
 }

@@ -1,10 +1,11 @@
-//! `mfer show`: frames and channels with their settings.
+//! `mfer show`: frames and channels with their settings, as tables or as text that `mfer make` takes.
 
 use crate::failure::Failure;
-use crate::input::{read, shown};
+use crate::input::{chosen, read, shown};
 use crate::progress::Progress;
-use crate::{names, table};
-use mfer::{Attributes, File, Frame, Refusal};
+use crate::settings::{self, SETTINGS};
+use crate::table;
+use mfer::{Attributes, ChannelSettings, File, Frame, Refusal};
 use std::ffi::OsStr;
 use std::io::Write;
 
@@ -22,11 +23,11 @@ const HEAD: [&str; 9] = [
 
 type Row = [String; HEAD.len()];
 
-pub fn show(name: &OsStr, out: &mut impl Write) -> Result<(), Failure> {
+/// A table for each frame, or for the one of the number `only`.
+pub fn show(name: &OsStr, only: Option<u32>, out: &mut impl Write) -> Result<(), Failure> {
     let octets = read(name)?;
     let refused = |refusal| Failure::refused(name, refusal);
-    let frames = File::new(&octets).frames().map_err(refused)?;
-    let count = frames.len() as u64;
+    let (count, frames) = chosen(File::new(&octets), only).map_err(refused)?;
     let length = counted(octets.len() as u64, "octet");
     let shown_count = counted(count, "frame");
     writeln!(out, "{}: {length}, {shown_count}", shown(name)).map_err(Failure::output)?;
@@ -36,7 +37,7 @@ pub fn show(name: &OsStr, out: &mut impl Write) -> Result<(), Failure> {
     for frame in frames {
         let frame = frame.map_err(refused)?;
         progress.step(frame.number().into(), count);
-        let channels = settings(&frame).map_err(refused)?;
+        let channels = attributes(&frame).map_err(refused)?;
         let head = heading(&frame);
         match &last {
             Some((number, written)) if *written == channels => {
@@ -53,15 +54,33 @@ pub fn show(name: &OsStr, out: &mut impl Write) -> Result<(), Failure> {
     Ok(())
 }
 
+/// The same as text that `mfer make` takes.
+pub fn show_settings(name: &OsStr, only: Option<u32>, out: &mut impl Write) -> Result<(), Failure> {
+    let octets = read(name)?;
+    let refused = |refusal| Failure::refused(name, refusal);
+    let (count, frames) = chosen(File::new(&octets), only).map_err(refused)?;
+    let mut progress = Progress::beside_output("showing frames");
+    let mut writer = settings::Writer::default();
+    for frame in frames {
+        let frame = frame.map_err(refused)?;
+        progress.step(frame.number().into(), count);
+        let settings = frame.settings().map_err(refused)?;
+        writer
+            .frame(out, frame.number(), settings)
+            .map_err(Failure::output)?;
+    }
+    Ok(())
+}
+
 /// What a table says of a frame's channels: all attributes but the start pointer.
-fn settings(frame: &Frame) -> Result<Vec<Attributes>, Refusal> {
-    let settings = |channel: mfer::Channel| Attributes {
+fn attributes(frame: &Frame) -> Result<Vec<Attributes>, Refusal> {
+    let attributes = |channel: mfer::Channel| Attributes {
         start: 0,
         ..*channel.attributes()
     };
     frame
         .channels()
-        .map(|channel| channel.map(settings))
+        .map(|channel| channel.map(attributes))
         .collect()
 }
 
@@ -73,35 +92,24 @@ fn heading(frame: &Frame) -> String {
 }
 
 fn row((channel, read): (u32, &Attributes)) -> Row {
+    let settings = ChannelSettings::from(read);
+    let [_, class, lead, data_type, interval, resolution, offset, null] =
+        SETTINGS.map(|setting| (setting.write)(&settings));
     let per_sequence = match read.block {
         1 => String::new(),
         block => format!(" ({block} a sequence)"),
     };
     [
         channel.to_string(),
-        named(read.class, names::class(read.class).map(String::from)),
-        named(read.lead, names::lead(read.class, read.lead)),
-        names::data_type(read.data_type).into(),
+        class,
+        lead,
+        data_type,
         format!("{}{per_sequence}", read.samples()),
-        names::interval(read.interval),
-        names::resolution(read.resolution),
-        bits(read.offset, read.width),
-        read.null
-            .map_or("none".into(), |null| bits(null, read.width)),
+        interval,
+        resolution,
+        offset,
+        null,
     ]
-}
-
-/// A code, and its name where it has one.
-fn named(code: u16, name: Option<String>) -> String {
-    match name {
-        Some(name) => format!("{code} {name}"),
-        None => code.to_string(),
-    }
-}
-
-/// Bits of a sample's width.
-fn bits(bits: u64, width: u8) -> String {
-    format!("0x{bits:0digits$X}", digits = 2 * usize::from(width))
 }
 
 fn counted(count: u64, what: &str) -> String {

@@ -1,100 +1,13 @@
 //! The command as a user meets it: its output, its words on standard error, its exit status.
 
+mod common;
+
+use common::{mfer, read, run, run_on, shown, Folder, P2, P6};
 use std::fs;
-use std::io::{ErrorKind, Read, Write};
-use std::path::{Path, PathBuf};
-use std::process::{self, Command, Output, Stdio};
-use std::sync::atomic::{AtomicU32, Ordering};
+use std::io::{Read, Write};
+use std::process::Stdio;
 use std::thread;
 use std::time::Duration;
-
-/// A folder of one test's own, removed when the test is over.
-struct Folder(PathBuf);
-
-impl Folder {
-    fn new() -> Folder {
-        static NEXT: AtomicU32 = AtomicU32::new(0);
-        loop {
-            let number = NEXT.fetch_add(1, Ordering::Relaxed);
-            let name = format!("mfer-command-{}-{number}", process::id());
-            let folder = Path::new(env!("CARGO_TARGET_TMPDIR")).join(name);
-            match fs::create_dir(&folder) {
-                // Left behind by a run that was stopped.
-                Err(error) if error.kind() == ErrorKind::AlreadyExists => {}
-                created => {
-                    created.unwrap();
-                    return Folder(folder);
-                }
-            }
-        }
-    }
-
-    fn path(&self, name: &str) -> PathBuf {
-        self.0.join(name)
-    }
-
-    fn file(&self, name: &str, octets: &[u8]) -> PathBuf {
-        let path = self.path(name);
-        fs::write(&path, octets).unwrap();
-        path
-    }
-
-    fn names(&self) -> Vec<String> {
-        let entries = fs::read_dir(&self.0).unwrap();
-        let mut names: Vec<String> = entries
-            .map(|entry| entry.unwrap().file_name().into_string().unwrap())
-            .collect();
-        names.sort();
-        names
-    }
-}
-
-impl Drop for Folder {
-    fn drop(&mut self) {
-        let _ = fs::remove_dir_all(&self.0);
-    }
-}
-
-/// Document 01's P2: two channels, little-endian.
-const P2: [u8; 23] = [
-    0x01, 0x01, 0x01, 0x04, 0x01, 0x02, 0x05, 0x01, 0x02, 0x3F, 0x01, 0x03, 0x04, 0x01, 0x01, 0x1E,
-    0x06, 0x01, 0x00, 0x02, 0x00, 0xFF, 0xFF,
-];
-
-/// Document 01's P6: a channel number that is not below the channel count.
-const P6: [u8; 6] = [0x05, 0x01, 0x02, 0x3F, 0x02, 0x00];
-
-fn mfer() -> Command {
-    Command::new(env!("CARGO_BIN_EXE_mfer"))
-}
-
-fn run(command: &mut Command) -> (String, String, i32) {
-    read(command.output().unwrap())
-}
-
-fn read(output: Output) -> (String, String, i32) {
-    (
-        String::from_utf8(output.stdout).unwrap(),
-        String::from_utf8(output.stderr).unwrap(),
-        output.status.code().unwrap(),
-    )
-}
-
-/// Runs with these octets on standard input.
-fn run_on(command: &mut Command, input: &[u8]) -> Output {
-    let mut child = command
-        .stdin(Stdio::piped())
-        .stdout(Stdio::piped())
-        .stderr(Stdio::piped())
-        .spawn()
-        .unwrap();
-    child.stdin.take().unwrap().write_all(input).unwrap();
-    child.wait_with_output().unwrap()
-}
-
-fn shown(path: &Path) -> String {
-    path.display().to_string()
-}
 
 #[test]
 fn check_of_one_file() {
@@ -169,6 +82,24 @@ frame 2: start 2, 1 channel, 0 sequences
 }
 
 #[test]
+fn show_of_one_frame() {
+    let octets = [0x0A, 1, 3, 0x1E, 2, 7, 8, 0x1E, 1, 9];
+    let show = |frame| {
+        read(run_on(
+            mfer().args(["show", "-", "--frame", frame]),
+            &octets,
+        ))
+    };
+    let (out, error, status) = show("1");
+    let (head, table) = out.split_once('\n').unwrap();
+    assert_eq!(head, "standard input: 10 octets, 2 frames");
+    assert!(table.starts_with("frame 1: start 2, 1 channel, 1 sequence\n  channel  class "));
+    assert_eq!((table.lines().count(), error, status), (3, "".into(), 0));
+    let error = "mfer: standard input: refused 20 at 0: no such frame\n";
+    assert_eq!(show("2"), ("".into(), error.into(), 1));
+}
+
+#[test]
 fn show_of_many_frames_is_the_same() {
     let frames = |count: u8| {
         let mut octets = vec![0x01, 1, 1, 0x05, 1, 2];
@@ -231,6 +162,34 @@ fn samples_of_every_kind() {
     assert_eq!(out, "number,value\n0,null\n1,0xABCD\n");
     let (out, _, _) = samples(&octets, &["--frame", "2", "--channel", "0"]);
     assert_eq!(out, "0.1\n");
+}
+
+#[test]
+fn samples_of_all_channels() {
+    let mut octets = P2.to_vec();
+    octets.extend([0x12, 2, 2, 0, 0x1E, 6, 1, 0, 2, 0, 3, 0]);
+    for (words, numbers) in [
+        (&["--all"][..], "1\n2\n-1\n1\nnull\n3\n"),
+        (&["--all", "--frame", "1"], "1\nnull\n3\n"),
+    ] {
+        assert_eq!(samples(&octets, words), (numbers.into(), "".into(), 0));
+    }
+    let raw = |words: &[&str]| run_on(mfer().args(["samples", "-", "--raw"]).args(words), &octets);
+    let first = [0, 1, 0, 2, 0xFF, 0xFF];
+    assert_eq!(raw(&["--frame=0"]).stdout, first);
+    assert_eq!(raw(&[]).stdout, [first, [0, 1, 0, 2, 0, 3]].concat());
+}
+
+#[test]
+fn all_samples_that_are_not_there() {
+    for option in ["--all", "--raw"] {
+        let error = "mfer: standard input: refused 20 at 0: no such frame\n";
+        let answer = samples(&P2, &[option, "--frame", "1"]);
+        assert_eq!(answer, ("".into(), error.into(), 1));
+        let (out, error, status) = samples(&P6, &[option]);
+        assert_eq!((out.as_str(), status), ("", 1));
+        assert!(error.starts_with("mfer: standard input: refused 8 at 3: "));
+    }
 }
 
 #[test]
@@ -314,7 +273,16 @@ fn canonical_keeps_permissions_links_and_devices() {
 #[test]
 fn help_and_version() {
     let (out, error, status) = run(mfer().arg("--help"));
-    assert!(out.contains("mfer check FILE.."));
+    for word in [
+        "check FILE..",
+        "show FILE",
+        "samples FILE",
+        "canonical IN",
+        "make SETTINGS",
+    ] {
+        assert!(out.contains(&format!("\n  mfer {word}")), "{word}");
+    }
+    assert!(out.lines().all(|line| line.chars().count() <= 80));
     assert_eq!((error.as_str(), status), ("", 0));
     let (out, _, status) = run(mfer().arg("--version"));
     assert_eq!(out, format!("mfer {}\n", env!("CARGO_PKG_VERSION")));
@@ -346,19 +314,26 @@ fn a_closed_pipe_is_no_error() {
     octets.extend(4_000_000_u32.to_be_bytes());
     octets.resize(octets.len() + 4_000_000, 1);
     let file = folder.file("long", &octets);
-    let mut child = mfer()
-        .args(["samples", "--frame", "0", "--channel", "0"])
-        .arg(&file)
-        .stdout(Stdio::piped())
-        .stderr(Stdio::piped())
-        .spawn()
-        .unwrap();
-    let mut first = [0; 4];
-    child.stdout.take().unwrap().read_exact(&mut first).unwrap();
-    let output = child.wait_with_output().unwrap();
-    assert_eq!(&first, b"257\n");
-    assert_eq!(String::from_utf8(output.stderr).unwrap(), "");
-    assert!(output.status.success());
+    for (words, expected) in [
+        (&["--frame", "0", "--channel", "0"][..], b"257\n"),
+        (&["--all"], b"257\n"),
+        (&["--raw"], &[1; 4]),
+    ] {
+        let mut child = mfer()
+            .arg("samples")
+            .args(words)
+            .arg(&file)
+            .stdout(Stdio::piped())
+            .stderr(Stdio::piped())
+            .spawn()
+            .unwrap();
+        let mut first = [0; 4];
+        child.stdout.take().unwrap().read_exact(&mut first).unwrap();
+        let output = child.wait_with_output().unwrap();
+        assert_eq!(&first, expected);
+        assert_eq!(String::from_utf8(output.stderr).unwrap(), "");
+        assert!(output.status.success());
+    }
 }
 
 #[cfg(target_os = "linux")]
