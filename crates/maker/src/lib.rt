@@ -130,7 +130,7 @@ pub fn make_frame(
     if out.len() < size {
         return refused(Refusal::NO_ROOM);
     }
-    Written::Octets(store_frame(
+    let stored = store_frame(
         start as i32,
         sequences as u32,
         numbers,
@@ -138,5 +138,6 @@ pub fn make_frame(
         n,
         samples,
         out,
-    ))
+    );
+    Written::Octets(stored)
 }

@@ -47,9 +47,10 @@ never : {b : Bool} {X : Type 0} → b ≡ true → b ≡ false → X
 never e f = let z : _≡_ {A = ℕ} 0 1 = cc in let w : ⊥ = omega arith in absurd w
 
 between-by : (low high z : ℤ) → (both (leZ low z) (leZ z high) ≡ true) ↔ Between low high z
-between-by low high z =
-    (λ e. let h = both-split (leZ low z) (leZ z high) e in (record { le = holds (leZ low z) (h .0) }, record { le = holds (leZ z high) (h .1) }),
-     λ b. let l = truth {b = leZ low z} (b .0 .le) in let h = truth {b = leZ z high} (b .1 .le) in rw (l, h))
+between-by low high z = (
+  λ e. let h = both-split (leZ low z) (leZ z high) e in (record { le = holds (leZ low z) (h .0) }, record { le = holds (leZ z high) (h .1) }),
+  λ b. let l = truth {b = leZ low z} (b .0 .le) in let h = truth {b = leZ z high} (b .1 .le) in rw (l, h),
+)
 
 within-is : (low high : ℕ) (z : ℤ) → within low high z ≡ both (leZ (pos low) z) (leZ z (pos high))
 within-is low high (pos n) = refl
@@ -83,12 +84,13 @@ none-by (negsuc k) = (λ e. never e refl, λ e. let z : _≡_ {A = ℕ} 0 1 = cc
 
 scale-allowed : (last : ℕ) (x : GivenScale) → (scaleInTable last x ≡ true) ↔ ScaleAllowed last x
 unfolding scaleInTable
-scale-allowed last x =
-    (λ e.
-        let a = both-split (within 0 last (x .unit)) _ e in
-        let b = both-split (exponentFits (x .exponent)) _ (a .1) in
-        record { unit = within-by 0 last (x .unit) .0 (a .0); exponent = exponent-by (x .exponent) .0 (b .0); mantissa = within-by 1 lastMantissa (x .mantissa) .0 (b .1) },
-     λ s. rw (within-by 0 last (x .unit) .1 (s .unit), exponent-by (x .exponent) .1 (s .exponent)) (within-by 1 lastMantissa (x .mantissa) .1 (s .mantissa)))
+scale-allowed last x = (
+  λ e.
+      let a = both-split (within 0 last (x .unit)) _ e in
+      let b = both-split (exponentFits (x .exponent)) _ (a .1) in
+      record { unit = within-by 0 last (x .unit) .0 (a .0); exponent = exponent-by (x .exponent) .0 (b .0); mantissa = within-by 1 lastMantissa (x .mantissa) .0 (b .1) },
+  λ s. rw (within-by 0 last (x .unit) .1 (s .unit), exponent-by (x .exponent) .1 (s .exponent)) (within-by 1 lastMantissa (x .mantissa) .1 (s .mantissa)),
+)
 
 -- A null is not looked at, or not too wide.
 null-allowed : (g : Given) → (either (noNull (g .nullWidth)) (bitsFit (widthGiven g) (g .null)) ≡ true) ↔ ((g .nullWidth ≡ pos 0 → ⊥) → g .null < 256 ^ widthGiven g)

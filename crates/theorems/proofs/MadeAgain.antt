@@ -109,17 +109,17 @@ module _ (r : Recorded) where
     unfolding numbersOf bitPairOf
     row-says =
         λ i.
-            record {
-              block = number-at 3 (lit< tt) i;
-              class = number-at 4 (lit< tt) i;
-              lead = number-at 5 (lit< tt) i;
-              datatype = number-at 6 (lit< tt) i;
-              interval = record { unit = number-at 7 (lit< tt) i; exponent = number-at 8 (lit< tt) i; mantissa = number-at 9 (lit< tt) i };
-              resolution = record { unit = number-at 10 (lit< tt) i; exponent = number-at 11 (lit< tt) i; mantissa = number-at 12 (lit< tt) i };
-              offset = bit-at 0 (lit< tt) i;
-              nullWidth = number-at 14 (lit< tt) i;
-              null = bit-at 1 (lit< tt) i;
-            }
+        record {
+          block = number-at 3 (lit< tt) i;
+          class = number-at 4 (lit< tt) i;
+          lead = number-at 5 (lit< tt) i;
+          datatype = number-at 6 (lit< tt) i;
+          interval = record { unit = number-at 7 (lit< tt) i; exponent = number-at 8 (lit< tt) i; mantissa = number-at 9 (lit< tt) i };
+          resolution = record { unit = number-at 10 (lit< tt) i; exponent = number-at 11 (lit< tt) i; mantissa = number-at 12 (lit< tt) i };
+          offset = bit-at 0 (lit< tt) i;
+          nullWidth = number-at 14 (lit< tt) i;
+          null = bit-at 1 (lit< tt) i;
+        }
 
 -- ---- it is in the table
 
@@ -180,16 +180,16 @@ row-back : (c : Settings) → GoodReported c → settingsMade (givenOf c) ≡ c
 unfolding settingsMade
 row-back c g =
     λ i.
-        record {
-          block = c .block;
-          class = c .class;
-          lead = c .lead;
-          datatype = c .datatype;
-          interval = c .interval;
-          resolution = c .resolution;
-          offset = record { width = sym (g .offsetWidth) i; bits = c .offset .bits };
-          null = null-back c g i;
-        }
+    record {
+      block = c .block;
+      class = c .class;
+      lead = c .lead;
+      datatype = c .datatype;
+      interval = c .interval;
+      resolution = c .resolution;
+      offset = record { width = sym (g .offsetWidth) i; bits = c .offset .bits };
+      null = null-back c g i;
+    }
 
 -- ---- a frame
 
