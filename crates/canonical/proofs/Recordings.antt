@@ -2,6 +2,7 @@
 --     frameOf            the frame that its octets give
 --     all-agree, sequence-some, sequences-back, waveform-long    it passes the tests at its waveform
 --     tabulate-is        a list is the values at its places
+--     reported-again     its channels are reported as they are
 --     recorded-back      it is recorded as it was
 -- Assumes nothing.
 use Prim.Native.Nat.{ℕ, zero, suc, _*_, _<_}
@@ -98,7 +99,7 @@ reported-is c g =
     let n : c .offset .width ≡ 0 → ⊥ = λ z. omega (arith, width-good (c .datatype) (g .datatype) .some, g .offsetWidth) in
     simp (ne-eqb (c .offset .width) 0 n)
 
-reported-again : (cs : List Settings) → AllReported cs → map reported cs ≡ cs
+pub reported-again : (cs : List Settings) → AllReported cs → map reported cs ≡ cs
 reported-again [] g = refl
 reported-again (c ∷ cs) g = ap₂ _∷_ (reported-is c (g .0)) (reported-again cs (g .1))
 

@@ -1,5 +1,6 @@
 -- Laws of the pass that writes the frames of an accepted file.
 --     frame-is        a frame's octets are those of its parts
+--     narrow-fits, narrow-is    a start pointer within 32 bits, as it is handed on
 --     Writing         the loop's invariant
 --     writing-first, writing-later, writing-frame    before the first item, further on, after a frame
 --     written-done    after the last frame
@@ -90,10 +91,10 @@ narrowed z = toZ w32 (ofZ w32 (readWide z))
 wide-is : (z : ℤ) → mag z < 2 ^ 31 → readWide z ≡ z
 wide-is z h = let wide : mag z < 2 ^ 63 = omega arith in toZ-ofZ (record { sfits = wide })
 
-narrow-fits : (z : ℤ) → mag z < 2 ^ 31 → SFits w32 (readWide z)
+pub narrow-fits : (z : ℤ) → mag z < 2 ^ 31 → SFits w32 (readWide z)
 narrow-fits z h = subst (SFits w32) (sym (wide-is z h)) (record { sfits = h })
 
-narrow-is : (z : ℤ) → mag z < 2 ^ 31 → narrowed z ≡ z
+pub narrow-is : (z : ℤ) → mag z < 2 ^ 31 → narrowed z ≡ z
 narrow-is z h = toZ-ofZ (narrow-fits z h) ∙ wide-is z h
 
 -- ---- one frame more

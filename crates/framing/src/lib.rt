@@ -1,7 +1,8 @@
 // What a waveform gives.
 //
 // Promises, for any numbers at all: `frame_of` answers the sequences of a waveform and what stands after it, or 11 to 14, and 15 for
-// numbers that no file has; `channels_of` answers how many channels a frame has. Nothing is carried out here.
+// numbers that no file has; `channels_of` answers how many channels a frame has, and `pointer_fits` whether a start pointer has signed 32 bits. Nothing is
+// carried out here.
 // Read first: specs/Framing.antt (the rule), then specs/AnyNumbers.antt; what stands is in crate standing.
 ghost use mathlib.Core.Bool.{true};
 ghost use mathlib.Core.Path.{_≡_};
@@ -39,7 +40,7 @@ fn sequences_of(set: u32, long: usize, octets: u64) -> u64
 }
 
 // Signed 32 bits.
-fn pointer_fits(z: i64) -> bool
+pub fn pointer_fits(z: i64) -> bool
     ensures { λ r. ⌜ r ≡ pointerFits z ⌝ }
 {
     -2_147_483_648 <= z && z <= 2_147_483_647

@@ -1,5 +1,6 @@
--- The numbers of document 01's table, "What comes back when it is no", each named once, with the words that every reader of a refusal is
--- told. They are the table's; what it leans on elsewhere stands in parentheses, and its "table above" is that of attributes.
+-- The numbers of document 01's table, "What comes back when it is no", and those that the requests of document 02 add to it, each named once, with
+-- the words that every reader of a refusal is told. They are the papers'; what these lean on elsewhere stands in parentheses, and document 01's "table
+-- above" is that of attributes. 23 is said of canonical files and of made frames alike.
 use Prim.Native.Nat.{ℕ}
 
 -- 1: context tag other than 3Fh
@@ -74,6 +75,14 @@ noChannel = 21
 abbrev pub noSample : ℕ
 noSample = 22
 
--- 23: canonical file longer than the output buffer or than 15's limit (2,147,483,647 octets)
+-- 23: what is written is longer than the output buffer, or the file than 15's limit (2,147,483,647 octets)
 abbrev pub noRoom : ℕ
 noRoom = 23
+
+-- 24: a setting outside the table of attributes, or bits wider than the sample
+abbrev pub settingRange : ℕ
+settingRange = 24
+
+-- 25: sample octets not exactly sequences times G (the octets of a sequence)
+abbrev pub samplesLength : ℕ
+samplesLength = 25

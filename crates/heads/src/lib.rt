@@ -53,6 +53,10 @@ impl Refusal {
     pub const NO_SAMPLE: u8 = 22;
 
     pub const NO_ROOM: u8 = 23;
+
+    pub const SETTING_RANGE: u8 = 24;
+
+    pub const SAMPLES_LENGTH: u8 = 25;
 }
 
 // A channel number and how many octets it takes, or why there is none.

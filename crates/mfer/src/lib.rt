@@ -11,7 +11,8 @@ ghost use Rattle.reader.specs.Answer.{attributesOf, sampleOf};
 ghost use Rattle.bulk.specs.Samples.{readOf, valuesOf, kindsIn, wholesIn, countRead};
 ghost use Rattle.canonical.specs.Write.{canonicalLengthOf};
 ghost use Rattle.outputs.specs.Outputs.{outputs, countOut, attributesValues, attributesOut, sampleValues, sampleOut};
-ghost use Rattle.mfer.specs.Answers.{CanonicalOut};
+ghost use Rattle.maker.specs.Make.{making};
+ghost use Rattle.mfer.specs.Answers.{CanonicalOut, MadeOut};
 ghost use Prim.Native.Nat.{min};
 ghost use lib.ListN.{length};
 
@@ -133,4 +134,27 @@ pub extern "C" fn mfer_canonical(
     ensures { λ r. ⌜ CanonicalOut (now (file .entry)) (now (out .entry)) (outputs r (now (place .exit)) (now (written .exit))) (now (out .exit)) ⌝ }
 {
     outputs::written_out(canonical::write_canonical(file, out), written, place)
+}
+
+// Makes a frame into the front of `out`, as the canonical file has it: how long it is. `numbers` and `bits` are a row for each channel, as mfer_attributes tells
+// them; `samples` are big-endian and in file order. The rest of `out`, and at a refusal all of it, keeps what it held.
+#[no_mangle]
+pub extern "C" fn mfer_make_frame(
+    start: i64,
+    sequences: u64,
+    channels: u64,
+    numbers: &[i64],
+    bits: &[u64],
+    samples: &[u8],
+    out: &mut [u8],
+    written: &mut u64,
+    place: &mut u64,
+) -> u32
+    ensures { λ r. ⌜ MadeOut (making start sequences channels (now (numbers .entry)) (now (bits .entry)) (now (samples .entry))) (now (out .entry)) (outputs r (now (place .exit)) (now (written .exit))) (now (out .exit)) ⌝ }
+{
+    outputs::written_out(
+        maker::make_frame(start, sequences, channels, numbers, bits, samples, out),
+        written,
+        place,
+    )
 }

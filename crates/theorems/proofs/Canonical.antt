@@ -2,6 +2,7 @@
 --     recording-is, recording-long    the recording that a file holds
 --     canonical-read     the canonical file of an accepted file is accepted, and holds the same recording
 --     writer-answers, length-answers    23 is answered exactly when the canonical file does not fit, and else its length
+--     out-is             a file that is written out is accepted, and its canonical file fits
 --     wrote-out          what mfer_canonical does, write_canonical does
 --     written-file       the canonical file in the buffer that a call left
 --     written-again      that file, read and written again
@@ -135,7 +136,7 @@ wrote-out {s} {d} {left} {place} {m} w = record { octets = w .octets; answers = 
     by (refusedAs number at) q e = let z : ⊥ = omega (arith, written-numbered s d number at q, ap (λ (o : Outputs ℕ). o .refusal) e) in absurd z
 
 module _ {s d left : List ℕ} {m : ℕ} (w : Wrote s d (answered m) left) where
-  out-is : WrittenOut s d m
+  pub out-is : WrittenOut s d m
   out-is = written-out s d m (sym (w .answers))
 
   -- The canonical file in the buffer, and what is behind it.

@@ -21,6 +21,7 @@ use Rattle.bulk.specs.Samples.{readOf, valuesOf}
 use Rattle.canonical.specs.Canonical.{canonical}
 use Rattle.canonical.specs.Write.{recordingOf, writtenOf, canonicalLengthOf, Wrote}
 use Rattle.outputs.specs.Outputs.{outputs}
+use Rattle.maker.specs.Make.{Making, madeIn}
 use Rattle.mfer.specs.Answers.{CanonicalOut}
 use Rattle.reader.proofs.Ordered.{endOf}
 use Rattle.reader.proofs.Checks.{check-accepted, check-refused}
@@ -31,6 +32,8 @@ use Rattle.theorems.proofs.Places.{Name, Exists, NamedSample, Belongs, 
 use Rattle.theorems.proofs.Waveforms.{PartOfFile, waveform-part, waveforms-apart}
 use Rattle.theorems.proofs.EntryPoints.{AnsweredBy, HandedOut, BuffersKept, refused-answers, handed-out, buffers-kept}
 use Rattle.theorems.specs.Refusing.{Refusing}
+use Rattle.theorems.specs.Making.{MadeExactly}
+use Rattle.theorems.proofs.Allowed.{made-exactly}
 use Rattle.theorems.proofs.Exactly.{refused-exactly, refused-numbered}
 use Rattle.theorems.proofs.Canonical.{ReadAgain, writer-answers, length-answers, wrote-out, written-file, written-again, same-written}
 use Rattle.theorems.proofs.Told.{RecordingTold, ToldSame, recording-told, told-same}
@@ -62,6 +65,8 @@ pub record DemandOne (s : List ℕ) : Type 0 where
   pub measured : (fs : List Frame) → verdict s ≡ accepted fs → Writes (canonicalLengthOf s) octetsLimit fs
   -- Where the length is answered, the writer answers it in a buffer of at least so many octets, and 23 in a shorter one.
   pub byLength : (d : List ℕ) → ByLength s d
+  -- 24, 25 and 23 of a frame that is made, each at place 0 and exactly when its condition holds and none ahead of it does.
+  pub made : (m : Making) (room : ℕ) → MadeExactly m room (madeIn room m)
   -- Each function for C hands a refusal out exactly when its question answers it, and all its other outputs are then 0.
   pub handed : HandedOut s
   -- A refusal changes no octet of the buffer.
@@ -85,6 +90,7 @@ demand-one s =
       written = λ fs e d. writer-answers s d fs e;
       measured = length-answers s;
       byLength = by-length s;
+      made = made-exactly;
       handed = handed-out s;
       kept = buffers-kept s;
     }

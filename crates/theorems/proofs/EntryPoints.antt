@@ -28,7 +28,8 @@ use Rattle.sweep.specs.Sweep.{sweepIn}
 use Rattle.outputs.specs.Outputs.{Outputs, outputs, handedOut, countOut, zeroAttributes, attributesOut, zeroSample, sampleOut}
 use Rattle.outputs.specs.Walks.{frameOut, noFrameValues, zeroChannel, channelOut}
 use Rattle.mfer.specs.Walks.{walkRead, walkValues}
-use Rattle.mfer.specs.Answers.{CanonicalOut}
+use Rattle.maker.specs.Make.{Making, madeIn, Made}
+use Rattle.mfer.specs.Answers.{CanonicalOut, MadeOut}
 
 -- ---- a refused file
 
@@ -72,7 +73,7 @@ handed-exactly {A} {B} place values zeros (answered x) number at h =
 handed-exactly {A} {B} place values zeros (refusedAs m p) number at h =
     (λ e. λ i. refusedAs (e i .refusal) (e i .place), λ e. ap (handedOut place values zeros) e)
 
--- The functions for C; mfer_walk_open hands out what mfer_check does. Those of a walk are said of any words.
+-- The functions for C; mfer_walk_open hands out what mfer_check does. Those of a walk are said of any words, and mfer_make_frame of all that may go in.
 pub record HandedOut (s : List ℕ) : Type 0 where
   pub check : HandedExactly (countOut (checkOf s)) 0 (checkOf s)
   pub attributes : (i c : ℕ) → HandedExactly (attributesOut (attributesOf s i c)) zeroAttributes (attributesOf s i c)
@@ -81,6 +82,7 @@ pub record HandedOut (s : List ℕ) : Type 0 where
   pub canonicalLength : HandedExactly (countOut (canonicalLengthOf s)) 0 (canonicalLengthOf s)
   pub values : (i c n room : ℕ) → HandedExactly (countOut (mapAnswer length (valuesOf s i c n room))) 0 (mapAnswer length (valuesOf s i c n room))
   pub canonical : (d : List ℕ) → HandedExactly (countOut (writtenOf s d)) 0 (writtenOf s d)
+  pub makeFrame : (m : Making) (room : ℕ) → HandedExactly (countOut (mapAnswer length (madeIn room m))) 0 (mapAnswer length (madeIn room m))
   pub walkNext : (u : List ℕ) → HandedExactly (frameOut (stepSays (stepIn s u .step))) noFrameValues (stepSays (stepIn s u .step))
   pub walkChannel : (u : List ℕ) (c : ℕ) → HandedExactly (channelOut (viewIn u c)) zeroChannel (viewIn u c)
   pub walkSamples : (u : List ℕ) (c n room : ℕ) → HandedExactly (countOut (mapAnswer length (walkRead s u c n room))) 0 (mapAnswer length (walkRead s u c n room))
@@ -97,6 +99,7 @@ handed-out s =
       canonicalLength = handed-exactly _ _ _ (canonicalLengthOf s);
       values = λ i c n room. handed-exactly _ _ _ (mapAnswer length (valuesOf s i c n room));
       canonical = λ d. handed-exactly _ _ _ (writtenOf s d);
+      makeFrame = λ m room. handed-exactly _ _ _ (mapAnswer length (madeIn room m));
       walkNext = λ u. handed-exactly _ _ _ (stepSays (stepIn s u .step));
       walkChannel = λ u c. handed-exactly _ _ _ (viewIn u c);
       walkSamples = λ u c n room. handed-exactly _ _ _ (mapAnswer length (walkRead s u c n room));
@@ -129,11 +132,13 @@ unfolding handedOut
 handed-refusal (answered n) h = let z : ⊥ = omega arith in absurd z
 handed-refusal (refusedAs number place) h = (number, place, refl)
 
--- A refusal changes no octet of the output buffer: `write_canonical`, `mfer_canonical`, `bulk::samples`, `mfer_samples`, `bulk::values`, `mfer_values`,
+-- A refusal changes no octet of the output buffer: `write_canonical`, `mfer_canonical`, `make_frame`, `mfer_make_frame`, `bulk::samples`, `mfer_samples`, `bulk::values`, `mfer_values`,
 -- `mfer_walk_samples`, `mfer_walk_frame` and `mfer_walk_values`.
 pub record BuffersKept (s d : List ℕ) : Type 0 where
   pub canonical : (number place : ℕ) (left : List ℕ) → Wrote s d (refusedAs number place) left → left ≡ d
   pub canonicalOut : (out : Outputs ℕ) (left : List ℕ) → CanonicalOut s d out left → 0 < out .refusal → left ≡ d
+  pub made : (m : Making) (number place : ℕ) (left : List ℕ) → Made m d (refusedAs number place) left → left ≡ d
+  pub madeOut : (m : Making) (out : Outputs ℕ) (left : List ℕ) → MadeOut m d out left → 0 < out .refusal → left ≡ d
   pub samples : (i c n number place : ℕ) → countRead s i c n (length d) ≡ refusedAs number place → leftBy (readOf s i c n (length d)) d ≡ d
   pub samplesOut : (i c n : ℕ) → 0 < countOut (countRead s i c n (length d)) .refusal → leftBy (readOf s i c n (length d)) d ≡ d
   pub values : (i c n room number place : ℕ) (w : List ℤ) → mapAnswer length (valuesOf s i c n room) ≡ refusedAs number place → (leftBy (kindsIn (valuesOf s i c n room)) d ≡ d) × (leftBy (wholesIn (valuesOf s i c n room)) w ≡ w)
@@ -148,6 +153,10 @@ module _ (s d : List ℕ) where
   unfolding writtenOf leftOf
   written-kept number place left a l = l ∙ plain-keeps (outputIn (length d) (verdict s)) d number place a
 
+  -- By the maker's answer.
+  made-kept : (m : Making) (number place : ℕ) (left : List ℕ) → mapAnswer length (madeIn (length d) m) ≡ refusedAs number place → left ≡ leftBy (madeIn (length d) m) d → left ≡ d
+  made-kept m number place left a l = l ∙ plain-keeps (madeIn (length d) m) d number place a
+
   -- Both buffers that values go to.
   values-kept : (x : Answer (List Said)) (number place : ℕ) (w : List ℤ) → mapAnswer length x ≡ refusedAs number place → (leftBy (kindsIn x) d ≡ d) × (leftBy (wholesIn x) w ≡ w)
   values-kept x number place w e = (refusal-keeps (map (λ y. y .kind)) x d number place e, refusal-keeps (map (λ y. y .whole)) x w number place e)
@@ -158,6 +167,8 @@ module _ (s d : List ℕ) where
       record {
         canonical = λ number place left w. written-kept number place left (sym (w .answers)) (w .leaves);
         canonicalOut = λ out left w h. let r = handed-refusal (writtenOf s d) (rw (w .answers) at h) in written-kept (r .0) (r .1) left (r .2) (w .leaves);
+        made = λ m number place left w. made-kept m number place left (sym (w .answers)) (w .leaves);
+        madeOut = λ m out left w h. let r = handed-refusal (mapAnswer length (madeIn (length d) m)) (rw (w .answers) at h) in made-kept m (r .0) (r .1) left (r .2) (w .leaves);
         samples = λ i c n number place e. plain-keeps (readOf s i c n (length d)) d number place e;
         samplesOut = λ i c n h. let r = handed-refusal (countRead s i c n (length d)) h in plain-keeps (readOf s i c n (length d)) d (r .0) (r .1) (r .2);
         values = λ i c n room. values-kept (valuesOf s i c n room);

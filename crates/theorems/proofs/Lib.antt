@@ -8,8 +8,12 @@ pub mod Places
 pub mod Waveforms
 pub mod EntryPoints
 pub mod Canonical
+pub mod Allowed
+pub mod MadeFiles
+pub mod MadeAgain
 pub mod Told
 pub mod Sweeps
 pub mod Walks
 pub mod Demands
+pub mod Requests
 pub mod Bench

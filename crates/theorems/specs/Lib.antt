@@ -4,3 +4,4 @@ pub mod Rows
 pub mod Refusing
 pub mod Told
 pub mod Walks
+pub mod Making

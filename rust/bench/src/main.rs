@@ -14,6 +14,7 @@ use count::Once;
 use files::Order;
 use mfer::ffi;
 use race::{Against, Course};
+use second::maker::make_frame;
 use second::{reader, writer};
 use std::env;
 use std::fs;
@@ -29,7 +30,7 @@ const LITTLE_ENDIAN: f64 = 1.5;
 const STEPPED: f64 = 10.0;
 /// A waveform costs at most so many nanoseconds a channel.
 const NANOSECONDS: f64 = 10.0;
-/// The canonical form of many short frames, of one channel and of twelve: at most so many times the
+/// Many short frames, in canonical form or made, of one channel and of twelve: at most so many times the
 /// second program's time and instructions. The goal is `SECOND`.
 const SHORT_OF_ONE: f64 = 5.0;
 const SHORT_OF_TWELVE: f64 = 2.0;
@@ -126,6 +127,8 @@ fn run(course: &mut Course) {
     samples(course);
     walks(course);
     values(course);
+    long_make(course);
+    short_makes(course);
 }
 
 fn checks(course: &mut Course) {
@@ -428,4 +431,80 @@ fn values(course: &mut Course) {
             }
         },
     );
+}
+
+/// One long frame made beside a copy of its samples.
+fn long_make(course: &mut Course) {
+    let what = "make: one frame of 16,000,000 octets";
+    let Some(row) = course.row(what, Against::Memcpy, Some(BIG_ENDIAN)) else {
+        return;
+    };
+    let file = files::one_frame(Order::Big, 0);
+    let (numbers, bits) = rows(&file, 1);
+    let samples = &file[file.len() - files::WAVEFORM..];
+    let sequences = files::WAVEFORM as u64 / 2;
+    course.with_buffers(
+        row,
+        || vec![0; file.len() + 200],
+        |out| {
+            let samples = black_box(samples);
+            let made = ffi::make_frame(0, sequences, 1, &numbers, &bits, samples, out);
+            assert_eq!(made.number, 0);
+        },
+        |out| black_box(&mut out[..files::WAVEFORM]).copy_from_slice(black_box(samples)),
+    );
+}
+
+/// As many frames made as there may be in a file, of one sequence.
+fn short_makes(course: &mut Course) {
+    const CHANNELS: u32 = 12;
+    let what = "make: 4,096 frames of 12 channels";
+    let Some(row) = course.row(what, Against::Second, Some(SHORT_OF_TWELVE)) else {
+        return;
+    };
+    let file = files::set_once(CHANNELS, 1);
+    let (numbers, bits) = rows(&file, CHANNELS);
+    let samples = &file[file.len() - 2 * CHANNELS as usize..];
+    let handed = || black_box((&numbers[..], &bits[..], samples));
+    let proved = |start, out: &mut [u8]| {
+        let (numbers, bits, samples) = handed();
+        let made = ffi::make_frame(start, 1, CHANNELS.into(), numbers, bits, samples, out);
+        assert_eq!(made.number, 0);
+        made.count as usize
+    };
+    let other = |start, out: &mut [u8]| {
+        let (numbers, bits, samples) = handed();
+        let made = make_frame(start, 1, CHANNELS.into(), numbers, bits, samples, out);
+        made.expect("good settings")
+    };
+    // The canonical file but for its byte order.
+    let written = mfer::File::new(&file).canonical_vec();
+    let frames = written.expect("an accepted file").split_off(3);
+    assert!(each_frame(&mut vec![0; frames.len()], proved) == frames);
+    course.with_buffers(
+        row,
+        || vec![0; frames.len()],
+        |out| _ = each_frame(out, proved),
+        |out| _ = each_frame(out, other),
+    );
+}
+
+/// The numbers and bits of the channels in a file's first frame, as they are told.
+fn rows(file: &[u8], channels: u32) -> (Vec<i64>, Vec<u64>) {
+    let described = (0..channels).map(|channel| ffi::attributes(file, 0, channel));
+    let (numbers, bits): (Vec<_>, Vec<_>) = described
+        .map(|described| (described.numbers, described.bits))
+        .unzip();
+    (numbers.concat(), bits.concat())
+}
+
+/// Fills `out` with as many frames as there may be; `make` is told where one starts and answers its
+/// length.
+fn each_frame(out: &mut [u8], make: impl Fn(i64, &mut [u8]) -> usize) -> &[u8] {
+    let mut at = 0;
+    for start in 0..files::FRAMES.into() {
+        at += make(start, &mut out[at..]);
+    }
+    assert_eq!(at, out.len());
+    out
 }

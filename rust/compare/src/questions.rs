@@ -1,14 +1,21 @@
 //! The questions on one file, and what the proved library has to answer by the second program.
 
+use crate::run::{Case, Outcome};
 use mfer::ffi::{self, Checked, Described, Filled, Sampled, Seen, Stepped, Walk};
+use second::inputs::in_file_order;
+use second::maker::number;
 use second::reader::{self, Attributes, Met, Refusal, Series, Value};
+use second::shrink::{hex, shrink};
 use second::writer;
 use std::collections::BTreeSet;
 use std::fmt::Debug;
 
 /// What buffers hold before a question.
-const OCTET: u8 = 0xA5;
+pub(crate) const OCTET: u8 = 0xA5;
 const PATTERN: u64 = 0xA5A5_A5A5_A5A5_A5A5;
+
+/// What stands in a file before the frames that are made.
+pub(crate) const BEFORE_FRAMES: [u8; 3] = [0x01, 0x01, 0x00];
 
 /// The most samples that are read in one go.
 const BULK: u64 = 5_000;
@@ -18,10 +25,42 @@ pub fn difference(file: &[u8]) -> Option<String> {
     ask(file).err()
 }
 
-/// Goes on while the two agree; the error says on what they do not.
-type Agreed = Result<(), String>;
+impl Case for Vec<u8> {
+    const NAME: &'static str = "files";
 
-fn same<T: PartialEq + Debug>(question: impl FnOnce() -> String, proved: T, second: T) -> Agreed {
+    fn exact(&mut self) {
+        self.shrink_to_fit();
+    }
+
+    fn difference(&self) -> Option<String> {
+        difference(self)
+    }
+
+    fn outcome(&self) -> Outcome {
+        match reader::check(self) {
+            Ok(0) => Outcome::WithoutFrames,
+            Ok(_) => Outcome::WithFrames,
+            Err(refusal) => Outcome::Refused(refusal.number),
+        }
+    }
+
+    fn shrunk(&self, mut differs: impl FnMut(&Self) -> bool) -> Self {
+        shrink(self, |file| differs(&file.to_vec()))
+    }
+
+    fn shown(&self) -> String {
+        format!("{} octets: {}", self.len(), hex(self))
+    }
+}
+
+/// Goes on while the two agree; the error says on what they do not.
+pub(crate) type Agreed = Result<(), String>;
+
+pub(crate) fn same<T: PartialEq + Debug>(
+    question: impl FnOnce() -> String,
+    proved: T,
+    second: T,
+) -> Agreed {
     match proved == second {
         true => Ok(()),
         false => Err(format!(
@@ -31,7 +70,8 @@ fn same<T: PartialEq + Debug>(question: impl FnOnce() -> String, proved: T, seco
     }
 }
 
-fn ask(file: &[u8]) -> Agreed {
+/// Asks every question on the file.
+pub(crate) fn ask(file: &[u8]) -> Agreed {
     let checked = reader::check(file);
     same(
         || "check".into(),
@@ -324,6 +364,7 @@ fn ask_canonical(file: &[u8], frames: u32) -> Agreed {
             let expected = expected_check(&Ok(frames));
             same(|| "check of the canonical file".into(), written, expected)?;
             rewrites_itself(&canonical)?;
+            ask_made_again(file, &canonical)?;
             canonical.len()
         }
         Err(_) => 70,
@@ -340,12 +381,55 @@ fn ask_canonical(file: &[u8], frames: u32) -> Agreed {
 }
 
 /// The canonical file of a canonical file.
-fn rewrites_itself(canonical: &[u8]) -> Agreed {
+pub(crate) fn rewrites_itself(canonical: &[u8]) -> Agreed {
     let mut again = vec![OCTET; canonical.len()];
     let answer = ffi::canonical(canonical, &mut again);
     let question = || "canonical of the canonical file".into();
     same(question, answer, expected_count(&Ok(canonical.len())))?;
     same(question, &again[..], canonical)
+}
+
+/// The canonical file once more, each frame made from what a walk tells of it.
+fn ask_made_again(file: &[u8], canonical: &[u8]) -> Agreed {
+    let mut out = vec![OCTET; canonical.len()];
+    let mut at = canonical.len().min(BEFORE_FRAMES.len());
+    out[..at].copy_from_slice(&BEFORE_FRAMES[..at]);
+    let mut walk = [PATTERN; ffi::WALK];
+    ffi::walk_open(file, &mut walk);
+    loop {
+        let stepped = ffi::walk_next(file, &mut walk);
+        if stepped.number != 0 {
+            break;
+        }
+        let answer = made_again(file, &walk, &stepped, &mut out[at..]);
+        let question = || "a frame made again".into();
+        same(question, (answer.number, answer.place), (0, 0))?;
+        at += answer.count as usize;
+    }
+    same(|| "canonical, made again".into(), &out[..], canonical)
+}
+
+/// Makes the frame that a walk is at from its channels' rows and its samples.
+fn made_again(file: &[u8], walk: &Walk, stepped: &Stepped, out: &mut [u8]) -> Filled {
+    let [channels, sequences, ..] = stepped.frame;
+    let (mut numbers, mut bits, mut count) = (Vec::new(), Vec::new(), 0);
+    for channel in 0..channels as u32 {
+        let seen = ffi::walk_channel(walk, channel).described;
+        count += seen.numbers[number::BLOCK] as u64 * sequences;
+        numbers.push(seen.numbers);
+        bits.push(seen.bits);
+    }
+    let mut samples = vec![PATTERN; count as usize];
+    ffi::walk_frame(file, walk, &mut samples);
+    ffi::make_frame(
+        stepped.start,
+        sequences,
+        channels,
+        numbers.as_flattened(),
+        bits.as_flattened(),
+        &in_file_order(sequences, &numbers, &samples),
+        out,
+    )
 }
 
 /// The second program's canonical file, in a buffer of its length.
@@ -355,7 +439,7 @@ fn second_canonical(file: &[u8]) -> Result<Vec<u8>, Refusal> {
     Ok(out)
 }
 
-fn expected_check(answer: &Result<u32, Refusal>) -> Checked {
+pub(crate) fn expected_check(answer: &Result<u32, Refusal>) -> Checked {
     match *answer {
         Ok(frames) => Checked {
             number: 0,
@@ -370,7 +454,7 @@ fn expected_check(answer: &Result<u32, Refusal>) -> Checked {
     }
 }
 
-fn expected_count(answer: &Result<usize, Refusal>) -> Filled {
+pub(crate) fn expected_count(answer: &Result<usize, Refusal>) -> Filled {
     match *answer {
         Ok(count) => Filled {
             number: 0,
@@ -388,28 +472,11 @@ fn expected_count(answer: &Result<usize, Refusal>) -> Filled {
 fn expected_attributes(answer: &Result<Attributes, Refusal>) -> Described {
     match answer {
         Ok(read) => {
-            let width = [2, 2, 4, 1, 2, 1, 4, 4, 8][usize::from(read.data_type)];
-            let null_width = if read.null.is_some() { width } else { 0 };
+            let (numbers, bits) = read.row();
             Described {
                 number: 0,
-                numbers: [
-                    read.start.into(),
-                    read.channels.into(),
-                    read.sequences.into(),
-                    read.block.into(),
-                    read.class.into(),
-                    read.lead.into(),
-                    read.data_type.into(),
-                    read.interval.unit.into(),
-                    read.interval.exponent.into(),
-                    read.interval.mantissa.into(),
-                    read.resolution.unit.into(),
-                    read.resolution.exponent.into(),
-                    read.resolution.mantissa.into(),
-                    width,
-                    null_width,
-                ],
-                bits: [read.offset, read.null.unwrap_or(0)],
+                numbers,
+                bits,
                 place: 0,
             }
         }

@@ -1,7 +1,9 @@
-//! Generated files. MFER_FILES and MFER_SEED set how many and from which seed on.
+//! Generated files and inputs of the maker. MFER_FILES and MFER_INPUTS set how many, MFER_SEED from which
+//! seed on.
 
-use compare::all_same;
+use compare::{all_same, Case, Joined, Tally};
 use second::generator::file;
+use second::inputs::input;
 use std::env;
 
 fn setting(name: &str, default: u64) -> u64 {
@@ -13,17 +15,43 @@ fn setting(name: &str, default: u64) -> u64 {
     }
 }
 
+/// Compares on so many cases from the first seed on.
+fn same_on<C: Case + Send>(cases: u64, make: fn(u64) -> C) -> Tally {
+    let seed = setting("MFER_SEED", 0);
+    println!("seeds {seed} to {}", seed + cases.saturating_sub(1));
+    let tally = all_same(seed, cases, make).unwrap_or_else(|failure| panic!("seed {failure}"));
+    println!("no difference on {tally}");
+    tally
+}
+
 #[test]
 fn both_programs_answer_the_same() {
     let files = setting("MFER_FILES", 120_000);
-    let seed = setting("MFER_SEED", 0);
-    println!("seeds {seed} to {}", seed + files - 1);
-    let tally = all_same(seed, files, file).unwrap_or_else(|failure| panic!("seed {failure}"));
-    println!("no difference on {tally}");
+    let tally = same_on(files, file);
     if files >= 100_000 {
         assert!(tally.with_frames > 20_000);
         for (number, count) in tally.refused.iter().enumerate().take(15).skip(1) {
             assert!(*count > 500, "refusal {number} occurs {count} times");
         }
     }
+}
+
+#[test]
+fn both_programs_make_the_same() {
+    let inputs = setting("MFER_INPUTS", 60_000);
+    let tally = same_on(inputs, input);
+    if inputs >= 20_000 {
+        assert!(tally.made > inputs / 4);
+        for (number, count) in tally.refused.iter().enumerate().skip(23) {
+            assert!(
+                *count > inputs / 20,
+                "refusal {number} occurs {count} times"
+            );
+        }
+    }
+}
+
+#[test]
+fn made_files_read_back() {
+    same_on(setting("MFER_INPUTS", 60_000) / 10, Joined::of);
 }

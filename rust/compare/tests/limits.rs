@@ -1,8 +1,9 @@
 //! The limits of document 01: the last that is allowed and the first that is not. What the second
 //! program's tests say of them is not said again.
 
-use compare::{all_same, difference};
+use compare::{all_same, difference, make, Case, Joined};
 use mfer::{ffi, File, Refusal};
+use second::inputs::Input;
 use second::papers::{octets, P3};
 use std::env;
 
@@ -79,6 +80,38 @@ fn start_pointers_at_both_ends() {
     ]);
 }
 
+/// One channel of one octet, so many samples, and the room that is given.
+fn one_octet_samples(samples: usize, room: usize) -> Input {
+    Input {
+        start: 0,
+        sequences: samples as u64,
+        channels: 1,
+        numbers: vec![0, 0, 0, 1, 0, 0, 3, 0, 0, 1, 0, 0, 1, 0, 0],
+        bits: vec![0; 2],
+        samples: vec![0; samples],
+        room,
+    }
+}
+
+#[test]
+fn made_frames_4096_and_4097() {
+    let frames = Joined(vec![one_octet_samples(2, 100); 4096]);
+    assert_eq!(frames.difference(), None);
+    let more = Joined(vec![one_octet_samples(2, 100); 4097])
+        .file()
+        .unwrap();
+    // The last waveform has four octets, tag and length among them.
+    assert_eq!(check(&more), Err((11, more.len() as u64 - 4)));
+}
+
+#[test]
+fn lengths_of_four_octets() {
+    for samples in [0xFF_FFFF, 0x100_0000] {
+        let input = one_octet_samples(samples, samples + 70);
+        assert_eq!(input.difference(), None);
+    }
+}
+
 /// Files of up to 4 GiB, in zeroed memory of which few pages are touched but for one file that is
 /// written out. MFER_SKIP_LARGE skips it.
 #[test]
@@ -91,6 +124,8 @@ fn files_of_2147483647_octets_and_one_more() {
     one_frame_of_the_whole_file(LIMIT);
     longer_files_are_refused(LIMIT);
     the_longest_canonical_file(LIMIT);
+    the_longest_frame_that_is_made(LIMIT);
+    longer_frames_are_not_made(LIMIT);
 }
 
 fn one_frame_of_the_whole_file(limit: usize) {
@@ -177,4 +212,45 @@ fn the_longest_canonical_file(limit: usize) {
     let answer = ffi::canonical(&whole, &mut out);
     assert_eq!((answer.number, answer.count), (Refusal::NO_ROOM, 0));
     assert!(out[..1000].iter().all(|octet| *octet == 0));
+}
+
+fn the_longest_frame_that_is_made(limit: usize) {
+    // 65 octets come before the samples, and 3 more in a file.
+    let samples = limit - 68;
+    let mut input = one_octet_samples(samples, 0);
+    *input.samples.last_mut().unwrap() = 0x55;
+    let mut out = vec![0; limit];
+    let short = make(&input, &mut out[..limit - 4]);
+    assert_eq!((short.number, short.count), (Refusal::NO_ROOM, 0));
+    let answer = make(&input, &mut out);
+    assert_eq!((answer.number, answer.count), (0, limit as u64 - 3));
+    assert_eq!(out[59..65], octets("1E 84 7F FF FF BB"));
+    assert_eq!(out[limit - 5..], [0, 0x55, 0, 0, 0]);
+    assert_eq!(input.make(&mut out), Ok(limit - 3));
+    // One sample more is too many, whatever the buffer.
+    input.sequences += 1;
+    input.samples.push(0x66);
+    out[..1000].fill(0);
+    let answer = make(&input, &mut out);
+    assert_eq!((answer.number, answer.count), (Refusal::NO_ROOM, 0));
+    assert!(out[..1000].iter().all(|octet| *octet == 0));
+    assert_eq!(input.make(&mut out).unwrap_err().number, 23);
+}
+
+fn longer_frames_are_not_made(limit: usize) {
+    let mut out = [0xA5; 100];
+    for samples in [limit, (1 << 32) - 1, (1 << 32) - 3] {
+        let input = one_octet_samples(samples, 0);
+        assert_eq!(make(&input, &mut out).number, Refusal::NO_ROOM);
+        assert_eq!(input.make(&mut out).unwrap_err().number, 23);
+    }
+    // Sequences of two octets; the samples are more than 32 bits count.
+    let mut input = one_octet_samples((1 << 32) + 2, 0);
+    input.numbers[3] = 2;
+    for (sequences, number) in [((1 << 31) + 1, 23), (1, 25), (1 << 31, 25)] {
+        input.sequences = sequences;
+        assert_eq!(make(&input, &mut out).number, number);
+        assert_eq!(input.make(&mut out).unwrap_err().number, number as u8);
+    }
+    assert_eq!(out, [0xA5; 100]);
 }

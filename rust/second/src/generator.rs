@@ -2,6 +2,7 @@
 //! purpose, and files damaged at random. The same seed always gives the same file.
 
 use crate::items::tag;
+use crate::random::Random;
 
 /// Tags that may be defined outside and inside groups.
 const CHANNEL_TAGS: [u8; 8] = [
@@ -28,6 +29,9 @@ const BARRED_TAGS: [u8; 7] = [
     tag::GROUP,
 ];
 
+/// Octets per sample by type.
+pub(crate) const SAMPLE_OCTETS: [u8; 9] = [2, 2, 4, 1, 2, 1, 4, 4, 8];
+
 const WIDTHS: [u8; 4] = [1, 2, 4, 8];
 const LAST_BLOCK: u64 = 1_048_576;
 const LAST_CHANNEL_NUMBER: u64 = (1 << 28) - 1;
@@ -47,79 +51,74 @@ pub fn file(seed: u64) -> Vec<u8> {
 
 /// A file that is accepted.
 pub fn good_file(seed: u64) -> Vec<u8> {
-    let mut maker = Maker::new(seed);
-    let rare = maker.random.below(600);
+    let mut draft = Draft::new(seed);
+    let rare = draft.random.below(600);
     match rare {
-        0 => maker.all_frames(),
-        1..=3 => maker.all_channels(),
+        0 => draft.all_frames(),
+        1..=3 => draft.all_channels(),
         _ => {
-            let steps = 1 + maker.random.below(14);
-            maker.steps(steps);
-            if maker.random.one_in(2) {
-                maker.frame();
+            let steps = 1 + draft.random.below(14);
+            draft.steps(steps);
+            if draft.random.one_in(2) {
+                draft.frame();
             }
         }
     }
-    maker.octets
+    draft.octets
 }
 
 /// A file refused with `number`, which is from 1 to 14, and the place of the refusal.
 pub fn faulty_file(number: u8, seed: u64) -> (Vec<u8>, u64) {
-    let mut maker = Maker::new(seed);
-    let steps = maker.random.below(7);
-    maker.steps(steps);
-    let fault = maker.fault(number);
+    let mut draft = Draft::new(seed);
+    let steps = draft.random.below(7);
+    draft.steps(steps);
+    let fault = draft.fault(number);
     if !fault.last {
-        maker.after_fault();
+        draft.after_fault();
     }
-    (maker.octets, fault.place as u64)
+    (draft.octets, fault.place as u64)
 }
 
-/// Numbers that only the seed decides (splitmix64).
-struct Random(u64);
-
+/// Numbers within document 01's table.
 impl Random {
-    fn new(seed: u64) -> Random {
-        Random(seed)
+    pub fn pointer(&mut self) -> i32 {
+        match self.below(5) {
+            0 => self.pick(&[i32::MIN, -1, 0, 127, 128, -128, -129, i32::MAX]),
+            1 => self.next() as i32,
+            _ => self.below(2000) as i32 - 1000,
+        }
     }
 
-    fn next(&mut self) -> u64 {
-        self.0 = self.0.wrapping_add(0x9E37_79B9_7F4A_7C15);
-        let mixed = (self.0 ^ self.0 >> 30).wrapping_mul(0xBF58_476D_1CE4_E5B9);
-        let mixed = (mixed ^ mixed >> 27).wrapping_mul(0x94D0_49BB_1331_11EB);
-        mixed ^ mixed >> 31
+    pub fn block(&mut self) -> u64 {
+        match self.below(40) {
+            0 => LAST_BLOCK,
+            1 => self.between(1, LAST_BLOCK),
+            2..=4 => self.between(4, 40),
+            _ => self.between(1, 3),
+        }
     }
 
-    fn below(&mut self, limit: u64) -> u64 {
-        self.next() % limit
+    pub fn channel_count(&mut self) -> u64 {
+        match self.below(60) {
+            0 => self.pick(&[127, 128, 129, 200, 255, 256]),
+            1..=4 => self.between(5, 12),
+            _ => self.between(1, 4),
+        }
     }
 
-    fn between(&mut self, first: u64, last: u64) -> u64 {
-        first + self.below(last - first + 1)
+    /// Bits of an offset or null of this width.
+    pub fn sample_bits(&mut self, width: u8) -> u64 {
+        let bits = match self.below(3) {
+            0 => self.below(3),
+            1 => 1 << (8 * width - 1),
+            _ => self.next(),
+        };
+        masked(bits, width)
     }
+}
 
-    fn one_in(&mut self, cases: u64) -> bool {
-        self.below(cases) == 0
-    }
-
-    fn pick<T: Copy>(&mut self, from: &[T]) -> T {
-        from[self.below(from.len() as u64) as usize]
-    }
-
-    fn octet(&mut self) -> u8 {
-        self.next() as u8
-    }
-
-    fn octets(&mut self, count: u64) -> Vec<u8> {
-        (0..count).map(|_| self.octet()).collect()
-    }
-
-    /// Fewer than `limit` octets.
-    fn some_octets(&mut self, limit: u64) -> Vec<u8> {
-        let count = self.below(limit);
-        self.octets(count)
-    }
-
+/// Choices that only a file needs.
+impl Random {
     /// A primitive tag that means nothing here, other than 00.
     fn unknown_tag(&mut self) -> u8 {
         loop {
@@ -140,7 +139,7 @@ impl Random {
     }
 }
 
-/// What the maker keeps of a channel's settings, so as to know what is allowed next.
+/// What a draft keeps of a channel's settings, so as to know what is allowed next.
 #[derive(Clone, Copy)]
 struct Shape {
     block: u32,
@@ -161,7 +160,7 @@ impl Shape {
     };
 
     fn width(&self) -> u8 {
-        [2, 2, 4, 1, 2, 1, 4, 4, 8][usize::from(self.data_type)]
+        SAMPLE_OCTETS[usize::from(self.data_type)]
     }
 
     fn block_octets(&self) -> u64 {
@@ -208,7 +207,7 @@ struct Fault {
 }
 
 /// A file in the making, with what stands at its end.
-struct Maker {
+struct Draft {
     random: Random,
     octets: Vec<u8>,
     little: bool,
@@ -221,9 +220,9 @@ struct Maker {
     channels: [Shape; MOST_CHANNELS as usize],
 }
 
-impl Maker {
-    fn new(seed: u64) -> Maker {
-        Maker {
+impl Draft {
+    fn new(seed: u64) -> Draft {
+        Draft {
             random: Random::new(seed),
             octets: Vec::new(),
             little: false,
@@ -239,7 +238,7 @@ impl Maker {
 }
 
 /// Items and numbers.
-impl Maker {
+impl Draft {
     /// A length, now and then in a longer form than needed.
     fn length(&mut self, length: usize) -> Vec<u8> {
         if length < 0x80 && !self.random.one_in(6) {
@@ -285,33 +284,6 @@ impl Maker {
         let needed = (1..4).find(holds).unwrap_or(4);
         let width = self.random.between(needed, 4) as usize;
         self.turned(number as u64, width)
-    }
-
-    fn pointer(&mut self) -> i32 {
-        match self.random.below(5) {
-            0 => self
-                .random
-                .pick(&[i32::MIN, -1, 0, 127, 128, -128, -129, i32::MAX]),
-            1 => self.random.next() as i32,
-            _ => self.random.below(2000) as i32 - 1000,
-        }
-    }
-
-    fn block(&mut self) -> u64 {
-        match self.random.below(40) {
-            0 => LAST_BLOCK,
-            1 => self.random.between(1, LAST_BLOCK),
-            2..=4 => self.random.between(4, 40),
-            _ => self.random.between(1, 3),
-        }
-    }
-
-    fn channel_count(&mut self) -> u64 {
-        match self.random.below(60) {
-            0 => self.random.pick(&[127, 128, 129, 200, 255, 256]),
-            1..=4 => self.random.between(5, 12),
-            _ => self.random.between(1, 4),
-        }
     }
 
     fn sequence_count(&mut self) -> u64 {
@@ -363,7 +335,7 @@ impl Maker {
 }
 
 /// Definitions and groups.
-impl Maker {
+impl Draft {
     /// A value for `tag` that is allowed; `shape` is brought up to it.
     fn attribute(&mut self, tag: u8, shape: &mut Shape, fallback: &Shape) -> Vec<u8> {
         if self.random.one_in(7) {
@@ -372,7 +344,7 @@ impl Maker {
         }
         match tag {
             tag::BLOCK => {
-                let block = self.block();
+                let block = self.random.block();
                 shape.block = block as u32;
                 self.whole(block)
             }
@@ -396,12 +368,7 @@ impl Maker {
 
     /// Bits for an offset or null of this width.
     fn sample_bits(&mut self, tag: u8, width: u8, shape: &mut Shape) -> Vec<u8> {
-        let bits = match self.random.below(3) {
-            0 => self.random.below(3),
-            1 => 1 << (8 * width - 1),
-            _ => self.random.next(),
-        };
-        let bits = masked(bits, width);
+        let bits = self.random.sample_bits(width);
         match tag {
             tag::OFFSET => shape.offset = width,
             _ => (shape.null, shape.null_bits) = (width, bits),
@@ -570,7 +537,7 @@ impl Maker {
 }
 
 /// Frames.
-impl Maker {
+impl Draft {
     fn sequence_octets(&self) -> u64 {
         let channels = &self.channels[..self.channels()];
         channels.iter().map(Shape::block_octets).sum()
@@ -598,7 +565,7 @@ impl Maker {
     /// Gives a start pointer where the continued one would leave 32 bits.
     fn settle_start(&mut self) {
         if self.start.is_none() && i32::try_from(self.continued).is_err() {
-            let start = self.pointer();
+            let start = self.random.pointer();
             self.set_start(Some(start));
         }
     }
@@ -693,7 +660,7 @@ impl Maker {
 }
 
 /// Whole files.
-impl Maker {
+impl Draft {
     fn step(&mut self) {
         match self.random.below(24) {
             0..=5 => {
@@ -701,7 +668,7 @@ impl Maker {
                 self.define_root(tag);
             }
             6..=7 => {
-                let count = self.channel_count();
+                let count = self.random.channel_count();
                 let kept = !self.random.one_in(8);
                 self.set_count(kept.then_some(count));
             }
@@ -711,7 +678,7 @@ impl Maker {
                 self.set_sequences(kept.then_some(sequences));
             }
             10 => {
-                let start = self.pointer();
+                let start = self.random.pointer();
                 let kept = !self.random.one_in(4);
                 self.set_start(kept.then_some(start));
             }
@@ -735,7 +702,7 @@ impl Maker {
     /// Steps, as long as the file stays small.
     fn steps(&mut self, steps: u64) {
         if self.random.one_in(2) {
-            let count = self.channel_count();
+            let count = self.random.channel_count();
             self.set_count(Some(count));
         }
         for _ in 0..steps {
@@ -775,7 +742,7 @@ impl Maker {
 }
 
 /// Faults built in on purpose.
-impl Maker {
+impl Draft {
     fn fault(&mut self, number: u8) -> Fault {
         match number {
             1 => self.context_tag(),
@@ -931,7 +898,7 @@ impl Maker {
     /// Where an item stands whose length and value are looked at.
     fn around_looked_at(&mut self) -> Around {
         if self.count.is_none() && self.random.one_in(2) {
-            let count = self.channel_count();
+            let count = self.random.channel_count();
             self.set_count(Some(count));
         }
         match self.count {
@@ -1020,7 +987,7 @@ impl Maker {
 
     fn channel_fault(&mut self) -> Fault {
         if self.count.is_none() {
-            let count = self.channel_count();
+            let count = self.random.channel_count();
             self.set_count(Some(count));
         }
         let count = self.channels() as u64;

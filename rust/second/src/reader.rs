@@ -33,6 +33,8 @@ impl Refusal {
     pub const NO_CHANNEL: u8 = 21;
     pub const NO_SAMPLE: u8 = 22;
     pub const NO_ROOM: u8 = 23;
+    pub const SETTING_RANGE: u8 = 24;
+    pub const SAMPLES_LENGTH: u8 = 25;
 
     pub(crate) fn without_place(number: u8) -> Refusal {
         Refusal { number, place: 0 }

@@ -73,7 +73,7 @@ impl Standing {
     }
 
     /// What holds for each of the first `channels` channels, in order.
-    pub fn records(&self, channels: u32) -> impl Iterator<Item = &Record> {
+    pub fn records(&self, channels: u32) -> impl ExactSizeIterator<Item = &Record> {
         (0..channels).map(|channel| self.record(channel))
     }
 

@@ -32,10 +32,10 @@ pub(crate) struct Record {
 }
 
 impl Record {
-    const BLOCK_LIMIT: u32 = 1_048_576;
-    const LAST_DATA_TYPE: u8 = 8;
-    const LAST_INTERVAL_UNIT: u8 = 2;
-    const LAST_RESOLUTION_UNIT: u8 = 22;
+    pub const BLOCK_LIMIT: u32 = 1_048_576;
+    pub const LAST_DATA_TYPE: u8 = 8;
+    pub const LAST_INTERVAL_UNIT: u8 = 2;
+    pub const LAST_RESOLUTION_UNIT: u8 = 22;
     /// A code of two octets and 32 of text.
     const CODE_LIMIT: usize = 34;
 
@@ -60,12 +60,7 @@ impl Record {
 
     /// Octets per sample.
     pub fn width(&self) -> u8 {
-        match self.data_type {
-            3 | 5 => 1,
-            2 | 6 | 7 => 4,
-            8 => 8,
-            _ => 2,
-        }
+        sample_width(self.data_type)
     }
 
     /// Octets of one block.
@@ -116,6 +111,16 @@ impl Record {
             _ => {}
         }
         Ok(())
+    }
+}
+
+/// Octets per sample of this type.
+pub(crate) fn sample_width(data_type: u8) -> u8 {
+    match data_type {
+        3 | 5 => 1,
+        2 | 6 | 7 => 4,
+        8 => 8,
+        _ => 2,
     }
 }
 

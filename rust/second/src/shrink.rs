@@ -1,20 +1,36 @@
-//! Makes a failing file smaller, so that what fails can be seen.
+//! Makes a failing file, or a failing input of the maker, smaller, so that what fails can be seen.
+
+use crate::inputs::Input;
+use crate::maker::{number, Numbers, BITS, NUMBERS};
 
 /// Tries at most; each asks `fails` once.
 const TRIES: usize = 50_000;
 
 /// A smaller file that still fails: runs of octets are left out, then octets are lowered, until
 /// neither helps or the tries are spent. A file that does not fail comes back as it is.
-pub fn shrink(file: &[u8], fails: impl FnMut(&[u8]) -> bool) -> Vec<u8> {
+pub fn shrink(file: &[u8], mut fails: impl FnMut(&[u8]) -> bool) -> Vec<u8> {
     let mut search = Search {
         best: file.to_vec(),
+        fails: |file: &Vec<u8>| fails(file),
+        tries: TRIES,
+    };
+    if search.keeps(file.to_vec()) {
+        while search.delete() | search.lower() {}
+    }
+    search.best
+}
+
+/// A smaller input that still fails: channels, sequences and samples are left out and numbers brought
+/// nearer to their defaults, as [`shrink`] does with octets.
+pub fn shrink_input(input: &Input, fails: impl FnMut(&Input) -> bool) -> Input {
+    let mut search = Search {
+        best: input.clone(),
         fails,
         tries: TRIES,
     };
-    if !search.keeps(file.to_vec()) {
-        return file.to_vec();
+    if search.keeps(input.clone()) {
+        while search.channels() | search.sequences() | search.settings() | search.octets() {}
     }
-    while search.delete() | search.lower() {}
     search.best
 }
 
@@ -24,15 +40,15 @@ pub fn hex(octets: &[u8]) -> String {
     octets.join(" ")
 }
 
-struct Search<F> {
-    best: Vec<u8>,
+struct Search<T, F> {
+    best: T,
     fails: F,
     tries: usize,
 }
 
-impl<F: FnMut(&[u8]) -> bool> Search<F> {
+impl<T, F: FnMut(&T) -> bool> Search<T, F> {
     /// Takes the candidate if it still fails.
-    fn keeps(&mut self, candidate: Vec<u8>) -> bool {
+    fn keeps(&mut self, candidate: T) -> bool {
         if self.tries == 0 {
             return false;
         }
@@ -44,20 +60,32 @@ impl<F: FnMut(&[u8]) -> bool> Search<F> {
         kept
     }
 
-    /// Leaves out runs, the long ones first and from the end, since what comes late is free to go.
-    fn delete(&mut self) -> bool {
+    /// Leaves out runs with `delete`, the long ones first and from the end, since what comes late is
+    /// free to go.
+    fn delete_runs(
+        &mut self,
+        length: impl Fn(&T) -> usize,
+        delete: impl Fn(&mut Self, usize, usize) -> bool,
+    ) -> bool {
         let mut smaller = false;
-        let mut run = self.best.len().next_power_of_two();
+        let mut run = length(&self.best).next_power_of_two();
         while run > 0 {
-            let mut at = self.best.len();
+            let mut at = length(&self.best);
             while at > 0 {
                 at = at.saturating_sub(run);
-                smaller |= self.delete_run(at, run);
-                at = at.min(self.best.len());
+                smaller |= delete(self, at, run);
+                at = at.min(length(&self.best));
             }
             run /= 2;
         }
         smaller
+    }
+}
+
+/// Files.
+impl<F: FnMut(&Vec<u8>) -> bool> Search<Vec<u8>, F> {
+    fn delete(&mut self) -> bool {
+        self.delete_runs(Vec::len, Self::delete_run)
     }
 
     /// Leaves out a run; a length just ahead of it is made to fit if that is what it takes.
@@ -101,4 +129,109 @@ impl<F: FnMut(&[u8]) -> bool> Search<F> {
         }
         smaller
     }
+}
+
+/// Inputs of the maker.
+impl<F: FnMut(&Input) -> bool> Search<Input, F> {
+    /// Takes the input with a change, as it is or with samples and room that go with it.
+    fn changes(&mut self, change: impl FnOnce(&mut Input)) -> bool {
+        let mut candidate = self.best.clone();
+        change(&mut candidate);
+        if candidate == self.best {
+            return false;
+        }
+        let fitted = fitted(&self.best, &candidate)
+            .filter(|fitted| *fitted != candidate && *fitted != self.best);
+        self.keeps(candidate) || fitted.is_some_and(|fitted| self.keeps(fitted))
+    }
+
+    /// Takes a number nearer to its aim, by the longest step that does; `put` puts it in its place.
+    fn brings_nearer(&mut self, number: i128, aim: i128, put: impl Fn(&mut Input, i128)) -> bool {
+        let mut step = number - aim;
+        while step != 0 {
+            if self.changes(|input| put(input, number - step)) {
+                return true;
+            }
+            step /= 2;
+        }
+        false
+    }
+
+    fn channels(&mut self) -> bool {
+        self.delete_runs(
+            |input| input.numbers.len().div_ceil(NUMBERS),
+            |search, at, run| search.changes(|input| delete_channels(input, at, run)),
+        )
+    }
+
+    fn sequences(&mut self) -> bool {
+        let sequences = self.best.sequences.into();
+        self.brings_nearer(sequences, 0, |input, to| input.sequences = to as u64)
+    }
+
+    fn settings(&mut self) -> bool {
+        let Input {
+            start,
+            channels,
+            room,
+            ..
+        } = self.best;
+        let mut smaller = self.brings_nearer(start.into(), 0, |input, to| input.start = to as i64)
+            | self.brings_nearer(channels.into(), 1, |input, to| input.channels = to as u64)
+            | self.brings_nearer(room as i128, 0, |input, to| input.room = to as usize);
+        for at in 0..self.best.numbers.len() {
+            let aim = AIMS[at % NUMBERS].into();
+            let number = self.best.numbers[at].into();
+            smaller |= self.brings_nearer(number, aim, |input, to| input.numbers[at] = to as i64);
+        }
+        for at in 0..self.best.bits.len() {
+            let bits = self.best.bits[at].into();
+            smaller |= self.brings_nearer(bits, 0, |input, to| input.bits[at] = to as u64);
+        }
+        smaller
+    }
+
+    fn octets(&mut self) -> bool {
+        self.changes(|input| input.samples.fill(0))
+            | self.delete_runs(
+                |input| input.samples.len(),
+                |search, at, run| {
+                    let end = (at + run).min(search.best.samples.len());
+                    search.changes(|input| drop(input.samples.drain(at..end)))
+                },
+            )
+    }
+}
+
+/// What the numbers of a row are brought nearer to.
+const AIMS: Numbers = {
+    let mut aims = [0; NUMBERS];
+    aims[number::BLOCK] = 1;
+    aims[number::INTERVAL_MANTISSA] = 1;
+    aims[number::RESOLUTION_MANTISSA] = 1;
+    aims
+};
+
+/// Leaves out the rows and bits of channels, and counts them off.
+fn delete_channels(input: &mut Input, at: usize, run: usize) {
+    let rows = input.numbers.len();
+    let range = |each: usize, count: usize| (each * at).min(count)..(each * (at + run)).min(count);
+    input.numbers.drain(range(NUMBERS, rows));
+    input.bits.drain(range(BITS, input.bits.len()));
+    let deleted = (rows - input.numbers.len()).div_ceil(NUMBERS);
+    input.channels = input.channels.saturating_sub(deleted as u64);
+}
+
+/// Where a frame was made before, or would be with enough room: the candidate with as many samples as it
+/// needs, and with the room longer or shorter than the frame by as much as it was.
+fn fitted(before: &Input, candidate: &Input) -> Option<Input> {
+    let length = before.frame().ok()?.len();
+    let octets = candidate.sample_octets()?;
+    let samples = before.samples.get(..usize::try_from(octets).ok()?)?;
+    let mut fitted = Input {
+        samples: samples.to_vec(),
+        ..candidate.clone()
+    };
+    fitted.room = (fitted.frame().ok()?.len() + before.room).saturating_sub(length);
+    Some(fitted)
 }

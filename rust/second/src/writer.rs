@@ -5,6 +5,9 @@ use crate::reader::{Refusal, Scale};
 use crate::scan::{scan, Frame, Standing, FILE_LIMIT};
 use crate::settings::Record;
 
+/// Octets that a file has before its first frame: 01 01 00.
+pub(crate) const BEFORE_FRAMES: u64 = 3;
+
 /// Writes the canonical file of an accepted file to the start of `out` and answers its length. On
 /// a refusal `out` keeps all its octets.
 pub fn canonical(octets: &[u8], out: &mut [u8]) -> Result<usize, Refusal> {
@@ -12,7 +15,7 @@ pub fn canonical(octets: &[u8], out: &mut [u8]) -> Result<usize, Refusal> {
     if length > out.len() {
         return Err(Refusal::without_place(Refusal::NO_ROOM));
     }
-    let mut output = Output { octets: out, at: 0 };
+    let mut output = Output::new(out);
     if length > 0 {
         output.item(tag::BYTE_ORDER, &[0]);
     }
@@ -24,10 +27,11 @@ pub fn canonical(octets: &[u8], out: &mut [u8]) -> Result<usize, Refusal> {
 pub fn canonical_length(octets: &[u8]) -> Result<usize, Refusal> {
     let mut length = 0;
     let frames = scan(octets, |standing, frame| {
-        length += frame_length(standing, frame)
+        let records = standing.records(frame.channels);
+        length += frame_length(frame.sequences, records, frame.waveform.len());
     })?;
     if frames > 0 {
-        length += 3;
+        length += BEFORE_FRAMES;
     }
     match length <= FILE_LIMIT {
         true => Ok(length as usize),
@@ -35,22 +39,26 @@ pub fn canonical_length(octets: &[u8]) -> Result<usize, Refusal> {
     }
 }
 
-/// Octets of one frame in the canonical file.
-fn frame_length(standing: &Standing, frame: &Frame) -> u64 {
-    let sequences = match frame.sequences {
+/// Octets of one frame in the canonical file, which has so many octets of samples.
+pub(crate) fn frame_length<'a>(
+    sequences: u32,
+    records: impl Iterator<Item = &'a Record>,
+    samples: usize,
+) -> u64 {
+    let sequences = match sequences {
         0 => 2,
         _ => 6,
     };
-    let groups: u64 = (0..frame.channels)
-        .map(|channel| {
+    let groups: u64 = (0..)
+        .zip(records)
+        .map(|(channel, record)| {
             let number = match channel {
                 0..=0x7F => 1,
                 _ => 2,
             };
-            1 + number + 1 + u64::from(group_length(standing.record(channel)))
+            1 + number + 1 + u64::from(group_length(record))
         })
         .sum();
-    let samples = frame.waveform.len();
     6 + sequences + 6 + groups + 1 + length_octets(samples) as u64 + samples as u64
 }
 
@@ -78,12 +86,16 @@ fn length_octets(length: usize) -> usize {
 }
 
 /// The buffer and how far it is written; it is known to be long enough.
-struct Output<'a> {
+pub(crate) struct Output<'a> {
     octets: &'a mut [u8],
     at: usize,
 }
 
 impl Output<'_> {
+    pub fn new(octets: &mut [u8]) -> Output<'_> {
+        Output { octets, at: 0 }
+    }
+
     /// The next `count` octets, to be written by the caller.
     fn take(&mut self, count: usize) -> &mut [u8] {
         let from = self.at;
@@ -91,7 +103,7 @@ impl Output<'_> {
         &mut self.octets[from..self.at]
     }
 
-    fn put(&mut self, octets: &[u8]) {
+    pub fn put(&mut self, octets: &[u8]) {
         self.take(octets.len()).copy_from_slice(octets);
     }
 
@@ -101,20 +113,34 @@ impl Output<'_> {
     }
 
     fn frame(&mut self, standing: &Standing, frame: &Frame) {
-        self.item(tag::CHANNELS, &frame.channels.to_be_bytes());
-        match frame.sequences {
-            0 => self.item(tag::SEQUENCES, &[]),
-            sequences => self.item(tag::SEQUENCES, &sequences.to_be_bytes()),
-        }
-        self.item(tag::START, &frame.start.to_be_bytes());
-        for channel in 0..frame.channels {
-            self.group(channel, standing.record(channel));
-        }
-        self.put(&[tag::WAVEFORM]);
-        self.length(frame.waveform.len());
+        let records = standing.records(frame.channels);
+        self.head(frame.start, frame.sequences, records, frame.waveform.len());
         self.samples(standing, frame);
     }
 
+    /// A frame of these channels up to its samples, of which there are so many octets.
+    pub fn head<'a>(
+        &mut self,
+        start: i32,
+        sequences: u32,
+        records: impl ExactSizeIterator<Item = &'a Record>,
+        samples: usize,
+    ) {
+        self.item(tag::CHANNELS, &(records.len() as u32).to_be_bytes());
+        match sequences {
+            0 => self.item(tag::SEQUENCES, &[]),
+            sequences => self.item(tag::SEQUENCES, &sequences.to_be_bytes()),
+        }
+        self.item(tag::START, &start.to_be_bytes());
+        for (channel, record) in (0..).zip(records) {
+            self.group(channel, record);
+        }
+        self.put(&[tag::WAVEFORM]);
+        self.length(samples);
+    }
+
+    /// Inline, so that the place in the buffer need not go through memory.
+    #[inline(always)]
     fn group(&mut self, channel: u32, record: &Record) {
         self.put(&[tag::GROUP]);
         if channel > 0x7F {
