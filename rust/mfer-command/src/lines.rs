@@ -14,8 +14,8 @@ pub struct Lines<'a> {
 }
 
 impl<'a> Lines<'a> {
-    /// More octets than a line has that says anything. What is no text is not read whole for its first
-    /// line.
+    /// More octets than a line has that says anything. What is no text is not read whole for its
+    /// first line.
     const LONGEST: u64 = 4096;
 
     /// What some programs put ahead of a text.

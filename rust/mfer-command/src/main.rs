@@ -1,5 +1,5 @@
-//! The command `mfer`: checks medical waveform files, shows what they hold, lists samples, writes the
-//! canonical form and makes files.
+//! The command `mfer`: checks medical waveform files, shows what they hold, lists samples, writes
+//! the canonical form and makes files.
 #![forbid(unsafe_code)]
 
 mod arguments;

@@ -1,5 +1,5 @@
-//! Names of codes, from the tables of ISO/TS 11073-92001:2007 (the numbers of tables are its), as they are
-//! written, and read again.
+//! Names of codes, from the tables of ISO/TS 11073-92001:2007 (the numbers of tables are its), as
+//! they are written and read.
 
 use mfer::{DataType, Scale};
 
@@ -14,8 +14,8 @@ pub fn named(code: u16, name: Option<String>) -> String {
     }
 }
 
-/// The code that is written so: alone, with its name, or as its name alone. `name` tells the name of a
-/// code.
+/// The code that is written so: alone, with its name, or as its name alone. `name` tells the name
+/// of a code.
 pub fn code(text: &str, name: impl Fn(u16) -> Option<String>) -> Option<u16> {
     let has = |code: u16, text: &str| name(code).is_some_and(|name| name == text);
     let (first, rest) = text.split_once(' ').unwrap_or((text, ""));
@@ -202,8 +202,8 @@ pub fn scaled(scale: Scale, units: &[&str]) -> String {
     }
 }
 
-/// The scale that is written so. The mantissa may have a decimal point, which lowers the exponent, and
-/// the unit may be given by its code.
+/// The scale that is written so. The mantissa may have a decimal point, which lowers the exponent,
+/// and the unit may be given by its code.
 pub fn scale_of(text: &str, units: &[&str]) -> Option<Scale> {
     let (number, unit) = text.split_once(' ')?;
     let (digits, exponent) = number.split_once(['e', 'E']).unwrap_or((number, "0"));

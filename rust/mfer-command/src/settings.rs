@@ -57,7 +57,8 @@ pub const SETTINGS: [Setting; COUNT] = [
     },
     Setting {
         name: "interval",
-        expected: "a mantissa from 1 to 2147483647, an exponent from -128 to 127 and a unit, as '500 Hz' or '2e-3 s'",
+        expected: "a mantissa from 1 to 2147483647, an exponent from -128 to 127 and a unit, \
+                   as '500 Hz' or '2e-3 s'",
         write: |channel| names::scaled(channel.interval, &names::INTERVAL_UNITS),
         read: |text, channel| {
             let interval = names::scale_of(text, &names::INTERVAL_UNITS);
@@ -66,7 +67,8 @@ pub const SETTINGS: [Setting; COUNT] = [
     },
     Setting {
         name: "resolution",
-        expected: "a mantissa from 1 to 2147483647, an exponent from -128 to 127 and a unit, as '1e-6 V' or '1.25e-6 V'",
+        expected: "a mantissa from 1 to 2147483647, an exponent from -128 to 127 and a unit, \
+                   as '1e-6 V' or '1.25e-6 V'",
         write: |channel| names::scaled(channel.resolution, &names::RESOLUTION_UNITS),
         read: |text, channel| {
             let resolution = names::scale_of(text, &names::RESOLUTION_UNITS);

@@ -1,4 +1,5 @@
-//! `mfer show`: frames and channels with their settings, as tables or as text that `mfer make` takes.
+//! `mfer show`: frames and channels with their settings, as tables or as the text that `mfer make`
+//! takes.
 
 use crate::failure::Failure;
 use crate::input::{chosen, read, shown};
@@ -54,7 +55,7 @@ pub fn show(name: &OsStr, only: Option<u32>, out: &mut impl Write) -> Result<(),
     Ok(())
 }
 
-/// The same as text that `mfer make` takes.
+/// The same as the text that `mfer make` takes.
 pub fn show_settings(name: &OsStr, only: Option<u32>, out: &mut impl Write) -> Result<(), Failure> {
     let octets = read(name)?;
     let refused = |refusal| Failure::refused(name, refusal);

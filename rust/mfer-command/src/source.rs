@@ -24,8 +24,8 @@ impl<'a> Source<'a> {
         })
     }
 
-    /// The octets of samples for the frame of this number: as many as it asks for, fewer where there are
-    /// no more. The last frame gets all that are there.
+    /// The octets of samples for the frame of this number: as many as it asks for, fewer where there
+    /// are no more. The last frame gets all that are there.
     pub fn take(
         &mut self,
         number: usize,

@@ -5,7 +5,7 @@ use std::io::{self, Write};
 use std::num::FpCategory;
 use std::ops::RangeInclusive;
 
-/// Writes a line. Every value of a channel is written so that [`bits`] tells the sample's bits by it.
+/// Writes a line. Every value of a channel is written so that [`bits`] tells the sample's bits.
 pub fn write(out: &mut impl Write, value: Value) -> io::Result<()> {
     match value {
         Value::Whole(whole) => writeln!(out, "{whole}"),
@@ -18,7 +18,7 @@ pub fn write(out: &mut impl Write, value: Value) -> io::Result<()> {
     }
 }
 
-/// The bits of a sample of this type whose value is written so; those of the null, where there is one.
+/// The bits of a sample of this type whose value is written so; the null's, where there is one.
 pub fn bits(text: &str, data_type: DataType, null: Option<u64>) -> Option<u64> {
     match text == Value::Null.kind() {
         true => null,
@@ -107,8 +107,8 @@ fn not_number(text: &str) -> Option<u64> {
     hexadecimal(bits).filter(|_| word == Value::NotNumber(0).kind())
 }
 
-/// Whether the text says what was read of it. A number too large is read as an infinity, one too small
-/// as zero; and of a float that is no number only the bits say which it is.
+/// Whether the text says what was read of it. A number too large is read as an infinity, one too
+/// small as zero; and of a float that is no number only the bits say which it is.
 fn says(text: &str, read: FpCategory) -> bool {
     let mantissa = text.split(['e', 'E']).next().unwrap_or(text);
     match read {
@@ -129,8 +129,8 @@ mod tests {
         String::from_utf8(line).unwrap().trim_end().into()
     }
 
-    /// Bits in which a form would lose something first: signs, ends of ranges, zeros, infinities, floats
-    /// that need all digits, and floats that are no numbers.
+    /// Bits in which a form would lose something first: signs, ends of ranges, zeros, infinities,
+    /// floats that need all digits, and floats that are no numbers.
     fn corners(width: u8) -> impl Iterator<Item = u64> {
         let above = 64 - 8 * u32::from(width);
         let steps = (0..=64).map(|n: u32| u64::MAX.checked_shl(n).unwrap_or(0));

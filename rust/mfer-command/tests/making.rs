@@ -1,4 +1,5 @@
-//! `mfer make` as a user meets it: settings written by hand and by `mfer show --settings`, files and pipes.
+//! `mfer make` as a user meets it: settings written by hand and by `mfer show --settings`, files and
+//! pipes.
 
 mod common;
 

@@ -1,5 +1,5 @@
-//! What `mfer make` says where settings or samples are wrong: every message, with the exit status. The file
-//! that was there stays as it was.
+//! What `mfer make` says where settings or samples are wrong: every message, with the exit status.
+//! The file that was there stays as it was.
 
 mod common;
 
@@ -34,8 +34,8 @@ impl Try {
         command
     }
 
-    /// What is said of the file of this name, and the exit status. Nothing is written, and nothing is left
-    /// behind.
+    /// What is said of the file of this name, and the exit status. Nothing is written, and nothing is
+    /// left behind.
     fn fails(&self, name: &str, command: &mut Command) -> (String, i32) {
         let (out, error, status) = run(command);
         assert_eq!(out, "");
@@ -114,7 +114,7 @@ fn lines_of_settings() {
     }
 }
 
-/// A setting, what is expected of it, and values that are none or do not fit in any number of its kind.
+/// A setting, what is expected of it, and values that are none.
 const VALUES: [(&str, &str, &[&str]); 11] = [
     (
         "start",
@@ -153,12 +153,22 @@ const VALUES: [(&str, &str, &[&str]); 11] = [
     ),
     (
         "interval",
-        "a mantissa from 1 to 2147483647, an exponent from -128 to 127 and a unit, as '500 Hz' or '2e-3 s'",
-        &["500", "", "500 kHz", "x Hz", "2147483648 Hz", "1e128 Hz", "1 unit 256"],
+        "a mantissa from 1 to 2147483647, an exponent from -128 to 127 and a unit, as '500 Hz' or \
+         '2e-3 s'",
+        &[
+            "500",
+            "",
+            "500 kHz",
+            "x Hz",
+            "2147483648 Hz",
+            "1e128 Hz",
+            "1 unit 256",
+        ],
     ),
     (
         "resolution",
-        "a mantissa from 1 to 2147483647, an exponent from -128 to 127 and a unit, as '1e-6 V' or '1.25e-6 V'",
+        "a mantissa from 1 to 2147483647, an exponent from -128 to 127 and a unit, as '1e-6 V' or \
+         '1.25e-6 V'",
         &["1e-6", "", "1 uV", "V", "1.0e-128 V", "1 unit x"],
     ),
     (
@@ -173,15 +183,19 @@ const VALUES: [(&str, &str, &[&str]); 11] = [
     ),
 ];
 
+/// How a value is quoted.
+fn found(value: &str) -> String {
+    match value {
+        "" => "nothing".into(),
+        _ => format!("'{value}'"),
+    }
+}
+
 #[test]
 fn values_of_settings() {
     for (name, expected, values) in VALUES {
         for value in values {
-            let found = match *value {
-                "" => "nothing".into(),
-                value => format!("'{value}'"),
-            };
-            let words = format!("{name}: expected {expected}, found {found}");
+            let words = format!("{name}: expected {expected}, found {}", found(value));
             let answer = settings_fail(format!("frame\n{name} {value}\n"));
             assert_eq!(answer, (format!("line 2: {words}"), 2));
         }
@@ -276,9 +290,9 @@ fn settings_out_of_range() {
 #[test]
 fn a_continued_start_out_of_range() {
     let settings = "frame\nstart 2147483647\nsequences 1\nframe\n";
-    let words = "line 4: frame 1: refused 24 at 0: a setting outside the table of attributes, or bits \
-                 wider than the sample: start: expected a number from -2147483648 to 2147483647, found \
-                 '2147483648'";
+    let words = "line 4: frame 1: refused 24 at 0: a setting outside the table of attributes, or \
+                 bits wider than the sample: start: expected a number from -2147483648 to \
+                 2147483647, found '2147483648'";
     assert_eq!(settings_fail(settings), (words.into(), 1));
     let settings = "frame\nstart 2147483647\nsequences 0\nframe\n";
     let tried = Try::new(settings, "");
@@ -322,69 +336,66 @@ fn samples_too_few_and_too_many() {
     assert_eq!(answer, (format!("frame 1: {words}: {expected}"), 1));
 }
 
+/// A setting of a channel, what is expected of its samples, and lines that are none.
+const SAMPLES: [(&str, &str, &[&str]); 10] = [
+    (
+        "type 0",
+        "a whole number from -32768 to 32767",
+        &["32768", "-32769", "null", "1.0", "", "1 2"],
+    ),
+    ("type 1", "a whole number from 0 to 65535", &["-1", "65536"]),
+    (
+        "type 2",
+        "a whole number from -2147483648 to 2147483647",
+        &["2147483648"],
+    ),
+    ("type 3", "a whole number from 0 to 255", &["256", "-1"]),
+    (
+        "type 4",
+        "bits from 0x0000 to 0xFFFF",
+        &["1", "0x10000", "0xG"],
+    ),
+    (
+        "type 5",
+        "a whole number from -128 to 127",
+        &["128", "-129"],
+    ),
+    (
+        "type 6",
+        "a whole number from 0 to 4294967295",
+        &["4294967296", "-1"],
+    ),
+    (
+        "type 7",
+        "a single, inf, -inf, or not-a-number with its bits",
+        &[
+            "nan",
+            "1e39",
+            "1e-60",
+            "not-a-number",
+            "not-a-number 0x0",
+            "x",
+        ],
+    ),
+    (
+        "type 8",
+        "a double, inf, -inf, or not-a-number with its bits",
+        &["nan", "1e309", "1e-400", "not-a-number 0x7FC00001"],
+    ),
+    (
+        "null 5",
+        "a whole number from -32768 to 32767, or null",
+        &["none", "Null"],
+    ),
+];
+
 #[test]
 fn lines_of_samples() {
-    let single = "a single, inf, -inf, or not-a-number with its bits";
-    let double = "a double, inf, -inf, or not-a-number with its bits";
-    for (settings, expected, values) in [
-        (
-            "type 0",
-            "a whole number from -32768 to 32767",
-            &["32768", "-32769", "null", "1.0", "", "1 2"][..],
-        ),
-        ("type 1", "a whole number from 0 to 65535", &["-1", "65536"]),
-        (
-            "type 2",
-            "a whole number from -2147483648 to 2147483647",
-            &["2147483648"],
-        ),
-        ("type 3", "a whole number from 0 to 255", &["256", "-1"]),
-        (
-            "type 4",
-            "bits from 0x0000 to 0xFFFF",
-            &["1", "0x10000", "0xG"],
-        ),
-        (
-            "type 5",
-            "a whole number from -128 to 127",
-            &["128", "-129"],
-        ),
-        (
-            "type 6",
-            "a whole number from 0 to 4294967295",
-            &["4294967296", "-1"],
-        ),
-        (
-            "type 7",
-            single,
-            &[
-                "nan",
-                "1e39",
-                "1e-60",
-                "not-a-number",
-                "not-a-number 0x0",
-                "x",
-            ],
-        ),
-        (
-            "type 8",
-            double,
-            &["nan", "1e309", "1e-400", "not-a-number 0x7FC00001"],
-        ),
-        (
-            "null 5",
-            "a whole number from -32768 to 32767, or null",
-            &["none", "Null"],
-        ),
-    ] {
-        for value in values {
-            let found = match *value {
-                "" => "nothing".into(),
-                value => format!("'{value}'"),
-            };
-            let words = format!("line 1: frame 0, channel 0: expected {expected}, found {found}");
-            let answer = samples_fail(&format!("frame\n{settings}\n"), format!("{value}\n"), false);
-            assert_eq!(answer, (words, 2));
+    for (setting, expected, lines) in SAMPLES {
+        for line in lines {
+            let words = format!("line 1: frame 0, channel 0: expected {expected}, found");
+            let answer = samples_fail(&format!("frame\n{setting}\n"), format!("{line}\n"), false);
+            assert_eq!(answer, (format!("{words} {}", found(line)), 2));
         }
     }
 }

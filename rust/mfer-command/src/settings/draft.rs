@@ -160,8 +160,8 @@ impl Draft {
 
 /// What they come to.
 impl Draft {
-    /// The frame, or the first line that is wrong. `before` is the frame before it; the last frame may
-    /// leave out its sequences.
+    /// The frame, or the first line that is wrong. `before` is the frame before it; the last frame
+    /// may leave out its sequences.
     pub fn described(mut self, before: Option<&Described>, last: bool) -> Result<Described, Wrong> {
         let described = self.describe(before);
         if described.by_length && !last {
@@ -181,8 +181,8 @@ impl Draft {
         }
     }
 
-    /// The frame, as far as its lines can be read. One that says nothing of its channels has those of the
-    /// frame before it.
+    /// The frame, as far as its lines can be read. One that says nothing of its channels has those of
+    /// the frame before it.
     fn describe(&mut self, before: Option<&Described>) -> Described {
         let start = number(&self.start, "start", START, &mut self.wrong);
         let sequences = number(&self.sequences, "sequences", SEQUENCES, &mut self.wrong);
