@@ -1,6 +1,6 @@
 #!/bin/bash
 # Memory: a smaller corpus through the comparison program under valgrind, which sees a read or a write past a file or a buffer.
-# MFER_MEMORY_FILES sets how many generated files (default 300). The last line counts the tests.
+# MFER_MEMORY_FILES sets how many generated files (default 300); of calls of the maker there are as many. The last line counts the tests.
 set -u
 cd "$(dirname "$0")/../rust" || exit 2
 . ../tests/common.sh
@@ -27,6 +27,9 @@ small=$!
 start "$files" 7000000
 generated=$!
 ended "$small" small
+start make "$files" 7000000
+made=$!
 ended "$generated" "$files"
+ended "$made" make
 
 counted

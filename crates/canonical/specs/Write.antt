@@ -35,7 +35,7 @@ canonicalOf s = canonical (recordingOf s)
 unfoldable pub fits : List ℕ → ℕ → Bool
 fits octets room = both (leb (length octets) room) (leb (length octets) octetsLimit)
 
--- What the writer's answer says: the canonical file's length, or the refusal.
+-- What a writer's answer says: how many octets it writes, which of the canonical writer is the canonical file's length; or the refusal.
 abbrev pub writtenSays : Written → Answer ℕ
 writtenSays (Written.Octets n) = answered n
 writtenSays (Written.Refused r) = refusedBy r

@@ -23,7 +23,7 @@ use verdict::Checked;
 use walk::Head;
 use walk::Step;
 
-// The canonical file's length, or a refusal.
+// How many octets a writer writes, or a refusal.
 pub enum Written {
     Octets(usize),
     Refused(Refusal),

@@ -66,7 +66,7 @@ pub fn read_out(r: Read, count: &mut u64, place: &mut u64) -> u32
     }
 }
 
-// How many octets the canonical file has, or the refusal.
+// How many octets are written, or the refusal.
 pub fn written_out(r: Written, length: &mut u64, place: &mut u64) -> u32
     ensures { λ n. ⌜ outputs n (now (place .exit)) (now (length .exit)) ≡ countOut (writtenSays r) ⌝ }
 {
