@@ -249,25 +249,6 @@ fn fours2(s: &[u8], from: usize, step: usize, n: usize, little: bool, out: &mut 
     run2(s, q, step, left, little, out, p);
 }
 
-// The same once more, for `lay_whole` alone: where one function calls a loop, the compiler lays it into that function (docs/DECISIONS.md 78).
-fn column2(s: &[u8], from: usize, step: usize, n: usize, little: bool, out: &mut [u64], at: usize)
-    requires { ⌜ InFile (length (now s)) from step n 2 ⌝ }
-    requires { ⌜ at + n ≤ length (now out) ⌝ }
-    ensures { λ _. ⌜ now (out .exit) ≡ sets (now (out .entry)) at (spaced «little» 2 (now (s .entry)) step from n) ⌝ }
-{
-    let turn = 4 * step;
-    let mut q = from;
-    let mut p = at;
-    let mut left = n;
-    while 4 <= left {
-        turn2(s, q, step, little, out, p);
-        p += 4;
-        q += turn;
-        left -= 4;
-    }
-    run2(s, q, step, left, little, out, p);
-}
-
 fn fours4(s: &[u8], from: usize, step: usize, n: usize, little: bool, out: &mut [u64], at: usize)
     requires { ⌜ InFile (length (now s)) from step n 4 ⌝ }
     requires { ⌜ at + n ≤ length (now out) ⌝ }
@@ -289,6 +270,25 @@ fn fours4(s: &[u8], from: usize, step: usize, n: usize, little: bool, out: &mut 
         left -= 4;
     }
     run4(s, q, step, left, little, out, p);
+}
+
+// `fours2` once more, for `lay_whole` alone: a loop that one function calls the compiler lays into that function (docs/DECISIONS.md 78).
+fn column2(s: &[u8], from: usize, step: usize, n: usize, little: bool, out: &mut [u64], at: usize)
+    requires { ⌜ InFile (length (now s)) from step n 2 ⌝ }
+    requires { ⌜ at + n ≤ length (now out) ⌝ }
+    ensures { λ _. ⌜ now (out .exit) ≡ sets (now (out .entry)) at (spaced «little» 2 (now (s .entry)) step from n) ⌝ }
+{
+    let turn = 4 * step;
+    let mut q = from;
+    let mut p = at;
+    let mut left = n;
+    while 4 <= left {
+        turn2(s, q, step, little, out, p);
+        p += 4;
+        q += turn;
+        left -= 4;
+    }
+    run2(s, q, step, left, little, out, p);
 }
 
 // The same for samples of any width. Where one lies right behind the other the compiler is told the step, and makes wide moves.
@@ -508,8 +508,8 @@ fn all_lie(size: usize, t: &[u64], q: Sequences, channels: u32) -> bool
     true
 }
 
-// The first n samples of a channel, from `at` on in the buffer. Samples of two octets, one to a block, go to their loop at once: frames of many
-// channels have few sequences, and finding the loop costs as much as a turn of it.
+// The first n samples of a channel, from `at` on in the buffer. Samples of two octets, one to a block, have a loop here: frames of many channels have
+// few sequences, and finding the loop for any samples costs as much as a turn of it.
 fn lay_whole(s: &[u8], x: Spread, n: usize, out: &mut [u64], at: usize)
     requires { ⌜ Layable (length (now s)) (length (now out)) x 0 n at ⌝ }
     ensures { λ _. ⌜ now (out .exit) ≡ sets (now (out .entry)) at (bitsFrom (bitsSpread (now (s .entry)) x) 0 n) ⌝ }
