@@ -1,9 +1,10 @@
 -- Laws of the records that words hold.
 --     one-back, four-back    the lowest octets of a signed number's word give it back
---     overlaid-more          one word more stored
+--     not-last, further-out, overlaid-more          one word more stored
+--     place, same-by         the place of a record; the same numbers give the same record
 --     records-long, records-full     how many there are; one for each channel of a frame
 --     records-at, records-past       one that is there, and one that is not
---     holding-none, holding-same, holding-put      nothing stored, and one record stored
+--     holding-none, holding-same, holding-at, holding-put      nothing stored, and one record stored
 --     below-aside                    what is kept below a channel is of no record
 --     Clearing, clearing-more, clearing-all    the times of the first records set back, one more, and all
 --     timely-outdated, table-outdated            with all times set back no record is after now, and every channel has the root settings
@@ -61,12 +62,22 @@ four-back r f h e = lowest-back 4 r e (λ k m. (omega arith, omega arith)) (λ k
 
 -- ---- words stored one after the other
 
+-- Outside of n + 1 words from place i on: not at the last of them, and outside of n.
+module _ (i n m : ℕ) where
+  pub not-last : (m < i) ⊎ (i + (n + 1) ≤ m) → m ≡ i + n → ⊥
+  not-last (inl l) q = omega arith
+  not-last (inr l) q = omega arith
+
+  pub further-out : (m < i) ⊎ (i + (n + 1) ≤ m) → (m < i) ⊎ (i + n ≤ m)
+  further-out (inl l) = inl l
+  further-out (inr l) = inr (omega arith)
+
 pub overlaid-more : {u w v : List ℕ} {i n : ℕ} → i + n < length u → Overlaid u i w n v → Overlaid u i w (n + 1) (set v (i + n) (getD w n 0))
 overlaid-more {u} {w} {v} {i} {n} h o =
     record {
       long = length-set v (i + n) (getD w n 0) ∙ o .long;
       inside = λ a l. by-place a l (ltb a n) refl;
-      outside = λ m l. getD-set-other v (i + n) m (getD w n 0) 0 (away m l) ∙ o .outside m (further m l);
+      outside = λ m l. getD-set-other v (i + n) m (getD w n 0) 0 (not-last i n m l) ∙ o .outside m (further-out i n m l);
     }
   where
     by-place : (a : ℕ) → a < n + 1 → (t : Bool) → ltb a n ≡ t → getD (set v (i + n) (getD w n 0)) (i + a) 0 ≡ getD w a 0
@@ -78,18 +89,10 @@ overlaid-more {u} {w} {v} {i} {n} h o =
         let e : a ≡ n = omega arith in
         rw e (getD-set-same v (i + n) (getD w n 0) 0 (omega (arith, o .long)))
 
-    away : (m : ℕ) → (m < i) ⊎ (i + (n + 1) ≤ m) → m ≡ i + n → ⊥
-    away m (inl l) q = omega arith
-    away m (inr l) q = omega arith
-
-    further : (m : ℕ) → (m < i) ⊎ (i + (n + 1) ≤ m) → (m < i) ⊎ (i + n ≤ m)
-    further m (inl l) = inl l
-    further m (inr l) = inr (omega arith)
-
 -- ---- one record
 
 -- The place of record k.
-abbrev place : ℕ → ℕ
+abbrev pub place : ℕ → ℕ
 place k = k * recordWords
 
 -- The same numbers give the same record.
@@ -113,7 +116,7 @@ module _ (f g : ℕ → ℕ) where
         null = same-bits 12 (h 12 (lit< tt)) (h 13 (lit< tt)) i;
       }
 
-  same-by : ((a : ℕ) → a < recordNumbers → f a ≡ g a) → recordBy f ≡ recordBy g
+  pub same-by : ((a : ℕ) → a < recordNumbers → f a ≡ g a) → recordBy f ≡ recordBy g
   same-by h = λ i. noted (lowOf 4 (h timeWord (lit< tt) i)) (same-settings (λ a l. h a (omega arith)) i)
 
   -- The same but for the time, which is 0.
@@ -189,28 +192,28 @@ module _ (u : List ℕ) (k : ℕ) (x : Dated) where
   pub holding-same : x ≡ getD (recordsIn u) k zeroDated → Holding u (set (recordsIn u) k x) u
   holding-same e = record { records = sym (ap (set (recordsIn u) k) e ∙ set-getD (recordsIn u) k zeroDated); long = refl; others = λ m l. refl }
 
-  module _ {w v : List ℕ} (h : k < recordsHeld u) (o : Overlaid u (place k) w recordNumbers v) where
+  module _ (v : List ℕ) (h : k < recordsHeld u) (long : length v ≡ length u) (outside : (m : ℕ) → (m < place k) ⊎ (place k + recordNumbers ≤ m) → getD v m 0 ≡ getD u m 0) where
     -- The other records are as they were.
     apart : (j : ℕ) → (j ≡ k → ⊥) → recordAt v (place j) ≡ recordAt u (place j)
-    apart j ne = same-by (wordsAt v (place j)) (wordsAt u (place j)) (λ a l. o .outside (place j + a) (aside a l (sides j k ne)))
+    apart j ne = same-by (wordsAt v (place j)) (wordsAt u (place j)) (λ a l. outside (place j + a) (aside a l (sides j k ne)))
       where
         aside : (a : ℕ) → a < recordNumbers → (j < k) ⊎ (k < j) → (place j + a < place k) ⊎ (place k + recordNumbers ≤ place j + a)
         aside a l (inl b) = inl (omega arith)
         aside a l (inr b) = inr (omega arith)
 
-    pub holding-put : recordBy (λ a. getD w a 0) ≡ x → Holding u (set (recordsIn u) k x) v
-    holding-put e =
+    -- All words but those of one record are as they were.
+    pub holding-at : recordAt v (place k) ≡ x → Holding u (set (recordsIn u) k x) v
+    holding-at e =
         record {
-          records = records-are u v (set (recordsIn u) k x) (o .long) (length-set (recordsIn u) k x ∙ records-long u) (λ j l. by-place j l (eqb j k) refl);
-          long = o .long;
-          others = λ m l. o .outside m (away m l (ltb m (place k)) refl);
+          records = records-are u v (set (recordsIn u) k x) long (length-set (recordsIn u) k x ∙ records-long u) (λ j l. by-place j l (eqb j k) refl);
+          long = long;
+          others = λ m l. outside m (away m l (ltb m (place k)) refl);
         }
       where
         by-place : (j : ℕ) → j < recordsHeld u → (t : Bool) → eqb j k ≡ t → recordAt v (place j) ≡ getD (set (recordsIn u) k x) j zeroDated
         by-place j l true q =
             rw (eqb-true j k q)
-            (same-by (wordsAt v (place k)) (λ a. getD w a 0) (o .inside) ∙ e
-            ∙ sym (getD-set-same (recordsIn u) k x zeroDated (omega (arith, records-long u))))
+            (e ∙ sym (getD-set-same (recordsIn u) k x zeroDated (omega (arith, records-long u))))
         by-place j l false q =
             let ne = eqb-false j k q in
             apart j ne ∙ sym (getD-set-other (recordsIn u) k j x zeroDated ne ∙ records-at u j zeroDated l)
@@ -220,6 +223,9 @@ module _ (u : List ℕ) (k : ℕ) (x : Dated) where
         away m l true q = inl (ltb-true m (place k) q)
         away m (inl l) false q = let b = ltb-false m (place k) q in inr (omega arith)
         away m (inr l) false q = inr (omega arith)
+
+  pub holding-put : {w v : List ℕ} → k < recordsHeld u → Overlaid u (place k) w recordNumbers v → recordBy (λ a. getD w a 0) ≡ x → Holding u (set (recordsIn u) k x) v
+  holding-put {w} {v} h o e = holding-at v h (o .long) (o .outside) (same-by (wordsAt v (place k)) (λ a. getD w a 0) (o .inside) ∙ e)
 
 -- ---- times set back
 

@@ -1,7 +1,6 @@
 -- Records brought up to date one after the other.
---     renew-answers, renew-keeps, renew-stores    one of them
 --     Refreshing             the first i of n are
---     refreshing-start, refreshing-more, refreshing-all    none yet, one more, all
+--     refreshing-start, -room, -more, -all    none yet, there is a next one, one more, all
 -- Assumes nothing.
 use mathlib.Core.Path.{_≡_, refl, sym, ap, subst, _∙_}
 use mathlib.Core.Bool.{Bool, true, false}
@@ -19,28 +18,16 @@ use Rattle.settings.specs.declared.Settings.{Settings}
 use Rattle.settings.specs.Settings.{channelLimit}
 use Rattle.dated.specs.declared.Dated.{Dated}
 use Rattle.dated.specs.declared.Dates.{Dates}
-use Rattle.dated.specs.Dated.{noted, zeroDated, settledAt, upToDate, refreshed}
+use Rattle.dated.specs.Dated.{zeroDated, settledAt, upToDate, refreshed}
 use Rattle.dated.proofs.Tables.{table-long}
-use Rattle.dated.proofs.Refreshed.{fresh-same, refreshed-past, refreshed-more, refreshed-there}
+use Rattle.dated.proofs.Refreshed.{refreshed-past, refreshed-more, refreshed-there}
 use Rattle.layout.specs.declared.Layout.{Layout}
 use Rattle.layout.specs.Frame.{sequenceOctets, octetsBelow}
 use Rattle.layout.specs.Measure.{noLayout, More}
 use Rattle.layout.proofs.Laws.{Summing, summing-start, summed-below}
 use Rattle.records.specs.Records.{recordWords, recordNumbers, belowWord, recordsHeld, recordsIn, channelsIn, belowIn, Holding, PastKept, Refreshed}
-use Rattle.records.proofs.Laws.{records-long, below-aside, holding-same}
+use Rattle.records.proofs.Laws.{records-long, below-aside}
 use Rattle.records.proofs.Channels.{layout-more, laid-out}
-
--- ---- one record
-
-module _ (u : List ℕ) (k : ℕ) (root : Settings) (d : Dates) {x : Dated} {c : Settings} (ex : x ≡ getD (recordsIn u) k zeroDated) (ec : c ≡ settledAt root d x) where
-  pub renew-answers : c ≡ settledAt root d (getD (recordsIn u) k zeroDated)
-  renew-answers = ec ∙ ap (settledAt root d) ex
-
-  pub renew-keeps : d .cleared < x .at → x .at ≡ d .now → Holding u (set (recordsIn u) k (upToDate root d (getD (recordsIn u) k zeroDated))) u
-  renew-keeps h e = holding-same u k _ (ap (upToDate root d) (sym ex) ∙ fresh-same root d x h e ∙ ex)
-
-  pub renew-stores : {y : Dated} {v : List ℕ} → y ≡ noted (d .now) c → Holding u (set (recordsIn u) k y) v → Holding u (set (recordsIn u) k (upToDate root d (getD (recordsIn u) k zeroDated))) v
-  renew-stores {v = v} ey h = subst (λ z. Holding u (set (recordsIn u) k z) v) (ey ∙ ap (noted (d .now)) renew-answers) h
 
 -- ---- one after the other
 
@@ -68,7 +55,11 @@ refreshing-start {u = u} root d few room e =
     }
 
 module _ {u : List ℕ} {n : ℕ} {root : Settings} {d : Dates} {i : ℕ} {l : Layout} {v : List ℕ} (p : Refreshing u n root d i l v) where
-  -- The next record is as it was.
+  -- There is a next record.
+  pub refreshing-room : i < n → i < recordsHeld v
+  refreshing-room h = omega (arith, h, p .room, p .long, records-long u)
+
+  -- It is as it was.
   same-at : getD (recordsIn v) i zeroDated ≡ getD (recordsIn u) i zeroDated
   same-at = ap (λ t. getD t i zeroDated) (p .records) ∙ refreshed-past root d i i (recordsIn u) zeroDated (le-refl i)
 

@@ -3,7 +3,9 @@ use mathlib.Core.Path.{_≡_}
 use mathlib.Core.List.{List, [], _∷_}
 use mathlib.Core.Logic.{_⊎_}
 use Prim.Native.Nat.{ℕ, zero, suc, _+_, _*_, _/_, _%_, _≤_, _<_}
+use lib.Dec.{leb}
 use lib.ListN.{length, getD, take}
+use Rattle.octets.specs.Pick.{pick}
 use Rattle.octets.specs.Number.{lowOf, twos}
 use Rattle.values.specs.declared.Bits.{Bits}
 use Rattle.settings.specs.declared.Scale.{Scale}
@@ -11,6 +13,7 @@ use Rattle.settings.specs.declared.Settings.{Settings}
 use Rattle.settings.specs.Settings.{channelLimit}
 use Rattle.dated.specs.declared.Dated.{Dated}
 use Rattle.dated.specs.declared.Dates.{Dates}
+use Rattle.dated.specs.declared.Times.{Times}
 use Rattle.dated.specs.Dated.{noted, settledIn, refreshed, held}
 use Rattle.layout.specs.declared.Layout.{Layout}
 use Rattle.layout.specs.Frame.{octetsBelow}
@@ -120,4 +123,20 @@ pub record Refreshed (u : List ℕ) (n : ℕ) (root : Settings) (d : Dates) (l :
 pub record Overlaid (u : List ℕ) (i : ℕ) (w : List ℕ) (n : ℕ) (v : List ℕ) : Type 0 where
   pub long : length v ≡ length u
   pub inside : (a : ℕ) → a < n → getD v (i + a) 0 ≡ getD w a 0
+  pub outside : (m : ℕ) → (m < i) ⊎ (i + n ≤ m) → getD v m 0 ≡ getD u m 0
+
+-- The settings of a record's words.
+unfoldable pub settingsBy : List ℕ → Settings
+settingsBy w = recordBy (λ a. getD w a 0) .settings
+
+-- When the root last defined the attribute of each number. The record's own time is always behind.
+abbrev pub sinceBy : Times → List ℕ
+sinceBy t =
+    t .block ∷ t .class ∷ t .lead ∷ t .datatype ∷ t .interval ∷ t .interval ∷ t .interval ∷ t .resolution ∷ t .resolution ∷ t .resolution
+    ∷ t .offset ∷ t .offset ∷ t .null ∷ t .null ∷ 4294967295 ∷ []
+
+-- The words v are the words u with those of the first n of w, from place i on, whose times s are not before `from`.
+pub record Overtaken (u : List ℕ) (i : ℕ) (w s : List ℕ) (from n : ℕ) (v : List ℕ) : Type 0 where
+  pub long : length v ≡ length u
+  pub inside : (a : ℕ) → a < n → getD v (i + a) 0 ≡ pick (leb from (getD s a 0)) (getD w a 0) (getD u (i + a) 0)
   pub outside : (m : ℕ) → (m < i) ⊎ (i + n ≤ m) → getD v m 0 ≡ getD u m 0

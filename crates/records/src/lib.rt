@@ -12,14 +12,17 @@ ghost use mathlib.Core.Path.{_≡_};
 ghost use mathlib.Core.List.{map};
 ghost use Prim.Native.Nat.{_+_, _*_, _<_, _≤_, min};
 ghost use lib.ListN.{length, getD, set, take};
+ghost use lib.Dec.{leb};
+ghost use Rattle.octets.specs.Pick.{pick};
 ghost use Rattle.octets.specs.Number.{lowOf, twos};
 ghost use Rattle.settings.specs.Settings.{channelLimit};
 ghost use Rattle.dated.specs.Dated.{zeroDated, settledAt, upToDate};
 ghost use Rattle.layout.specs.Measure.{layoutOf};
-ghost use Rattle.records.specs.Records.{recordNumbers, scaleBy, bitsBy, recordBy, wordsAt, recordsHeld, recordsIn, heldIn, belowIn, outdated, Holding, Refreshed, Overlaid};
-ghost use Rattle.records.specs.Records.{recordWords, belowWord};
+ghost use Rattle.records.specs.Records.{recordNumbers, scaleBy, bitsBy, recordBy, wordsAt, recordsHeld, recordsIn, heldIn, belowIn, outdated, settingsBy, sinceBy, Holding, Refreshed, Overlaid, Overtaken};
+ghost use Rattle.records.specs.Records.{recordWords, timeWord, belowWord};
 use dated::Dated;
 use dated::Dates;
+use dated::Times;
 use layout::Layout;
 use settings::Scale;
 use settings::Settings;
@@ -278,20 +281,85 @@ pub fn layout_in(t: &[u64], count: usize) -> Layout
     l
 }
 
-// Brings a record up to date, and answers what stands for its channel.
-fn renew(t: &mut [u64], k: usize, root: Settings, dates: Dates) -> Settings
-    ensures { λ r. ⌜ r ≡ settledAt root dates (getD (recordsIn (now (t .entry))) k zeroDated) ⌝ }
-    ensures { λ _. ⌜ Holding (now (t .entry)) (set (recordsIn (now (t .entry))) k (upToDate root dates (getD (recordsIn (now (t .entry))) k zeroDated))) (now (t .exit)) ⌝ }
+// When the root last defined the attribute of each number; the record's own time is always behind.
+fn since_of(t: Times) -> [u32; Records::NUMBERS]
+    ensures { λ r. ⌜ r ≡ sinceBy t ⌝ }
 {
-    let x = get(t, k);
-    let c = dated::settle(root, dates, x);
-    if dates.cleared < x.at {
-        if x.at == dates.now {
-            return c;
+    [
+        t.block,
+        t.class,
+        t.lead,
+        t.datatype,
+        t.interval,
+        t.interval,
+        t.interval,
+        t.resolution,
+        t.resolution,
+        t.resolution,
+        t.offset,
+        t.offset,
+        t.null,
+        t.null,
+        u32::MAX,
+    ]
+}
+
+// A word stored, or none.
+fn store_if(t: &mut [u64], i: usize, yes: bool, x: u64)
+    requires { ⌜ i < length (now t) ⌝ }
+    ensures { λ _. ⌜ now (t .exit) ≡ pick «yes» (set (now (t .entry)) i x) (now (t .entry)) ⌝ }
+{
+    if yes {
+        t[i] = x;
+    }
+}
+
+// Stores those of a record's words from place i on whose attribute was defined at the time `from` or later.
+fn overtake(
+    t: &mut [u64],
+    i: usize,
+    from: u32,
+    w: &[u64; Records::NUMBERS],
+    since: &[u32; Records::NUMBERS],
+)
+    requires { ⌜ i + recordNumbers ≤ length (now t) ⌝ }
+    ensures { λ _. ⌜ Overtaken (now (t .entry)) i (now (w .entry)) (now (since .entry)) from recordNumbers (now (t .exit)) ⌝ }
+{
+    let mut a = 0;
+    while a < Records::NUMBERS {
+        store_if(t, i + a, from <= since[a], w[a]);
+        a += 1;
+    }
+}
+
+// The time from which on a record is behind: the first one of all, where tag 05 came since.
+fn behind_from(at: u32, cleared: u32) -> u32
+    ensures { λ r. ⌜ r ≡ pick (leb at cleared) 0 at ⌝ }
+{
+    if at <= cleared { 0 } else { at }
+}
+
+// Brings a record up to date, by the words of the root settings of now. Only what the root has defined since is stored.
+fn renew(
+    t: &mut [u64],
+    k: usize,
+    dates: Dates,
+    w: &[u64; Records::NUMBERS],
+    since: &[u32; Records::NUMBERS],
+)
+    requires { ⌜ k < recordsHeld (now t) ⌝ }
+    requires { ⌜ lowOf 4 (getD (now w) timeWord 0) ≡ dates .now ⌝ }
+    requires { ⌜ now since ≡ sinceBy (dates .times) ⌝ }
+    ensures { λ _. ⌜ Holding (now (t .entry)) (set (recordsIn (now (t .entry))) k (upToDate (settingsBy (now (w .entry))) dates (getD (recordsIn (now (t .entry))) k zeroDated))) (now (t .exit)) ⌝ }
+{
+    let i = k * Records::WORDS;
+    let at = four(word(t, i, Records::TIME));
+    if dates.cleared < at {
+        if at == dates.now {
+            return;
         }
     }
-    put(t, k, dates.note(c));
-    c
+    overtake(t, i, behind_from(at, dates.cleared), w, since);
 }
 
 // Keeps the octets below a channel with its record.
@@ -308,10 +376,13 @@ pub fn refresh(t: &mut [u64], count: usize, root: Settings, dates: Dates) -> Lay
     ensures { λ r. ⌜ Refreshed (now (t .entry)) (min count channelLimit) root dates r (now (t .exit)) ⌝ }
 {
     let n = at_most(t, count);
+    let w = words_of(dates.note(root));
+    let since = since_of(dates.times);
     let mut l = Layout::none();
     let mut i = 0usize;
     while i < n {
-        let c = renew(t, i, root, dates);
+        renew(t, i, dates, &w, &since);
+        let c = held(t, i);
         keep_below(t, i, l.octets);
         l = l.more(i, 0, c);
         i += 1;

@@ -7,6 +7,7 @@
 --     lays-in, in-lays    samples that can be laid
 --     no-bits        no samples
 --     whole-small, whole-blocks, whole-bits    all samples of a channel
+--     single-inside, single-bits    the same, one to a block
 --     block-start, block-rest, in-blocks, laid-bits    they lie in the file in blocks, from the block of the first one on
 -- Assumes nothing.
 use mathlib.Core.Path.{_≡_, refl, sym, ap, _∙_}
@@ -14,7 +15,7 @@ use mathlib.Core.Bool.{Bool, true, false}
 use mathlib.Core.Logic.{inl, inr}
 use mathlib.Core.List.{List}
 use Prim.Native.Nat.{ℕ, _+_, _-_, _*_, _/_, _%_, _≤_, _<_}
-use native.Mathlib.Nat.{zero-mul, zero-add, add-mul, mod-lt, div-eq-of-lt, mod-eq-of-lt, div-add-mod', mul-add-div-right, mul-add-mod-self-right}
+use native.Mathlib.Nat.{zero-mul, add-zero, zero-add, add-mul, mod-lt, div-eq-of-lt, mod-eq-of-lt, div-add-mod', mul-add-div-right, mul-add-mod-self-right}
 use native.Mathlib.Decide.{decLt}
 use native.Mathlib.Omega.{arith}
 use borrow.Author.Tests.{ltb-true, leb-true, leb-false, lt-ltb, le-ltb, le-leb, lt-leb}
@@ -28,8 +29,8 @@ use Rattle.layout.proofs.Rows.{row-fits, rows-some, cells-some, cell-inside}
 use Rattle.standing.specs.Standing.{octetsLimit}
 use Rattle.strides.specs.declared.Spread.{Spread}
 use Rattle.strides.specs.Spread.{widthSpread, countSpread, placeSpread, liesSpread, bitsSpread, bitsFrom, laysIn}
-use Rattle.strides.specs.Walked.{bitsHere, blocked, Wide, InBlocks, Lies, Layable}
-use Rattle.strides.proofs.Walks.{bits-same}
+use Rattle.strides.specs.Walked.{bitsHere, spaced, blocked, Wide, InFile, InBlocks, Lies, Layable}
+use Rattle.strides.proofs.Walks.{bits-same, even-within, even-is}
 
 -- What is left of n behind b holds a where n holds both.
 pub rest-test : (a b n : ℕ) → b ≤ n → leb a (n - b) ≡ leb (a + b) n
@@ -150,6 +151,14 @@ module _ {size room : ℕ} {x : Spread} {n at : ℕ} (h : 0 < n) (k : Layable si
 
   pub whole-bits : (s : List ℕ) → bitsFrom (blocked (x .little) (widthSpread x) s (x .place + x .below) (x .block) (x .octets)) 0 n ≡ bitsFrom (bitsSpread s x) 0 n
   whole-bits s = rw (front, mod-eq-of-lt (block-some h k)) at (laid-bits h k s)
+
+  -- One to a block, they are a sequence apart.
+  module _ {w : ℕ} (one : x .block ≡ 1) (e : w ≡ widthSpread x) where
+    pub single-inside : InFile size (x .place + x .below) (x .octets) n w
+    single-inside = rw e (rw (zero-mul, add-zero) at (even-within size (x .place + x .below) 0 (x .block) (x .octets) (widthSpread x) n whole-blocks (inl (one, refl)) (width-wide _ (k .lies .wide))))
+
+    pub single-bits : (s : List ℕ) → spaced (x .little) w s (x .octets) (x .place + x .below) n ≡ bitsFrom (bitsSpread s x) 0 n
+    single-bits s = rw e ((rw (zero-mul, add-zero) at (even-is size (x .place + x .below) 0 (x .block) (x .octets) (widthSpread x) n whole-blocks (inl (one, refl)) (x .little) s)) ∙ whole-bits s)
 
 -- No samples leave a buffer as it is.
 pub no-bits : (g : ℕ → ℕ) (first n at : ℕ) {out : List ℕ} → n ≤ 0 → out ≡ sets out at (bitsFrom g first n)

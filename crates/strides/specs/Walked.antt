@@ -4,7 +4,7 @@ use mathlib.Core.Path.{_≡_}
 use mathlib.Core.List.{List, [], _∷_}
 use mathlib.Core.Bool.{Bool}
 use Prim.Native.Nat.{ℕ, zero, suc, _+_, _*_, _/_, _%_, _≤_, _<_}
-use lib.ListN.{take, drop}
+use lib.ListN.{take, drop, set}
 use Rattle.standing.specs.Standing.{octetsLimit}
 use Rattle.octets.specs.Number.{numberOf}
 use Rattle.strides.specs.declared.Spread.{Spread}
@@ -13,6 +13,11 @@ use Rattle.strides.specs.Spread.{widthSpread, countSpread}
 -- The bits of the sample of w octets that lies at p.
 abbrev pub bitsHere : Bool → ℕ → List ℕ → ℕ → ℕ
 bitsHere little w s p = numberOf little (take w (drop p s))
+
+-- The bits of four samples, each `step` octets after the one before it, stored from p on.
+abbrev pub fourLaid : Bool → ℕ → List ℕ → ℕ → ℕ → List ℕ → ℕ → List ℕ
+fourLaid little w s step q out p =
+    set (set (set (set out p (bitsHere little w s q)) (p + 1) (bitsHere little w s (q + step))) (p + 2) (bitsHere little w s (q + 2 * step))) (p + 3) (bitsHere little w s (q + 3 * step))
 
 -- The bits of n samples, each `step` octets after the one before it.
 unfoldable pub spaced : Bool → ℕ → List ℕ → ℕ → ℕ → ℕ → List ℕ

@@ -18,7 +18,7 @@ ghost use Rattle.octets.specs.Pick.{pick, both};
 ghost use Rattle.strides.specs.Spread.{countSpread, liesSpread, bitsSpread, bitsFrom, laysIn};
 ghost use Rattle.heads.specs.Answer.{mapAnswer, leftBy};
 ghost use Rattle.strides.specs.Channels.{readSays, spreadAt, spreadsFrom, allLie, sweptBits, sweptOf};
-ghost use Rattle.strides.specs.Walked.{bitsHere, spaced, blocked, Wide, InFile, InBlocks, Even, Layable};
+ghost use Rattle.strides.specs.Walked.{bitsHere, fourLaid, spaced, blocked, Wide, InFile, InBlocks, Even, Layable};
 use heads::Refusal;
 use standing::Standing;
 
@@ -218,23 +218,30 @@ fn run8(s: &[u8], from: usize, step: usize, n: usize, little: bool, out: &mut [u
     }
 }
 
-// The same, four samples a turn, and then those that are left. Tried for one octet and for eight, it gained nothing (docs/DECISIONS.md 76).
+// Four samples of two octets.
+fn turn2(s: &[u8], q: usize, step: usize, little: bool, out: &mut [u64], p: usize)
+    requires { ⌜ q + 3 * step + 2 ≤ length (now s) ⌝ }
+    requires { ⌜ p + 4 ≤ length (now out) ⌝ }
+    ensures { λ _. ⌜ now (out .exit) ≡ fourLaid «little» 2 (now (s .entry)) step q (now (out .entry)) p ⌝ }
+{
+    out[p] = two(s, q, little);
+    out[p + 1] = two(s, q + step, little);
+    out[p + 2] = two(s, q + 2 * step, little);
+    out[p + 3] = two(s, q + 3 * step, little);
+}
+
+// The same as `run2`, four samples a turn, and then those that are left. Tried for one octet and for eight, it gained nothing (docs/DECISIONS.md 76).
 fn fours2(s: &[u8], from: usize, step: usize, n: usize, little: bool, out: &mut [u64], at: usize)
     requires { ⌜ InFile (length (now s)) from step n 2 ⌝ }
     requires { ⌜ at + n ≤ length (now out) ⌝ }
     ensures { λ _. ⌜ now (out .exit) ≡ sets (now (out .entry)) at (spaced «little» 2 (now (s .entry)) step from n) ⌝ }
 {
-    let twice = 2 * step;
-    let thrice = 3 * step;
     let turn = 4 * step;
     let mut q = from;
     let mut p = at;
     let mut left = n;
     while 4 <= left {
-        out[p] = two(s, q, little);
-        out[p + 1] = two(s, q + step, little);
-        out[p + 2] = two(s, q + twice, little);
-        out[p + 3] = two(s, q + thrice, little);
+        turn2(s, q, step, little, out, p);
         p += 4;
         q += turn;
         left -= 4;
@@ -263,6 +270,25 @@ fn fours4(s: &[u8], from: usize, step: usize, n: usize, little: bool, out: &mut 
         left -= 4;
     }
     run4(s, q, step, left, little, out, p);
+}
+
+// `fours2` once more, for `lay_whole` alone: a loop that one function calls the compiler lays into that function (docs/DECISIONS.md 78).
+fn column2(s: &[u8], from: usize, step: usize, n: usize, little: bool, out: &mut [u64], at: usize)
+    requires { ⌜ InFile (length (now s)) from step n 2 ⌝ }
+    requires { ⌜ at + n ≤ length (now out) ⌝ }
+    ensures { λ _. ⌜ now (out .exit) ≡ sets (now (out .entry)) at (spaced «little» 2 (now (s .entry)) step from n) ⌝ }
+{
+    let turn = 4 * step;
+    let mut q = from;
+    let mut p = at;
+    let mut left = n;
+    while 4 <= left {
+        turn2(s, q, step, little, out, p);
+        p += 4;
+        q += turn;
+        left -= 4;
+    }
+    run2(s, q, step, left, little, out, p);
 }
 
 // The same for samples of any width. Where one lies right behind the other the compiler is told the step, and makes wide moves.
@@ -482,15 +508,23 @@ fn all_lie(size: usize, t: &[u64], q: Sequences, channels: u32) -> bool
     true
 }
 
-// The first n samples of a channel, from `at` on in the buffer.
+// The first n samples of a channel, from `at` on in the buffer. Samples of two octets, one to a block, have a loop here: frames of many channels have
+// few sequences, and finding the loop for any samples costs as much as a turn of it.
 fn lay_whole(s: &[u8], x: Spread, n: usize, out: &mut [u64], at: usize)
     requires { ⌜ Layable (length (now s)) (length (now out)) x 0 n at ⌝ }
     ensures { λ _. ⌜ now (out .exit) ≡ sets (now (out .entry)) at (bitsFrom (bitsSpread (now (s .entry)) x) 0 n) ⌝ }
 {
     if 0 < n {
+        let start = x.place + x.below as usize;
+        if x.block == 1 {
+            if values::width(x.datatype) == 2 {
+                column2(s, start, x.octets as usize, n, x.little, out, at);
+                return;
+            }
+        }
         fill(
             s,
-            x.place + x.below as usize,
+            start,
             0,
             x.block as usize,
             x.octets as usize,

@@ -1,48 +1,66 @@
--- A record that is up to date stays as it is, every other is stored anew.
-use Rattle.records.proofs.Refreshing.{renew-answers, renew-keeps, renew-stores}
+-- A record that is up to date stays as it is; every other takes over what the root has defined since.
+use mathlib.Core.Path.{_≡_, refl, _∙_, ap}
+use mathlib.Core.Logic.{⊎-elim}
+use native.Mathlib.Omega.{arith}
+use Rattle.octets.specs.Number.{lowOf}
+use Rattle.records.specs.Records.{settingsBy}
+use Rattle.records.proofs.Renewing.{renew-keeps, renew-stores}
 use borrow.Author.Needs.{needs}
 use Rattle.records.proofs.renew.Statement.{statement}
 use Rattle.records.proofs.renew.Tie as tie
 
-get-requires : tie.Need-get-requires
-get-requires c κs = search needs
+mul-i : tie.Need-mul-i
+mul-i c = search needs
 
-settle-requires : tie.Need-settle-requires
-settle-requires c κs = search needs
+word-requires : tie.Need-word-requires
+word-requires c κs = search needs
+
+four-requires : tie.Need-four-requires
+four-requires c κs = search needs
 
 same-length : tie.Need-same-length
 same-length c = search needs
 
 returns : tie.Need-returns
 returns c =
-    let a = c .before .before .before .before .before .before .before .before .before .before .args in
-    let is = renew-answers (a .t .now) (a .k) (a .root) (a .dates) (c .before .before .before .before .before .before .before .get .ensures) (c .before .before .before .before .before .before .settle .ensures) in
-    (is, renew-keeps (a .t .now) (a .k) (a .root) (a .dates) (c .before .before .before .before .before .before .before .get .ensures) (c .before .before .before .before .before .before .settle .ensures) (c .before .before .before .if1 .taken) (c .if2 .taken))
+    let at-if1 = c .before .before in
+    let at-four = at-if1 .before .before in
+    let a = at-four .before .before .before .before .args in
+    let at-is = at-four .four .ensures ∙ ap (lowOf 4) (at-four .before .word .ensures) in
+    renew-keeps (a .t .now) (a .k) (settingsBy (a .w .now)) (a .dates) (omega arith) at-is (at-if1 .if1 .taken) (c .if2 .taken)
 
-note-requires : tie.Need-note-requires
-note-requires c κs = search needs
+behind-from-requires : tie.Need-behind-from-requires
+behind-from-requires c κs = search needs
 
-put-requires : tie.Need-put-requires
-put-requires c κs = search needs
+overtake-requires : tie.Need-overtake-requires
+overtake-requires c κs = search needs
 
 same-length-2 : tie.Need-same-length-2
 same-length-2 c = search needs
 
 returns-2 : tie.Need-returns-2
 returns-2 c =
-    let a = c .before .before .before .before .before .before .before .before .before .before .before .before .args in
-    let is = renew-answers (a .t .now) (a .k) (a .root) (a .dates) (c .before .before .before .before .before .before .before .before .before .get .ensures) (c .before .before .before .before .before .before .before .before .settle .ensures) in
-    (is, renew-stores (a .t .now) (a .k) (a .root) (a .dates) (c .before .before .before .before .before .before .before .before .before .get .ensures) (c .before .before .before .before .before .before .before .before .settle .ensures) (c .before .before .before .note .ensures) (c .before .before .put .ensures))
+    let at-overtake = c .before .before in
+    let at-behind = at-overtake .before in
+    let at-joined = at-behind .before .before in
+    let at-four = at-joined .before .before in
+    let at-start = at-four .before .before .before .before in
+    let a = at-start .args in
+    let at-is = at-four .four .ensures ∙ ap (lowOf 4) (at-four .before .word .ensures) in
+    renew-stores (a .t .now) (a .k) (settingsBy (a .w .now)) (a .dates) (omega arith) at-is
+    (at-overtake .overtake .ensures) (at-start .pre .1 .1) (at-start .pre .1 .0) refl (at-behind .behind-from .ensures) (search needs)
+    (λ late now. ⊎-elim {C = ⊥} (λ p. p .2 .left now) (λ p. omega (arith, p .left, late)) (at-joined .if1 .came))
 
 pub renew-spec : {M : Type 1} → statement M
 renew-spec =
     tie.close
     (tie.spec
-    get-requires
-    settle-requires
+    mul-i
+    word-requires
+    four-requires
     same-length
     returns
-    note-requires
-    put-requires
+    behind-from-requires
+    overtake-requires
     same-length-2
     returns-2)
