@@ -8,6 +8,7 @@ ghost use mathlib.Core.Path.{_≡_};
 ghost use Prim.Native.Nat.{_+_, _*_, _≤_, _<_};
 ghost use lib.ListN.{length};
 ghost use Rattle.octets.specs.Pick.{both};
+ghost use Rattle.settings.specs.Settings.{lastResolutionUnit};
 ghost use Rattle.maker.specs.Given.{givenScale, givenAt, lastMantissa, within, exponentFits, scaleInTable, naturalOf, widthGiven, bitsFit, noNull};
 ghost use Rattle.maker.specs.Given.{numbersInTable, scalesInTable, bitsInTable, inTable, scaleMade, nullMade, settingsMade};
 ghost use Rattle.maker.specs.Rows.{numberAt, RowThere, RowsThere, measured};
@@ -216,7 +217,7 @@ fn row_fits(numbers: &[i64], bits: &[u64], i: usize) -> bool
 
 // A unit, an exponent and a mantissa that are in the table.
 fn scale(numbers: &[i64], at: usize, last: u64) -> Scale
-    requires { ⌜ (at + 2 < length (now numbers)) × (last < 256) × (scaleInTable last (givenScale (numberAt (now numbers)) at) ≡ true) ⌝ }
+    requires { ⌜ (at + 2 < length (now numbers)) × (last ≤ lastResolutionUnit) × (scaleInTable last (givenScale (numberAt (now numbers)) at) ≡ true) ⌝ }
     ensures { λ r. ⌜ r ≡ scaleMade (givenScale (numberAt (now (numbers .entry))) at) ⌝ }
 {
     Scale {

@@ -2,7 +2,7 @@
 --     Refreshing             the first i of n are
 --     refreshing-start, -room, -more, -all    none yet, there is a next one, one more, all
 -- Assumes nothing.
-use mathlib.Core.Path.{_≡_, refl, sym, ap, subst, _∙_}
+use mathlib.Core.Path.{_≡_, refl, sym, ap, _∙_}
 use mathlib.Core.Bool.{Bool, true, false}
 use mathlib.Core.Logic.{_⊎_, inl, inr}
 use mathlib.Core.List.{List}
@@ -16,7 +16,6 @@ use lib.ListN.{length, getD, set, length-set}
 use lib.Seq.{getD-set-same, getD-set-other, take-take}
 use Rattle.settings.specs.declared.Settings.{Settings}
 use Rattle.settings.specs.Settings.{channelLimit}
-use Rattle.dated.specs.declared.Dated.{Dated}
 use Rattle.dated.specs.declared.Dates.{Dates}
 use Rattle.dated.specs.Dated.{zeroDated, settledAt, upToDate, refreshed}
 use Rattle.dated.proofs.Tables.{table-long}

@@ -12,23 +12,22 @@ use mathlib.Core.List.{List}
 use Prim.Native.Nat.{ℕ, _+_, _*_, _^_, _≤_, _<_}
 use native.Mathlib.Decide.{decLe}
 use native.Mathlib.Omega.{arith}
-use borrow.Author.Tests.{eqb-true, eq-eqb, ne-eqb, ltb-true, lt-ltb, le-leb, leb-true, lt-leb}
-use lib.Dec.{T, eqb, ltb, leb}
+use borrow.Author.Tests.{eqb-true, eq-eqb, ltb-true, lt-ltb}
+use lib.Dec.{T}
 use lib.IntN.{ℤ, pos, negsuc}
 use lib.ListN.{length}
-use lib.Signed.{_≤ℤ_, leZ}
+use lib.Signed.{leZ}
 use Rattle.octets.specs.Pick.{both, either}
-use Rattle.octets.proofs.Pick.{both-split, either-true}
+use Rattle.octets.proofs.Pick.{both-split}
 use Rattle.heads.specs.Refusals.{noRoom, settingRange, samplesLength}
 use Rattle.heads.specs.Answer.{Answer, answered, refusedAs}
-use Rattle.settings.specs.Settings.{channelLimit, blockLimit, lastDataType, lastIntervalUnit, lastResolutionUnit}
+use Rattle.settings.specs.Settings.{blockLimit, lastDataType, lastIntervalUnit, lastResolutionUnit}
 use Rattle.layout.specs.Frame.{samplesOctets}
 use Rattle.standing.specs.Standing.{octetsLimit}
 use Rattle.framing.specs.Framing.{pointerFits}
 use Rattle.canonical.specs.Canonical.{frameOctets}
-use Rattle.outputs.specs.Outputs.{attributeNumbers}
-use Rattle.maker.specs.Given.{GivenScale, Given, bitNumbers, givenAt, givensIn, lastCode, lastMantissa, within, exponentFits, scaleInTable, widthGiven, bitsFit, noNull, numbersInTable, scalesInTable, bitsInTable, inTable, allInTable}
-use Rattle.maker.specs.Make.{Making, lastSequences, frameInTable, settingsFit, channelsIn, samplesFit, recordMade, orderOctets, roomFits, madeIn}
+use Rattle.maker.specs.Given.{GivenScale, Given, bitNumbers, givenAt, lastCode, lastMantissa, within, exponentFits, scaleInTable, widthGiven, bitsFit, noNull, numbersInTable, scalesInTable, bitsInTable, inTable}
+use Rattle.maker.specs.Make.{Making, settingsFit, channelsIn, samplesFit, recordMade, orderOctets, roomFits, madeIn}
 use Rattle.maker.proofs.Channels.{all-fit, fit-at}
 use Rattle.maker.proofs.Makes.{frame-split, frame-by-bits, all-inside, settings-split, setting-refused, samples-refused, room-refused, made-answered, room-yes, room-short, room-limit}
 use Rattle.theorems.specs.Making.{Between, ScaleAllowed, ChannelAllowed, Allowed, SamplesExact, Passes, MadeExactly}

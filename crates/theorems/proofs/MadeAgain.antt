@@ -5,22 +5,21 @@
 --     record-again     a frame that is made of a frame of a recording is that frame
 --     made-again       so is each frame of the canonical file
 -- Assumes nothing.
-use mathlib.Core.Path.{_≡_, refl, sym, ap, ap₂, _∙_, subst}
+use mathlib.Core.Path.{_≡_, refl, sym, ap, _∙_}
 use mathlib.Core.Logic.{_⊎_, inl, inr}
-use mathlib.Core.Bool.{Bool, true, false}
+use mathlib.Core.Bool.{true, false}
 use mathlib.Core.List.{List, [], _∷_, _++_, map}
 use Prim.Native.Nat.{ℕ, zero, suc, _+_, _*_, _^_, _≤_, _<_}
 use native.Mathlib.Omega.{arith}
 use borrow.Author.Tests.{le-leb, eq-eqb, ne-eqb}
-use lib.Dec.{lit<, leb}
+use lib.Dec.{lit<}
 use lib.IntN.{ℤ, pos, negsuc}
 use lib.ListN.{length, getD, length-append, List·getD-append}
 use lib.Seq.{getD-append-add}
 use lib.Signed.{mag}
 use Rattle.octets.specs.Number.{Octets}
-use Rattle.octets.specs.Pick.{pick, both, either}
+use Rattle.octets.specs.Pick.{pick, either}
 use Rattle.heads.specs.Answer.{answered}
-use Rattle.values.specs.declared.Bits.{Bits}
 use Rattle.settings.specs.declared.Scale.{Scale}
 use Rattle.settings.specs.declared.Settings.{Settings}
 use Rattle.settings.specs.Settings.{zeroSettings, blockLimit, lastDataType, lastIntervalUnit, lastResolutionUnit}
@@ -28,7 +27,7 @@ use Rattle.layout.specs.Frame.{widthIn, samplesOctets, channelIn}
 use Rattle.standing.specs.Standing.{octetsLimit}
 use Rattle.verdict.specs.Verdict.{accepted, verdict}
 use Rattle.layout.specs.Frame.{Frame}
-use Rattle.canonical.specs.Recording.{Recorded, tabulate, recordedFrame, recording}
+use Rattle.canonical.specs.Recording.{Recorded, tabulate, recordedFrame}
 use Rattle.canonical.specs.Canonical.{waveformOf, frameOctets, framesOctets, canonical}
 use Rattle.canonical.specs.Write.{recordingOf, canonicalOf}
 use Rattle.canonical.proofs.Good.{GoodScale, GoodReported, AllReported, GoodRecorded, AllRecorded}
@@ -36,7 +35,7 @@ use Rattle.canonical.proofs.Effects.{width-good}
 use Rattle.canonical.proofs.Recordings.{frameOf, waveform-long, tabulate-is, recorded-back}
 use Rattle.canonical.proofs.Accepted.{accepted-recorded}
 use Rattle.outputs.specs.Outputs.{attributeNumbers, numbersOf, bitPairOf}
-use Rattle.maker.specs.Given.{Given, GivenScale, bitNumbers, givenAt, givensIn, lastCode, lastMantissa, within, exponentFits, scaleInTable, naturalOf, widthGiven, bitsFit, noNull, numbersInTable, scalesInTable, bitsInTable, inTable, scaleMade, bitsMade, nullMade, settingsMade, channelsMade}
+use Rattle.maker.specs.Given.{Given, GivenScale, bitNumbers, givenAt, lastCode, lastMantissa, within, exponentFits, scaleInTable, bitsFit, noNull, numbersInTable, scalesInTable, bitsInTable, inTable, bitsMade, nullMade, settingsMade}
 use Rattle.maker.specs.Make.{Making, settingsFit, samplesFit, channelsIn, frameMade, recordMade, orderOctets, madeIn}
 use Rattle.maker.proofs.Channels.{all-fit}
 use Rattle.maker.proofs.Makes.{frame-by-bits, all-inside, made-answered, room-yes}

@@ -9,26 +9,23 @@ use mathlib.Core.Logic.{_⊎_, inl, inr}
 use mathlib.Core.Bool.{Bool, true, false}
 use mathlib.Core.List.{List, [], _∷_, _++_, map}
 use Prim.Native.Nat.{ℕ, zero, suc, _^_, _≤_, _<_}
-use native.Mathlib.Nat.{not-suc-le-zero, le-of-suc-le-suc}
 use native.Mathlib.Omega.{arith}
 use lib.IntN.{ℤ, pos, negsuc}
 use lib.ListN.{length, getD, length-map}
 use Rattle.octets.specs.Number.{Octets}
-use Rattle.octets.specs.Pick.{pick, both, either}
+use Rattle.octets.specs.Pick.{pick, either}
 use Rattle.octets.proofs.Pick.{both-split}
-use Rattle.heads.specs.Answer.{answered}
 use Rattle.values.specs.declared.Bits.{Bits}
 use Rattle.settings.specs.declared.Settings.{Settings}
 use Rattle.settings.specs.Settings.{blockLimit, lastDataType, lastIntervalUnit, lastResolutionUnit}
 use Rattle.definitions.specs.Define.{bitsLength}
-use Rattle.layout.specs.Frame.{Frame, widthIn, channelIn, samplesOf, reported}
+use Rattle.layout.specs.Frame.{widthIn, samplesOf}
 use Rattle.laid.specs.Laid.{Named, sampleBits}
 use Rattle.standing.specs.Standing.{octetsLimit, framesLimit}
-use Rattle.verdict.specs.Verdict.{checkOf}
 use Rattle.verdict.proofs.Every.{Every}
 use Rattle.reader.proofs.Good.{GoodSettings, GoodFrame}
 use Rattle.reader.proofs.Checks.{check-accepted}
-use Rattle.canonical.specs.Recording.{Recorded, tabulate, recordedFrame, recording}
+use Rattle.canonical.specs.Recording.{Recorded, tabulate, recordedFrame}
 use Rattle.canonical.specs.Canonical.{waveformOf, frameOctets, framesOctets, canonical}
 use Rattle.canonical.specs.Write.{recordingOf, canonicalOf}
 use Rattle.canonical.proofs.Good.{GoodScale, GoodReported, AllReported, GoodRecorded, AllRecorded}
@@ -39,9 +36,9 @@ use Rattle.canonical.proofs.ReadBack.{Reads, read-back}
 use Rattle.maker.specs.Given.{GivenScale, Given, givenAt, lastCode, lastMantissa, within, naturalOf, widthGiven, scaleInTable, bitsFit, noNull, numbersInTable, bitsInTable, inTable, allInTable, scaleMade, bitsMade, nullMade, settingsMade}
 use Rattle.maker.specs.Make.{Making, settingsFit, samplesFit, channelsIn, frameMade, recordMade}
 use Rattle.maker.proofs.Numbers.{within-low, within-high, exponent-small}
-use Rattle.maker.proofs.Channels.{NumbersFit, numbers-split, ScaleFits, scale-split, RowFits, row-split, fit-at, made-long, made-at}
+use Rattle.maker.proofs.Channels.{numbers-split, ScaleFits, scale-split, row-split, fit-at, made-long, made-at}
 use Rattle.maker.proofs.Makes.{frame-split, settings-split, made-lies, made-waveform}
-use Rattle.theorems.specs.Told.{frameRecorded, zeroRecorded}
+use Rattle.theorems.specs.Told.{zeroRecorded}
 use Rattle.theorems.specs.Making.{MadeFrame, AllMade, joined, fileOf, ScaleSays, ChannelSays, WentIn, noMaking, ReadsBack}
 use Rattle.theorems.proofs.Canonical.{recording-is, recording-long}
 use Rattle.theorems.proofs.Allowed.{allowed-by, samples-by, bits-by, none-by, made-exactly}

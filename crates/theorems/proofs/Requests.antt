@@ -18,7 +18,7 @@ use Rattle.maker.specs.Make.{Making, recordMade, madeIn, Made}
 use Rattle.mfer.specs.Answers.{MadeOut}
 use Rattle.theorems.specs.Making.{MadeExactly, MadeFrame, AllMade, fileOf, ReadsBack, MadeAgain}
 use Rattle.theorems.proofs.Allowed.{made-exactly}
-use Rattle.theorems.proofs.MadeFiles.{Known, made-known, made-read}
+use Rattle.theorems.proofs.MadeFiles.{made-known, made-read}
 use Rattle.theorems.proofs.MadeAgain.{made-again}
 use Rattle.theorems.proofs.Canonical.{recording-is, out-is}
 

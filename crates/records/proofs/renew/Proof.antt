@@ -1,5 +1,5 @@
 -- A record that is up to date stays as it is; every other takes over what the root has defined since.
-use mathlib.Core.Path.{_≡_, refl, _∙_, ap}
+use mathlib.Core.Path.{refl, _∙_, ap}
 use mathlib.Core.Logic.{⊎-elim}
 use native.Mathlib.Omega.{arith}
 use Rattle.octets.specs.Number.{lowOf}
