@@ -40,6 +40,7 @@ pub record Given : Type 0 where
 abbrev pub bitNumbers : ℕ
 bitNumbers = 2
 
+-- Its numbers are three behind each other in a row, from a on.
 abbrev pub givenScale : (ℕ → ℤ) → ℕ → GivenScale
 givenScale g a = record { unit = g a; exponent = g (a + 1); mantissa = g (a + 2) }
 
@@ -128,12 +129,14 @@ bitsInTable g = both (bitsFit (widthGiven g) (g .offset)) (either (noNull (g .nu
 unfoldable pub inTable : Given → Bool
 inTable g = both (numbersInTable g) (both (scalesInTable g) (bitsInTable g))
 
+-- So it is of every channel.
 unfoldable pub allInTable : List Given → Bool
 allInTable [] = true
 allInTable (g ∷ gs) = both (inTable g) (allInTable gs)
 
 -- ---- settings
 
+-- A unit, an exponent and a mantissa that are in the table.
 abbrev pub scaleMade : GivenScale → Scale
 scaleMade x = record { unit = naturalOf (x .unit); exponent = x .exponent; mantissa = x .mantissa }
 

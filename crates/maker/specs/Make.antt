@@ -2,7 +2,7 @@
 use mathlib.Core.Path.{_≡_}
 use mathlib.Core.Bool.{Bool, false}
 use mathlib.Core.List.{List}
-use Prim.Native.Nat.{ℕ, _+_, _*_, _≤_}
+use Prim.Native.Nat.{ℕ, _+_, _*_}
 use lib.Dec.{eqb, leb}
 use lib.IntN.{ℤ}
 use lib.ListN.{length}
@@ -29,6 +29,7 @@ pub record Making : Type 0 where
   pub bits : List ℕ
   pub samples : List ℕ
 
+-- The same of its parts, in the order in which they are handed over.
 abbrev pub making : ℤ → ℕ → ℕ → List ℤ → List ℕ → List ℕ → Making
 making start sequences channels numbers bits samples =
     record { start = start; sequences = sequences; channels = channels; numbers = numbers; bits = bits; samples = samples }

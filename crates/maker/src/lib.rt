@@ -11,7 +11,6 @@ ghost use Prim.Native.Nat.{_+_, _*_, _≤_};
 ghost use lib.ListN.{length};
 ghost use Rattle.stores.specs.Storing.{Put};
 ghost use Rattle.heads.specs.Answer.{refusedAs};
-ghost use Rattle.settings.specs.Settings.{channelLimit};
 ghost use Rattle.standing.specs.Standing.{octetsLimit};
 ghost use Rattle.layout.specs.Frame.{samplesOctets, reported};
 ghost use Rattle.layout.specs.Size.{groupsSize, frameSize};
@@ -30,6 +29,9 @@ use settings::Settings;
 use standing::Standing;
 
 mod rows;
+
+// The octets of a file ahead of its first frame, 01 01 00.
+const ORDER: usize = 3;
 
 // Start pointer, sequences and channel count are in the table, and there are as many rows as channels.
 fn frame_fits(start: i64, sequences: u64, channels: u64, numbers: usize, bits: usize) -> bool
@@ -124,7 +126,7 @@ pub fn make_frame(
         return refused(Refusal::NO_ROOM);
     }
     let size = layout::frame_size(sequences as u32, l.groups as u32, samples.len() as u32) as usize;
-    if Standing::OCTETS - 3 < size {
+    if Standing::OCTETS - ORDER < size {
         return refused(Refusal::NO_ROOM);
     }
     if out.len() < size {

@@ -40,27 +40,27 @@ use Rattle.maker.specs.Make.{Making, settingsFit, samplesFit, channelsIn, frame
 use Rattle.maker.proofs.Channels.{all-fit}
 use Rattle.maker.proofs.Makes.{frame-by-bits, all-inside, made-answered, room-yes}
 use Rattle.theorems.specs.Told.{attributesRecorded, zeroRecorded}
-use Rattle.theorems.specs.Making.{joined, fileOf, rowsOf, bitRowsOf, makingOf, MadeAgain}
+use Rattle.theorems.specs.Making.{concatenated, fileOf, rowsOf, bitRowsOf, makingOf, MadeAgain}
 use Rattle.theorems.proofs.Canonical.{recording-is}
 use Rattle.theorems.proofs.Allowed.{bits-by, samples-by}
 
 -- ---- rows one behind the other
 
 module _ {A : Type 0} (w : ℕ) where
-  rows-long : (k : ℕ) (g : ℕ → List A) → ((i : ℕ) → length (g i) ≡ w) → length (joined (tabulate k g)) ≡ k * w
+  rows-long : (k : ℕ) (g : ℕ → List A) → ((i : ℕ) → length (g i) ≡ w) → length (concatenated (tabulate k g)) ≡ k * w
   unfolding tabulate
   rows-long zero g l = omega arith
-  rows-long (suc k) g l = length-append (g 0) (joined (tabulate k (λ i. g (suc i)))) ∙ omega (arith, l 0, rows-long k (λ i. g (suc i)) (λ i. l (suc i)))
+  rows-long (suc k) g l = length-append (g 0) (concatenated (tabulate k (λ i. g (suc i)))) ∙ omega (arith, l 0, rows-long k (λ i. g (suc i)) (λ i. l (suc i)))
 
-  rows-at : (k : ℕ) (g : ℕ → List A) → ((i : ℕ) → length (g i) ≡ w) → (i a : ℕ) (d : A) → i < k → a < w → getD (joined (tabulate k g)) (i * w + a) d ≡ getD (g i) a d
+  rows-at : (k : ℕ) (g : ℕ → List A) → ((i : ℕ) → length (g i) ≡ w) → (i a : ℕ) (d : A) → i < k → a < w → getD (concatenated (tabulate k g)) (i * w + a) d ≡ getD (g i) a d
   unfolding tabulate
   rows-at zero g l i a d h q = let z : ⊥ = omega arith in absurd z
   rows-at (suc k) g l zero a d h q =
       let e : 0 * w + a ≡ a = omega arith in
-      rw e (List·getD-append (g 0) (joined (tabulate k (λ i. g (suc i)))) d a (omega (arith, l 0)))
+      rw e (List·getD-append (g 0) (concatenated (tabulate k (λ i. g (suc i)))) d a (omega (arith, l 0)))
   rows-at (suc k) g l (suc i) a d h q =
       let e : suc i * w + a ≡ length (g 0) + (i * w + a) = omega (arith, l 0) in
-      rw e (getD-append-add (g 0) (joined (tabulate k (λ j. g (suc j)))) (i * w + a) d ∙ rows-at k (λ j. g (suc j)) (λ j. l (suc j)) i a d (omega arith) q)
+      rw e (getD-append-add (g 0) (concatenated (tabulate k (λ j. g (suc j)))) (i * w + a) d ∙ rows-at k (λ j. g (suc j)) (λ j. l (suc j)) i a d (omega arith) q)
 
 -- ---- the row of a channel
 
@@ -251,7 +251,7 @@ piece-short [] i h = let z : ⊥ = omega arith in absurd z
 piece-short (r ∷ rs) zero h = omega (arith, length-append (frameOctets r) (framesOctets rs))
 piece-short (r ∷ rs) (suc i) h = omega (arith, length-append (frameOctets r) (framesOctets rs), piece-short rs i (omega arith))
 
-pieces : (rs : List Recorded) → framesOctets rs ≡ joined (map frameOctets rs)
+pieces : (rs : List Recorded) → framesOctets rs ≡ concatenated (map frameOctets rs)
 unfolding framesOctets
 pieces [] = refl
 pieces (r ∷ rs) = ap (λ (x : List ℕ). frameOctets r ++ x) (pieces rs)

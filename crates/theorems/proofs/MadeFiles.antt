@@ -39,7 +39,7 @@ use Rattle.maker.proofs.Numbers.{within-low, within-high, exponent-small}
 use Rattle.maker.proofs.Channels.{numbers-split, ScaleFits, scale-split, row-split, fit-at, made-long, made-at}
 use Rattle.maker.proofs.Makes.{frame-split, settings-split, made-lies, made-waveform}
 use Rattle.theorems.specs.Told.{zeroRecorded}
-use Rattle.theorems.specs.Making.{MadeFrame, AllMade, joined, fileOf, ScaleSays, ChannelSays, WentIn, noMaking, ReadsBack}
+use Rattle.theorems.specs.Making.{MadeFrame, AllMade, concatenated, fileOf, ScaleSays, ChannelSays, WentIn, noMaking, ReadsBack}
 use Rattle.theorems.proofs.Canonical.{recording-is, recording-long}
 use Rattle.theorems.proofs.Allowed.{allowed-by, samples-by, bits-by, none-by, made-exactly}
 
@@ -249,7 +249,7 @@ all-recorded (m ∷ ms) (o ∷ os) p = (made-known (p .0) .good, all-recorded ms
 all-recorded [] (o ∷ os) p = absurd p
 all-recorded (m ∷ ms) [] p = absurd p
 
-frames-are : (ms : List Making) (os : List (List ℕ)) → AllMade ms os → joined os ≡ framesOctets (map recordMade ms)
+frames-are : (ms : List Making) (os : List (List ℕ)) → AllMade ms os → concatenated os ≡ framesOctets (map recordMade ms)
 unfolding framesOctets
 frames-are [] [] p = refl
 frames-are (m ∷ ms) (o ∷ os) p = ap₂ _++_ (made-known (p .0) .is) (frames-are ms os (p .1))

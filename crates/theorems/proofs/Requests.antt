@@ -65,8 +65,9 @@ again {s} w =
 
 -- ---- request 1
 
--- "Our own recorder needs to make a file: the settings of one frame and its samples, big-endian and in file order, go in; the frame comes out as the canonical
--- file has it. A file is 01 01 00 and 1 to 4,096 frames, within 15's limit. Reading what was written gives the settings and samples again."
+-- "Our own recorder needs to make a file: the settings of one frame (start pointer, sequences, 1 to 256 channels with their attributes) and its samples, big-endian and
+-- in file order, go in; the frame comes out as the canonical file has it. A file is 01 01 00 and 1 to 4,096 frames, within 15's limit. Reading what was written gives the
+-- settings and samples again. Sequences may be 0, with no samples."
 pub record RequestOne : Type 0 where
   -- "24 a setting outside 01's table or bits wider than the sample, 25 sample octets not exactly sequences times G, then 23 where the frame passes the buffer, or with
   -- 01 01 00 before it 15's limit." That the buffer is unchanged is said in demand 1.

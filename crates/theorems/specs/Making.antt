@@ -94,13 +94,13 @@ AllMade [] (o ∷ os) = ⊥
 AllMade (m ∷ ms) [] = ⊥
 
 -- Lists one behind the other.
-abbrev pub joined : {A : Type 0} → List (List A) → List A
-joined [] = []
-joined (x ∷ xs) = x ++ joined xs
+abbrev pub concatenated : {A : Type 0} → List (List A) → List A
+concatenated [] = []
+concatenated (x ∷ xs) = x ++ concatenated xs
 
--- "A file is 01 01 00 and 1 to 4,096 frames."
+-- "A file is 01 01 00 and 1 to 4,096 frames, within 15's limit": 01 01 00 and frames. How many, and the limit, stand where files are spoken of.
 abbrev pub fileOf : List (List ℕ) → List ℕ
-fileOf os = 0x01 ∷ 0x01 ∷ 0x00 ∷ joined os
+fileOf os = 0x01 ∷ 0x01 ∷ 0x00 ∷ concatenated os
 
 -- ---- what went in
 
@@ -150,10 +150,11 @@ pub record ReadsBack (ms : List Making) (s : List ℕ) : Type 0 where
 
 -- A row for each channel of a frame of a recording, as the attributes are told.
 abbrev pub rowsOf : Recorded → List ℤ
-rowsOf r = joined (tabulate (length (r .channels)) (λ c. numbersOf (attributesRecorded c r)))
+rowsOf r = concatenated (tabulate (length (r .channels)) (λ c. numbersOf (attributesRecorded c r)))
 
+-- And of its offset's and null's bits.
 abbrev pub bitRowsOf : Recorded → List ℕ
-bitRowsOf r = joined (tabulate (length (r .channels)) (λ c. bitPairOf (attributesRecorded c r)))
+bitRowsOf r = concatenated (tabulate (length (r .channels)) (λ c. bitPairOf (attributesRecorded c r)))
 
 -- What is handed to the maker of a frame's recorded settings and sample bits.
 abbrev pub makingOf : Recorded → Making
