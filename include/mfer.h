@@ -190,8 +190,8 @@ extern "C" {
  * Refusals: MFER_REFUSALS(X) is X(constant, number, words) for each. The words are those of documents
  * 01 and 02; document 01's table of attributes has the lengths and values of each tag. Where several
  * apply to a file, 15 comes first; then the first refused item in file order decides, and within an
- * item the order 1, 5, channel number (4 or 3 as met), 2, 3, 9, 8, 6, 7; at a waveform 11, 12, 13, 14. Where
- * several apply to a frame that is to be made, the order is 24, 25, 23.
+ * item the order 1, 5, channel number (4 or 3 as met), 2, 3, 9, 8, 6, 7; at a waveform 11, 12, 13,
+ * 14. Where several apply to a frame that is to be made, the order is 24, 25, 23.
  */
 #define MFER_REFUSALS(X) \
     X(MFER_CONTEXT_TAG, 1, "context tag other than 3Fh") \
