@@ -7,7 +7,8 @@
 // Refusal comes first: one pass over the rows tests every setting and sums up the layout, so that the size is known before the first octet is stored.
 // A second one stores the groups, by the functions that crate frames stores them by. No table of records is made.
 ghost use mathlib.Core.Path.{_≡_};
-ghost use Prim.Native.Nat.{_+_, _*_, _≤_};
+ghost use mathlib.Core.List.{map};
+ghost use Prim.Native.Nat.{_+_, _≤_};
 ghost use lib.ListN.{length};
 ghost use Rattle.stores.specs.Storing.{Put};
 ghost use Rattle.heads.specs.Answer.{refusedAs};
@@ -17,7 +18,6 @@ ghost use Rattle.layout.specs.Size.{groupsSize, frameSize};
 ghost use Rattle.groups.specs.Group.{groupsOctets};
 ghost use Rattle.frames.specs.Parts.{frameParts};
 ghost use Rattle.canonical.specs.Write.{writtenSays};
-ghost use mathlib.Core.List.{map};
 ghost use Rattle.maker.specs.Given.{channelsMade};
 ghost use Rattle.maker.specs.Rows.{RowsFit};
 ghost use Rattle.maker.specs.Make.{making, frameInTable, Made};

@@ -5,7 +5,7 @@
 // Read first: specs/Given.antt.
 ghost use mathlib.Core.Bool.{true};
 ghost use mathlib.Core.Path.{_≡_};
-ghost use Prim.Native.Nat.{_+_, _*_, _≤_, _<_};
+ghost use Prim.Native.Nat.{_+_, _≤_, _<_};
 ghost use lib.ListN.{length};
 ghost use Rattle.octets.specs.Pick.{both};
 ghost use Rattle.settings.specs.Settings.{lastResolutionUnit};
