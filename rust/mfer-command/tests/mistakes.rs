@@ -258,6 +258,12 @@ fn settings_out_of_range() {
             "channels 18446744073709551615",
         ),
         (&"channel\n".repeat(257), 1, "channels 257"),
+        (&"channel\nlead 1\n".repeat(9999), 1, "channels 9999"),
+        (
+            &("channels 300\n".to_string() + &"channel\n".repeat(300)),
+            2,
+            "channels 300",
+        ),
         ("lead 1\nblock 0\n", 3, "block 0"),
         ("block 1048577\n", 2, "block 1048577"),
         ("interval 0 Hz\n", 2, "interval 0 Hz"),
@@ -423,12 +429,37 @@ fn octets_where_numbers_are_expected() {
     assert_eq!(samples_fail("frame\n", [0; 5000], false), (words.into(), 2));
 }
 
-/// 11.
+/// 11, before anything is read behind that frame's line.
 #[test]
 fn frames_4097() {
-    let settings = "frame\nsequences 0\n".repeat(4097);
     let words = "frame 4096: refused 11 at 0: a frame after 4,096 frames";
-    assert_eq!(settings_fail(settings), (words.into(), 1));
+    let most = "frame\nsequences 0\n".repeat(4096);
+    for more in ["frame", "frame\nsequences 0\n", "frame 1\nblock x\n"] {
+        let answer = settings_fail(most.clone() + more);
+        assert_eq!(answer, (words.into(), 1), "{more}");
+    }
+    // What is wrong in a frame before it is said first.
+    let (words, status) = settings_fail(most.clone() + "block 0\nframe\n");
+    let line = "line 8193: frame 4095: refused 24 ";
+    assert!(words.starts_with(line) && status == 1, "{words}");
+    let tried = Try::new(most, "");
+    assert_eq!(run(&mut tried.command()).2, 0);
+}
+
+/// What is read of a frame with many channels, and of many wrong lines, does not fill memory.
+#[test]
+fn long_texts_are_not_kept() {
+    let channels = format!("frame\n{}", "channel\n".repeat(1_000_000));
+    let (words, status) = settings_fail(channels);
+    assert!(words.ends_with("found '1000000'"), "{words}");
+    assert!(words.starts_with("line 1: frame 0: refused 24 "), "{words}");
+    assert_eq!(status, 1);
+    let frames = "frame\nsequences 0\nchannels 256\n".to_string();
+    let (words, _) = settings_fail(frames + &"frame\nsequences 0\n".repeat(1_000_000));
+    assert!(words.starts_with("frame 4096: refused 11 "), "{words}");
+    let (words, status) = settings_fail(format!("frame\n{}", "x\n".repeat(1_000_000)));
+    assert!(words.starts_with("line 2: expected one of "), "{words}");
+    assert_eq!(status, 2);
 }
 
 /// 15. MFER_SKIP_LARGE skips it.

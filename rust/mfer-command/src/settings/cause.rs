@@ -41,7 +41,7 @@ fn in_frame(draft: &Draft, settings: &FrameSettings) -> Option<Wrong> {
         let found = sequences.to_string();
         Some(wrong(&draft.sequences, "sequences", SEQUENCES, found))
     } else if refused(0, 0, defaults(count)) {
-        let found = count.to_string();
+        let found = draft.lines.to_string();
         Some(wrong(&draft.channels, "channels", CHANNELS, found))
     } else {
         None
