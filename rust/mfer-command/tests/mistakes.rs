@@ -224,6 +224,34 @@ fn the_first_wrong_line_is_said() {
     let (words, status) = settings_fail("frame\nsequences 1\nblock 0\nframe\nblock x\n");
     assert!(words.starts_with("line 3: frame 0: refused 24 "), "{words}");
     assert_eq!(status, 1);
+    // Settings that the library refuses, and lines that cannot be read.
+    for (lines, found) in [
+        ("null 0x10000\nblock 0\n", "null: "),
+        ("block 0\nnull 0x10000\n", "block: "),
+        ("block 0\nstart 2147483648\n", "block: "),
+        ("start 2147483648\nblock 0\n", "start: "),
+        ("channels 257\nsequences 4294967296\n", "channels: "),
+        ("interval 0 Hz\nchannel\nblock 0\n", "interval: "),
+        ("block 0\nnull x\n", "block: "),
+        ("block 0\ncolour red\n", "block: "),
+    ] {
+        let (words, status) = settings_fail(format!("frame\n{lines}"));
+        assert!(words.starts_with("line 2: frame 0: refused 24 "), "{words}");
+        assert!(words.contains(found) && status == 1, "{words}");
+    }
+    let (words, status) = settings_fail("frame\nnull x\nblock 0\n");
+    assert!(words.starts_with("line 2: null: "), "{words}");
+    assert_eq!(status, 2);
+    // Of a channel that comes later, in an earlier line: one that holds for both.
+    let settings = "frame\nnull 0x8000\nchannel\nblock 0\nchannel\ntype 5\n";
+    let (words, _) = settings_fail(settings);
+    assert!(words.starts_with("line 2: frame 0: refused 24 "), "{words}");
+    // What goes by the type is not wrong where that cannot be read.
+    for null in ["0x10000", "40000", "1.5"] {
+        let (words, status) = settings_fail(format!("frame\nnull {null}\ntype x\n"));
+        assert!(words.starts_with("line 3: type: "), "{words}");
+        assert_eq!(status, 2);
+    }
 }
 
 #[test]
@@ -446,20 +474,30 @@ fn frames_4097() {
     assert_eq!(run(&mut tried.command()).2, 0);
 }
 
-/// What is read of a frame with many channels, and of many wrong lines, does not fill memory.
+/// Long texts of many frames, channels or wrong lines are read in 150,000 KiB of memory.
+#[cfg(target_os = "linux")]
 #[test]
-fn long_texts_are_not_kept() {
-    let channels = format!("frame\n{}", "channel\n".repeat(1_000_000));
-    let (words, status) = settings_fail(channels);
-    assert!(words.ends_with("found '1000000'"), "{words}");
-    assert!(words.starts_with("line 1: frame 0: refused 24 "), "{words}");
-    assert_eq!(status, 1);
-    let frames = "frame\nsequences 0\nchannels 256\n".to_string();
-    let (words, _) = settings_fail(frames + &"frame\nsequences 0\n".repeat(1_000_000));
-    assert!(words.starts_with("frame 4096: refused 11 "), "{words}");
-    let (words, status) = settings_fail(format!("frame\n{}", "x\n".repeat(1_000_000)));
-    assert!(words.starts_with("line 2: expected one of "), "{words}");
-    assert_eq!(status, 2);
+fn long_texts_do_not_fill_memory() {
+    const LINES: usize = 1_000_000;
+    for (first, lines, words, status) in [
+        (
+            "frame\nchannels 256\nsequences 0\n",
+            "frame\nsequences 0\n",
+            "frame 4096: refused 11 ",
+            1,
+        ),
+        ("frame\n", "channel\n", "line 1: frame 0: refused 24 ", 1),
+        ("frame\n", "channel x\n", "line 1: frame 0: refused 24 ", 1),
+        ("frame\n", "x\n", "line 2: expected one of ", 2),
+    ] {
+        let tried = Try::new(first.to_string() + &lines.repeat(LINES), "");
+        let command = tried.command();
+        let mut limited = Command::new("sh");
+        limited.args(["-c", "ulimit -v 150000 && exec \"$@\"", "sh"]);
+        limited.arg(command.get_program()).args(command.get_args());
+        let (said, exit) = tried.fails("settings", &mut limited);
+        assert!(said.starts_with(words) && exit == status, "{said}");
+    }
 }
 
 /// 15. MFER_SKIP_LARGE skips it.

@@ -187,15 +187,16 @@ impl Draft {
             let words = "sequences: expected in every frame but the last, found nothing";
             self.wrong.add(Wrong::new(self.line, words.into()));
         }
-        if let Some(first) = self.wrong.0 {
-            return Err(first);
+        if let Some(refusal) = cause::refusal(&described.settings) {
+            let cause = cause::cause(&self, &described.settings);
+            self.wrong.add(Wrong {
+                refusal: Some(refusal),
+                ..cause
+            });
         }
-        match cause::refusal(&described.settings) {
+        match self.wrong.0 {
             None => Ok(described),
-            refusal => Err(Wrong {
-                refusal,
-                ..cause::cause(&self, &described.settings)
-            }),
+            Some(first) => Err(first),
         }
     }
 
