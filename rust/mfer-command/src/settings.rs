@@ -45,7 +45,7 @@ pub const SETTINGS: [Setting; COUNT] = [
         expected: "a code from 0 to 65535, its name in this class, or both",
         write: |channel| names::named(channel.lead, names::lead(channel.class, channel.lead)),
         read: |text, channel| {
-            let lead = names::code(text, |code| names::lead(channel.class, code));
+            let lead = names::lead_of(channel.class, text);
             set(&mut channel.lead, lead)
         },
     },
