@@ -443,14 +443,20 @@ fn long_make(course: &mut Course) {
     let (numbers, bits) = rows(&file, 1);
     let samples = &file[file.len() - files::WAVEFORM..];
     let sequences = files::WAVEFORM as u64 / 2;
+    let make = |out: &mut [u8]| {
+        let samples = black_box(samples);
+        let made = ffi::make_frame(0, sequences, 1, &numbers, &bits, samples, out);
+        assert_eq!(made.number, 0);
+        made.count as usize
+    };
+    let mut out = vec![0; file.len() + 200];
+    let count = make(&mut out);
+    assert!(out[..count] == frames_of_canonical(&file));
+    drop(out);
     course.with_buffers(
         row,
         || vec![0; file.len() + 200],
-        |out| {
-            let samples = black_box(samples);
-            let made = ffi::make_frame(0, sequences, 1, &numbers, &bits, samples, out);
-            assert_eq!(made.number, 0);
-        },
+        |out| _ = make(out),
         |out| black_box(&mut out[..files::WAVEFORM]).copy_from_slice(black_box(samples)),
     );
 }
@@ -477,9 +483,7 @@ fn short_makes(course: &mut Course) {
         let made = make_frame(start, 1, CHANNELS.into(), numbers, bits, samples, out);
         made.expect("good settings")
     };
-    // The canonical file but for its byte order.
-    let written = mfer::File::new(&file).canonical_vec();
-    let frames = written.expect("an accepted file").split_off(3);
+    let frames = frames_of_canonical(&file);
     assert!(each_frame(&mut vec![0; frames.len()], proved) == frames);
     course.with_buffers(
         row,
@@ -487,6 +491,12 @@ fn short_makes(course: &mut Course) {
         |out| _ = each_frame(out, proved),
         |out| _ = each_frame(out, other),
     );
+}
+
+/// The canonical file of an accepted one, but for its byte order.
+fn frames_of_canonical(file: &[u8]) -> Vec<u8> {
+    let written = mfer::File::new(file).canonical_vec();
+    written.expect("an accepted file").split_off(3)
 }
 
 /// The numbers and bits of the channels in a file's first frame, as they are told.

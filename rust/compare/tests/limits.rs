@@ -112,8 +112,8 @@ fn lengths_of_four_octets() {
     }
 }
 
-/// Files of up to 4 GiB, in zeroed memory of which few pages are touched but for one file that is
-/// written out. MFER_SKIP_LARGE skips it.
+/// Files of up to 4 GiB, in zeroed memory of which few pages are touched, but for a canonical file and
+/// a made frame of 2 GB that are written out. MFER_SKIP_LARGE skips it.
 #[test]
 fn files_of_2147483647_octets_and_one_more() {
     if env::var_os("MFER_SKIP_LARGE").is_some() {

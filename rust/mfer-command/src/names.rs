@@ -6,6 +6,10 @@ use mfer::{DataType, Scale};
 /// From this code on, classes and leads are anyone's.
 const PRIVATE: u16 = 49_152;
 
+/// From this code on, leads of an EEG are pairs of electrodes, of so many each.
+const PAIRS: u16 = 0x4000;
+const ELECTRODES: u16 = 0x80;
+
 /// A code, and its name where it has one.
 pub fn named(code: u16, name: Option<String>) -> String {
     match name {
@@ -21,8 +25,8 @@ pub fn code(text: &str, name: impl Fn(u16) -> Option<String>) -> Option<u16> {
     let (first, rest) = text.split_once(' ').unwrap_or((text, ""));
     match first.parse() {
         Ok(code) => (rest.is_empty() || has(code, rest)).then_some(code),
-        // Private codes share one name.
-        Err(_) => (0..PRIVATE).find(|code| has(*code, text)),
+        // Behind these codes are pairs of electrodes, and private codes, which share one name.
+        Err(_) => (0..PAIRS).find(|code| has(*code, text)),
     }
 }
 
@@ -65,6 +69,15 @@ pub fn lead(class: u16, code: u16) -> Option<String> {
     };
     let private = (code >= PRIVATE).then_some("private");
     name.or(private).map(String::from)
+}
+
+/// The lead that is written so, in its class.
+pub fn lead_of(class: u16, text: &str) -> Option<u16> {
+    let pair = match class {
+        40..=43 => electrodes_of(text),
+        _ => None,
+    };
+    pair.or_else(|| code(text, |code| lead(class, code)))
 }
 
 /// Table 12.
@@ -111,12 +124,16 @@ fn electrodes(code: u16) -> Option<String> {
     if code >= PRIVATE {
         return Some("private".into());
     }
-    let pair = code.checked_sub(0x4000).filter(|pair| *pair < 0x4000)?;
-    Some(format!(
-        "{}-{}",
-        electrode(pair >> 7),
-        electrode(pair & 0x7F)
-    ))
+    let pair = code.checked_sub(PAIRS)?;
+    let (negative, positive) = (pair / ELECTRODES, pair % ELECTRODES);
+    let pair = || format!("{}-{}", electrode(negative), electrode(positive));
+    (negative < ELECTRODES).then(pair)
+}
+
+fn electrodes_of(text: &str) -> Option<u16> {
+    let (negative, positive) = text.split_once('-')?;
+    let number = |text| (0..ELECTRODES).find(|code| electrode(*code) == text);
+    Some(PAIRS + number(negative)? * ELECTRODES + number(positive)?)
 }
 
 /// Table 14; an electrode that it lacks is its number.
@@ -254,18 +271,45 @@ mod tests {
 
     #[test]
     fn codes_are_read_with_and_without_names() {
-        let lead_of = |text| code(text, |code| lead(1, code));
         for text in ["3", "3 V1", "V1", "003"] {
-            assert_eq!(lead_of(text), Some(3), "{text}");
+            assert_eq!(lead_of(1, text), Some(3), "{text}");
         }
-        assert_eq!(lead_of("10"), Some(10));
-        assert_eq!(lead_of("65535 private"), Some(65_535));
-        for text in ["3 V2", "10 V1", "v1", "private", "65536", "-1", ""] {
-            assert_eq!(lead_of(text), None, "{text}");
+        assert_eq!(lead_of(1, "10"), Some(10));
+        assert_eq!(lead_of(1, "65535 private"), Some(65_535));
+        for text in ["3 V2", "10 V1", "v1", "private", "65536", "-1", "", "0-0"] {
+            assert_eq!(lead_of(1, text), None, "{text}");
         }
-        let electrodes = |text| code(text, |code| lead(40, code));
-        assert_eq!(electrodes("FP1-A1"), Some(17_994));
-        assert_eq!(electrodes("0-0"), Some(0x4000));
+        assert_eq!(lead_of(40, "17994 FP1-A1"), Some(17_994));
+        for text in [
+            "17994 FP1-A2",
+            "FP1",
+            "FP1-",
+            "-A1",
+            "12-74",
+            "00-0",
+            "0-128",
+            "FP1-A1-A1",
+            "FP1 - A1",
+            "private",
+        ] {
+            assert_eq!(lead_of(40, text), None, "{text}");
+        }
+    }
+
+    /// But for the private ones, which share theirs.
+    #[test]
+    fn names_are_read_as_their_codes() {
+        for code in 0..PRIVATE {
+            for class in [0, 1, 20, 40, 43] {
+                if let Some(name) = lead(class, code) {
+                    assert_eq!(lead_of(class, &name), Some(code), "{name}");
+                }
+            }
+            if let Some(name) = class(code) {
+                let read = super::code(name, |code| class(code).map(String::from));
+                assert_eq!(read, Some(code), "{name}");
+            }
+        }
     }
 
     #[test]

@@ -10,7 +10,7 @@ pub use read::read;
 pub use write::Writer;
 
 use crate::{names, values};
-use mfer::ChannelSettings;
+use mfer::{ChannelSettings, DataType};
 
 /// A setting of a channel.
 pub struct Setting {
@@ -45,7 +45,7 @@ pub const SETTINGS: [Setting; COUNT] = [
         expected: "a code from 0 to 65535, its name in this class, or both",
         write: |channel| names::named(channel.lead, names::lead(channel.class, channel.lead)),
         read: |text, channel| {
-            let lead = names::code(text, |code| names::lead(channel.class, code));
+            let lead = names::lead_of(channel.class, text);
             set(&mut channel.lead, lead)
         },
     },
@@ -53,7 +53,12 @@ pub const SETTINGS: [Setting; COUNT] = [
         name: "type",
         expected: "a number from 0 to 8, or a name as 'signed 16 bits'",
         write: |channel| names::data_type(channel.data_type).into(),
-        read: |text, channel| set(&mut channel.data_type, names::data_type_of(text)),
+        read: |text, channel| {
+            let data_type = names::data_type_of(text);
+            // Without a type no bits are too wide, and all numbers are numbers.
+            channel.data_type = data_type.unwrap_or(DataType::Double);
+            data_type.map(|_| ())
+        },
     },
     Setting {
         name: "interval",

@@ -224,6 +224,34 @@ fn the_first_wrong_line_is_said() {
     let (words, status) = settings_fail("frame\nsequences 1\nblock 0\nframe\nblock x\n");
     assert!(words.starts_with("line 3: frame 0: refused 24 "), "{words}");
     assert_eq!(status, 1);
+    // Settings that the library refuses, and lines that cannot be read.
+    for (lines, found) in [
+        ("null 0x10000\nblock 0\n", "null: "),
+        ("block 0\nnull 0x10000\n", "block: "),
+        ("block 0\nstart 2147483648\n", "block: "),
+        ("start 2147483648\nblock 0\n", "start: "),
+        ("channels 257\nsequences 4294967296\n", "channels: "),
+        ("interval 0 Hz\nchannel\nblock 0\n", "interval: "),
+        ("block 0\nnull x\n", "block: "),
+        ("block 0\ncolour red\n", "block: "),
+    ] {
+        let (words, status) = settings_fail(format!("frame\n{lines}"));
+        assert!(words.starts_with("line 2: frame 0: refused 24 "), "{words}");
+        assert!(words.contains(found) && status == 1, "{words}");
+    }
+    let (words, status) = settings_fail("frame\nnull x\nblock 0\n");
+    assert!(words.starts_with("line 2: null: "), "{words}");
+    assert_eq!(status, 2);
+    // Of a channel that comes later, in an earlier line: one that holds for both.
+    let settings = "frame\nnull 0x8000\nchannel\nblock 0\nchannel\ntype 5\n";
+    let (words, _) = settings_fail(settings);
+    assert!(words.starts_with("line 2: frame 0: refused 24 "), "{words}");
+    // What goes by the type is not wrong where that cannot be read.
+    for null in ["0x10000", "40000", "1.5"] {
+        let (words, status) = settings_fail(format!("frame\nnull {null}\ntype x\n"));
+        assert!(words.starts_with("line 3: type: "), "{words}");
+        assert_eq!(status, 2);
+    }
 }
 
 #[test]
@@ -258,6 +286,12 @@ fn settings_out_of_range() {
             "channels 18446744073709551615",
         ),
         (&"channel\n".repeat(257), 1, "channels 257"),
+        (&"channel\nlead 1\n".repeat(9999), 1, "channels 9999"),
+        (
+            &("channels 300\n".to_string() + &"channel\n".repeat(300)),
+            2,
+            "channels 300",
+        ),
         ("lead 1\nblock 0\n", 3, "block 0"),
         ("block 1048577\n", 2, "block 1048577"),
         ("interval 0 Hz\n", 2, "interval 0 Hz"),
@@ -423,12 +457,47 @@ fn octets_where_numbers_are_expected() {
     assert_eq!(samples_fail("frame\n", [0; 5000], false), (words.into(), 2));
 }
 
-/// 11.
+/// 11, before anything is read behind that frame's line.
 #[test]
 fn frames_4097() {
-    let settings = "frame\nsequences 0\n".repeat(4097);
     let words = "frame 4096: refused 11 at 0: a frame after 4,096 frames";
-    assert_eq!(settings_fail(settings), (words.into(), 1));
+    let most = "frame\nsequences 0\n".repeat(4096);
+    for more in ["frame", "frame\nsequences 0\n", "frame 1\nblock x\n"] {
+        let answer = settings_fail(most.clone() + more);
+        assert_eq!(answer, (words.into(), 1), "{more}");
+    }
+    // What is wrong in a frame before it is said first.
+    let (words, status) = settings_fail(most.clone() + "block 0\nframe\n");
+    let line = "line 8193: frame 4095: refused 24 ";
+    assert!(words.starts_with(line) && status == 1, "{words}");
+    let tried = Try::new(most, "");
+    assert_eq!(run(&mut tried.command()).2, 0);
+}
+
+/// Long texts of many frames, channels or wrong lines are read in 150,000 KiB of memory.
+#[cfg(target_os = "linux")]
+#[test]
+fn long_texts_do_not_fill_memory() {
+    const LINES: usize = 1_000_000;
+    for (first, lines, words, status) in [
+        (
+            "frame\nchannels 256\nsequences 0\n",
+            "frame\nsequences 0\n",
+            "frame 4096: refused 11 ",
+            1,
+        ),
+        ("frame\n", "channel\n", "line 1: frame 0: refused 24 ", 1),
+        ("frame\n", "channel x\n", "line 1: frame 0: refused 24 ", 1),
+        ("frame\n", "x\n", "line 2: expected one of ", 2),
+    ] {
+        let tried = Try::new(first.to_string() + &lines.repeat(LINES), "");
+        let command = tried.command();
+        let mut limited = Command::new("sh");
+        limited.args(["-c", "ulimit -v 150000 && exec \"$@\"", "sh"]);
+        limited.arg(command.get_program()).args(command.get_args());
+        let (said, exit) = tried.fails("settings", &mut limited);
+        assert!(said.starts_with(words) && exit == status, "{said}");
+    }
 }
 
 /// 15. MFER_SKIP_LARGE skips it.

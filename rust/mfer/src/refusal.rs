@@ -36,7 +36,8 @@ macro_rules! refusals {
     };
 }
 
-// The words are document 01's. What they lean on elsewhere on its page stands in parentheses.
+// The words are those of documents 01 and 02. What they lean on elsewhere on their pages stands in
+// parentheses.
 refusals! {
     CONTEXT_TAG = 1, "context tag other than 3Fh";
     LENGTH_OCTET = 2, "length octet 85h to FFh, or 80h not on 3Fh";

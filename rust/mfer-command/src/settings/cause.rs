@@ -1,6 +1,6 @@
 //! Which setting the library refuses: it is asked for each alone, beside defaults.
 
-use super::draft::{standing, Draft, Given, Section, Wrong, CHANNELS, SEQUENCES, START};
+use super::draft::{standing, Draft, First, Given, Section, Wrong, CHANNELS, SEQUENCES, START};
 use super::SETTINGS;
 use mfer::{ChannelSettings, FrameSettings, Refusal};
 
@@ -11,11 +11,15 @@ pub fn refusal(settings: &FrameSettings) -> Option<Refusal> {
         .filter(|refusal| refusal.number == Refusal::SETTING_RANGE)
 }
 
-/// The line for which the library refuses these settings of a frame.
+/// The first line for which the library refuses these settings of a frame.
 pub fn cause(draft: &Draft, settings: &FrameSettings) -> Wrong {
-    in_frame(draft, settings)
-        .or_else(|| in_channels(draft, settings))
-        .unwrap_or_else(|| Wrong::new(draft.line, "in the frame that begins here".into()))
+    let mut first = First::default();
+    in_frame(draft, settings, &mut first);
+    in_channels(draft, settings, &mut first);
+    let words = "in the frame that begins here";
+    first
+        .0
+        .unwrap_or_else(|| Wrong::new(draft.line, words.into()))
 }
 
 fn refused(start: i64, sequences: u64, channels: Vec<ChannelSettings>) -> bool {
@@ -27,28 +31,30 @@ fn refused(start: i64, sequences: u64, channels: Vec<ChannelSettings>) -> bool {
     refusal(&alone).is_some()
 }
 
-fn in_frame(draft: &Draft, settings: &FrameSettings) -> Option<Wrong> {
+fn in_frame(draft: &Draft, settings: &FrameSettings, first: &mut First) {
     let (start, sequences, count) = (settings.start, settings.sequences, settings.channels.len());
     let defaults = |count| vec![ChannelSettings::default(); count];
     // A start that is continued and channels that are counted stand in no line.
-    let wrong = |given: &Option<Given>, name, expected, found: String| match given {
-        Some(Given { line, text }) => Wrong::value(*line, name, expected, text),
-        None => Wrong::value(draft.line, name, expected, &found),
+    let mut add = |given: &Option<Given>, name, expected, found: String| {
+        first.add(match given {
+            Some(Given { line, text }) => Wrong::value(*line, name, expected, text),
+            None => Wrong::value(draft.line, name, expected, &found),
+        });
     };
     if refused(start, 0, defaults(1)) {
-        Some(wrong(&draft.start, "start", START, start.to_string()))
-    } else if refused(0, sequences, defaults(1)) {
+        add(&draft.start, "start", START, start.to_string());
+    }
+    if refused(0, sequences, defaults(1)) {
         let found = sequences.to_string();
-        Some(wrong(&draft.sequences, "sequences", SEQUENCES, found))
-    } else if refused(0, 0, defaults(count)) {
-        let found = count.to_string();
-        Some(wrong(&draft.channels, "channels", CHANNELS, found))
-    } else {
-        None
+        add(&draft.sequences, "sequences", SEQUENCES, found);
+    }
+    if refused(0, 0, defaults(count)) {
+        let found = draft.lines.to_string();
+        add(&draft.channels, "channels", CHANNELS, found);
     }
 }
 
-fn in_channels(draft: &Draft, settings: &FrameSettings) -> Option<Wrong> {
+fn in_channels(draft: &Draft, settings: &FrameSettings, first: &mut First) {
     let none = Section::default();
     for (number, read) in settings.channels.iter().enumerate() {
         let own = draft.own.get(number).unwrap_or(&none);
@@ -63,11 +69,10 @@ fn in_channels(draft: &Draft, settings: &FrameSettings) -> Option<Wrong> {
             };
             (setting.read)(text, &mut channel);
             if refused(0, 0, vec![channel]) {
-                return Some(Wrong::value(*line, setting.name, setting.expected, text));
+                first.add(Wrong::value(*line, setting.name, setting.expected, text));
             }
         }
     }
-    None
 }
 
 #[cfg(test)]

@@ -6,7 +6,6 @@ use crate::failure::Failure;
 use crate::lines::quoted;
 use mfer::{ChannelSettings, FrameSettings, Refusal};
 use std::ffi::OsStr;
-use std::mem;
 use std::str::FromStr;
 
 /// A frame as a text describes it. The library takes its settings.
@@ -36,7 +35,7 @@ pub const SEQUENCES: &str = "a number from 0 to 4294967295";
 pub const CHANNELS: &str = "a number from 1 to 256";
 
 /// One channel more than a frame may have is enough to have it refused.
-const MOST_CHANNELS: u64 = 257;
+const MOST_CHANNELS: usize = 257;
 
 /// What a line sets.
 pub struct Given {
@@ -82,6 +81,20 @@ impl Wrong {
     }
 }
 
+/// The first of the lines that are wrong. A text may have many, so no other is kept.
+#[derive(Default)]
+pub struct First(pub Option<Wrong>);
+
+impl First {
+    /// Of two in one line the one that was there stays.
+    pub fn add(&mut self, wrong: Wrong) {
+        match &self.0 {
+            Some(first) if first.line <= wrong.line => {}
+            _ => self.0 = Some(wrong),
+        }
+    }
+}
+
 /// The lines of a frame.
 #[derive(Default)]
 pub struct Draft {
@@ -91,8 +104,12 @@ pub struct Draft {
     pub channels: Option<Given>,
     /// What holds for each channel that does not set it itself.
     pub shared: Section,
+    /// What each channel sets itself. The last one that is kept is the last of all: channels above
+    /// [`MOST_CHANNELS`] take its place.
     pub own: Vec<Section>,
-    wrong: Vec<Wrong>,
+    /// How many channels there are lines for.
+    pub lines: u64,
+    wrong: First,
 }
 
 /// Lines one after another.
@@ -111,6 +128,8 @@ impl Draft {
     pub fn take(&mut self, line: u64, word: &str, text: String) {
         if word == "channel" {
             self.expect_nothing(line, word, &text);
+            self.lines += 1;
+            self.own.truncate(MOST_CHANNELS - 1);
             self.own.push(Section::default());
             return;
         }
@@ -122,13 +141,13 @@ impl Draft {
             Ok(Some(given)) => format!("{word}: expected once, is in line {} too", given.line),
             Err(words) => words,
         };
-        self.wrong.push(Wrong::new(line, words));
+        self.wrong.add(Wrong::new(line, words));
     }
 
     fn expect_nothing(&mut self, line: u64, word: &str, value: &str) {
         if !value.is_empty() {
             let wrong = Wrong::value(line, word, "nothing behind it", value);
-            self.wrong.push(wrong);
+            self.wrong.add(wrong);
         }
     }
 
@@ -166,18 +185,18 @@ impl Draft {
         let described = self.describe(before);
         if described.by_length && !last {
             let words = "sequences: expected in every frame but the last, found nothing";
-            self.wrong.push(Wrong::new(self.line, words.into()));
+            self.wrong.add(Wrong::new(self.line, words.into()));
         }
-        let wrong = mem::take(&mut self.wrong);
-        if let Some(first) = wrong.into_iter().min_by_key(|wrong| wrong.line) {
-            return Err(first);
+        if let Some(refusal) = cause::refusal(&described.settings) {
+            let cause = cause::cause(&self, &described.settings);
+            self.wrong.add(Wrong {
+                refusal: Some(refusal),
+                ..cause
+            });
         }
-        match cause::refusal(&described.settings) {
+        match self.wrong.0 {
             None => Ok(described),
-            refusal => Err(Wrong {
-                refusal,
-                ..cause::cause(&self, &described.settings)
-            }),
+            Some(first) => Err(first),
         }
     }
 
@@ -211,17 +230,17 @@ impl Draft {
     fn channels(&mut self) -> Vec<ChannelSettings> {
         let Draft { shared, wrong, .. } = self;
         let count: Option<u64> = number(&self.channels, "channels", CHANNELS, wrong);
-        let lines = self.own.len() as u64;
+        let lines = self.lines;
         match &self.channels {
             Some(given) if lines > 0 && count != Some(lines) => {
                 let expected = format!("{lines}, as many as lines 'channel' follow");
-                wrong.push(Wrong::value(given.line, "channels", &expected, &given.text));
+                wrong.add(Wrong::value(given.line, "channels", &expected, &given.text));
             }
             _ => {}
         }
         if lines == 0 {
             let alike = channel(&Section::default(), shared, wrong);
-            return vec![alike; count.unwrap_or(1).min(MOST_CHANNELS) as usize];
+            return vec![alike; count.unwrap_or(1).min(MOST_CHANNELS as u64) as usize];
         }
         let channel = |own: &Section| channel(own, shared, wrong);
         let channels: Vec<_> = self.own.iter().map(channel).collect();
@@ -234,7 +253,7 @@ impl Draft {
         for (number, setting) in SETTINGS.iter().enumerate() {
             let unused = self.own.iter().all(|own| own[number].is_some());
             if let Some(given) = self.shared[number].as_ref().filter(|_| unused) {
-                self.wrong.extend(read(setting, given, &mut channel));
+                read(setting, given, &mut channel, &mut self.wrong);
             }
         }
     }
@@ -254,21 +273,23 @@ fn number<T: FromStr>(
     given: &Option<Given>,
     name: &str,
     expected: &str,
-    wrong: &mut Vec<Wrong>,
+    wrong: &mut First,
 ) -> Option<T> {
     let Given { line, text } = given.as_ref()?;
     let number = text.parse().ok();
     if number.is_none() {
-        wrong.push(Wrong::value(*line, name, expected, text));
+        wrong.add(Wrong::value(*line, name, expected, text));
     }
     number
 }
 
 /// A channel: each setting its own, else the one for all channels, else the default.
-fn channel(own: &Section, shared: &Section, wrong: &mut Vec<Wrong>) -> ChannelSettings {
+fn channel(own: &Section, shared: &Section, wrong: &mut First) -> ChannelSettings {
     let mut channel = ChannelSettings::default();
     for (setting, given) in SETTINGS.iter().zip(standing(own, shared)) {
-        wrong.extend(given.and_then(|given| read(setting, given, &mut channel)));
+        if let Some(given) = given {
+            read(setting, given, &mut channel, wrong);
+        }
     }
     channel
 }
@@ -282,11 +303,10 @@ pub fn standing<'a>(
     pairs.map(|(own, shared)| own.as_ref().or(shared.as_ref()))
 }
 
-/// Sets what is given; answers what is wrong with it.
-fn read(setting: &Setting, given: &Given, channel: &mut ChannelSettings) -> Option<Wrong> {
+/// Sets what is given. What cannot be read is wrong.
+fn read(setting: &Setting, given: &Given, channel: &mut ChannelSettings, wrong: &mut First) {
     let Given { line, text } = given;
-    match (setting.read)(text, channel) {
-        Some(()) => None,
-        None => Some(Wrong::value(*line, setting.name, setting.expected, text)),
+    if (setting.read)(text, channel).is_none() {
+        wrong.add(Wrong::value(*line, setting.name, setting.expected, text));
     }
 }

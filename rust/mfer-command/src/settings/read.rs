@@ -3,6 +3,7 @@
 use super::draft::{Described, Draft};
 use crate::failure::Failure;
 use crate::lines::{quoted, Lines};
+use mfer::{File, Refusal};
 use std::ffi::OsStr;
 
 /// The frames of a text in their order.
@@ -19,6 +20,9 @@ pub fn read(name: &OsStr) -> Result<Vec<Described>, Failure> {
             _ if word == "frame" => {
                 let before = draft.replace(Draft::new(number, &value));
                 finish(before, false, &mut frames, name)?;
+                if frames.len() == File::MAX_FRAMES as usize {
+                    return Err(many_frames(name));
+                }
             }
             Some(draft) => draft.take(number, &word, value),
             None => {
@@ -29,6 +33,15 @@ pub fn read(name: &OsStr) -> Result<Vec<Described>, Failure> {
     }
     finish(draft, true, &mut frames, name)?;
     Ok(frames)
+}
+
+/// What the library would say of one frame more. A text is not read on to have it said.
+fn many_frames(name: &OsStr) -> Failure {
+    let refusal = Refusal {
+        number: Refusal::MANY_FRAMES,
+        place: 0,
+    };
+    Failure::refused_in(name, &format!("frame {}", File::MAX_FRAMES), refusal)
 }
 
 /// The first word of a line and those behind it, but for a comment.
