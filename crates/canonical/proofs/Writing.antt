@@ -50,7 +50,7 @@ use Rattle.groups.specs.Item.{itemOctets}
 use Rattle.groups.specs.Head.{headItems}
 use Rattle.groups.specs.Group.{groupsOctets}
 use Rattle.groups.proofs.Puts.{put-as}
-use Rattle.frames.specs.Parts.{samplesTurned, frameParts, frameGiven}
+use Rattle.frames.specs.Parts.{samplesTurned, waveformHead, frameParts, frameGiven}
 use Rattle.frames.proofs.Given.{frame-put}
 use Rattle.canonical.specs.Recording.{Recorded, recordedFrame, recording}
 use Rattle.canonical.specs.Canonical.{waveformOf, frameOctets, framesOctets, canonical}
@@ -61,7 +61,7 @@ use Rattle.canonical.proofs.Recordings.{waveform-long}
 -- ---- a frame's octets, in the parts in which it is written
 
 recorded-is : (r : Recorded)
-    → frameOctets r ≡ (((headItems (length (r .channels)) (r .sequences) (r .start) ++ groupsOctets 0 (r .channels)) ++ (0x1E ∷ [])) ++ shortest (samplesOctets (r .channels) (r .sequences))) ++ waveformOf r
+    → frameOctets r ≡ ((headItems (length (r .channels)) (r .sequences) (r .start) ++ groupsOctets 0 (r .channels)) ++ waveformHead (samplesOctets (r .channels) (r .sequences))) ++ waveformOf r
 unfolding frameOctets itemOctets
 recorded-is r =
     let l : shortest (length (waveformOf r)) ≡ shortest (samplesOctets (r .channels) (r .sequences)) = ap shortest (waveform-long r) in
@@ -71,7 +71,7 @@ pub frame-is : (f : Frame) → frameOctets (recordedFrame f) ≡ frameParts (f .
 unfolding recordedFrame
 frame-is f =
     recorded-is (recordedFrame f)
-    ∙ (λ i. (((headItems (length-map (f .channels) reported i) (f .sequences) (f .start) ++ groupsOctets 0 (map reported (f .channels))) ++ (0x1E ∷ [])) ++ shortest (sampled-reported f i)) ++ waveformOf (recordedFrame f))
+    ∙ (λ i. ((headItems (length-map (f .channels) reported i) (f .sequences) (f .start) ++ groupsOctets 0 (map reported (f .channels))) ++ waveformHead (sampled-reported f i)) ++ waveformOf (recordedFrame f))
 
 -- The samples of a frame, as they are written.
 pub samples-are : (s : List ℕ) (f : Frame) → Lies s f → Octets (f .waveform) → samplesTurned (f .little) (f .channels) (f .sequences) (f .waveform) ≡ waveformOf (recordedFrame f)

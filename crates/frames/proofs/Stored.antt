@@ -5,12 +5,11 @@
 --     frame-stored    the frame is stored
 -- Assumes nothing.
 use mathlib.Core.Path.{_≡_, sym}
-use mathlib.Core.List.{List, [], _∷_, _++_, map}
+use mathlib.Core.List.{List, _++_, map}
 use Prim.Native.Nat.{ℕ, _+_, _≤_}
 use native.Mathlib.Omega.{arith}
 use lib.IntN.{ℤ}
 use lib.ListN.{length}
-use Rattle.stores.specs.Length.{shortest}
 use Rattle.stores.specs.Storing.{Put, Putting, put-fits}
 use Rattle.stores.proofs.Stores.{put-then, put-long}
 use Rattle.settings.specs.declared.Settings.{Settings}
@@ -20,7 +19,7 @@ use Rattle.groups.specs.Head.{headItems}
 use Rattle.groups.specs.Group.{groupsOctets}
 use Rattle.groups.proofs.Sizes.{head-long, groups-long}
 use Rattle.groups.proofs.Puts.{put-as}
-use Rattle.frames.specs.Parts.{frameParts}
+use Rattle.frames.specs.Parts.{waveformHead, frameParts}
 
 module _ {d e : List ℕ} {at a : ℕ} (cs : List Settings) (sequences : ℕ) {count octets : ℕ} {z start : ℤ}
     (ec : length cs ≡ count) (eo : octets ≡ samplesOctets cs sequences) (ez : z ≡ start) (room : at + frameSize sequences (groupsSize 0 cs) octets ≤ length d) (p : Putting d at (headItems count sequences z) a e) where
@@ -32,20 +31,16 @@ module _ {d e : List ℕ} {at a : ℕ} (cs : List Settings) (sequences : ℕ) {c
   unfolding frameSize
   groups-room = omega (arith, head-long count sequences z, head-put .next, put-long head-put)
 
-  module _ {f g h : List ℕ} {b c t : ℕ} (q : Put e a (groupsOctets 0 (map reported cs)) b f) (o : Putting f b (0x1E ∷ []) c g) (r : Putting g c (shortest octets) t h) where
-    tag-put : Put f b (0x1E ∷ []) c g
+  module _ {f g : List ℕ} {b c : ℕ} (q : Put e a (groupsOctets 0 (map reported cs)) b f) (o : Putting f b (waveformHead octets) c g) where
+    waveform-put : Put f b (waveformHead octets) c g
     unfolding frameSize
-    tag-put = put-fits (omega (arith, head-long count sequences z, head-put .next, put-long head-put, groups-long 0 cs, q .next, put-long q)) o
+    waveform-put = put-fits (omega (arith, head-long count sequences z, head-put .next, put-long head-put, groups-long 0 cs, q .next, put-long q)) o
 
-    length-put : Put g c (shortest octets) t h
+    pub samples-room : c + octets ≤ length g
     unfolding frameSize
-    length-put = put-fits (omega (arith, head-long count sequences z, head-put .next, put-long head-put, groups-long 0 cs, q .next, put-long q, tag-put .next, put-long tag-put)) r
+    samples-room = omega (arith, head-long count sequences z, head-put .next, put-long head-put, groups-long 0 cs, q .next, put-long q, waveform-put .next, put-long waveform-put)
 
-    pub samples-room : t + octets ≤ length h
-    unfolding frameSize
-    samples-room = omega (arith, head-long count sequences z, head-put .next, put-long head-put, groups-long 0 cs, q .next, put-long q, tag-put .next, put-long tag-put, length-put .next, put-long length-put)
-
-    pub frame-stored : {samples i : List ℕ} {u : ℕ} → Put h t samples u i → Put d at (frameParts start sequences cs samples) u i
+    pub frame-stored : {samples i : List ℕ} {u : ℕ} → Put g c samples u i → Put d at (frameParts start sequences cs samples) u i
     frame-stored {samples} s =
-        put-as (λ k. (((headItems (sym ec k) sequences (ez k) ++ groupsOctets 0 (map reported cs)) ++ (0x1E ∷ [])) ++ shortest (eo k)) ++ samples)
-        (put-then (put-then (put-then (put-then head-put q) tag-put) length-put) s)
+        put-as (λ k. ((headItems (sym ec k) sequences (ez k) ++ groupsOctets 0 (map reported cs)) ++ waveformHead (eo k)) ++ samples)
+        (put-then (put-then (put-then head-put q) waveform-put) s)

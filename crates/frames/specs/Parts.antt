@@ -26,10 +26,14 @@ abbrev pub samplesTurned : Bool → List Settings → ℕ → List ℕ → List 
 samplesTurned false cs sequences x = take (samplesOctets cs sequences) x
 samplesTurned true cs sequences x = turnedAll cs sequences x
 
+-- 1E and its length, ahead of so many octets of samples.
+abbrev pub waveformHead : ℕ → List ℕ
+waveformHead octets = 0x1E ∷ shortest octets
+
 -- 05, 06 and 07; a group for each channel in order; then 1E, its length and the samples' octets.
 abbrev pub frameParts : ℤ → ℕ → List Settings → List ℕ → List ℕ
 frameParts start sequences cs samples =
-    (((headItems (length cs) sequences start ++ groupsOctets 0 (map reported cs)) ++ (0x1E ∷ [])) ++ shortest (samplesOctets cs sequences)) ++ samples
+    ((headItems (length cs) sequences start ++ groupsOctets 0 (map reported cs)) ++ waveformHead (samplesOctets cs sequences)) ++ samples
 
 -- The frame of a waveform x that holds its sequences, if these are no more octets than a file may have; else no octets.
 unfoldable pub frameGiven : ℤ → Bool → ℕ → List Settings → List ℕ → List ℕ

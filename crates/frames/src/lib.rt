@@ -1,7 +1,8 @@
 // A frame of the canonical file: head, groups, 1E and the samples.
 //
 // Promises: `put_frame` stores a frame from the place `at` on and returns the place after it; where it does not fit, or where the waveform
-// lacks octets of the sequences, nothing is stored and `at` is returned. `Putting` of crate stores says this once.
+// lacks octets of the sequences, nothing is stored and `at` is returned. `open_waveform` does so with the octets ahead of a frame's samples, for whoever has
+// samples to store as they stand. `Putting` of crate stores says this once.
 // Read first: specs/Parts.antt (the octets; a frame's head and groups are in crate groups).
 // The size is known before the first octet is stored. What is private here stores what fits: `Put` says which octets, from where on.
 ghost use mathlib.Core.Path.{_≡_};
@@ -14,7 +15,7 @@ ghost use Rattle.layout.specs.Frame.{samplesOctets, reported};
 ghost use Rattle.layout.specs.Size.{groupsSize, frameSize};
 ghost use Rattle.laid.specs.Turned.{Even, turnedAll};
 ghost use Rattle.groups.specs.Group.{groupsOctets};
-ghost use Rattle.frames.specs.Parts.{Few, samplesTurned, frameParts, frameGiven};
+ghost use Rattle.frames.specs.Parts.{Few, samplesTurned, waveformHead, frameParts, frameGiven};
 ghost use Rattle.settings.specs.Settings.{channelLimit};
 ghost use Rattle.records.specs.Records.{heldIn};
 ghost use Rattle.standing.specs.Standing.{octetsLimit};
@@ -105,6 +106,17 @@ fn put_samples(
     runs::turn(w, 0, octets / v, v, out, at)
 }
 
+// Stores 1E and its length, ahead of so many octets of samples.
+pub fn open_waveform(out: &mut [u8], at: usize, octets: u32) -> usize
+    ensures { λ r. ⌜ Putting (now (out .entry)) at (waveformHead octets) r (now (out .exit)) ⌝ }
+{
+    if stores::overruns(out.len(), at, 1 + stores::length_octets(octets)) {
+        return at;
+    }
+    let a = stores::put_octet(out, at, 0x1E);
+    stores::put_length(out, a, octets)
+}
+
 // A frame: 05, 06, 07, the groups, 1E and the samples.
 fn store_frame(
     w: &[u8],
@@ -123,9 +135,8 @@ fn store_frame(
 {
     let a = groups::put_head(out, at, count as u32, sequences, start);
     let b = put_groups(out, a, t, count);
-    let c = stores::put_octet(out, b, 0x1E);
-    let d = stores::put_length(out, c, octets as u32);
-    put_samples(w, little, sequences, octets, t, count, out, d)
+    let c = open_waveform(out, b, octets as u32);
+    put_samples(w, little, sequences, octets, t, count, out, c)
 }
 
 // No more octets than a file may have.

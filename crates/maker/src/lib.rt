@@ -5,7 +5,8 @@
 // of the buffer as it was; else the frame stands at the start of the buffer as the canonical file has it, its length is answered, and the octets past it are as they were.
 // Read first: specs/Given.antt (settings as they are handed over), specs/Make.antt (the frame, and what is answered).
 // Refusal comes first: one pass over the rows tests every setting and sums up the layout, so that the size is known before the first octet is stored.
-// A second one stores the groups, by the functions that crate frames stores them by. No table of records is made.
+// A second one stores the groups. Every octet is stored by a function that the writer stores it by: `groups::put_head`, `groups::put_group`,
+// `frames::open_waveform` and `runs::copy`. No table of records is made.
 ghost use mathlib.Core.Path.{_≡_};
 ghost use mathlib.Core.List.{map};
 ghost use Prim.Native.Nat.{_+_, _≤_};
@@ -86,9 +87,8 @@ fn store_frame(
 {
     let a = groups::put_head(out, 0, n as u32, sequences, start);
     let b = put_rows(out, a, numbers, bits, n);
-    let c = stores::put_octet(out, b, 0x1E);
-    let d = stores::put_length(out, c, samples.len() as u32);
-    runs::copy(samples, 0, samples.len(), out, d)
+    let c = frames::open_waveform(out, b, samples.len() as u32);
+    runs::copy(samples, 0, samples.len(), out, c)
 }
 
 // A refusal at no place of a file.

@@ -27,20 +27,16 @@ put-groups-requires c κs =
     let start = toZ-ofZ (at-start .fits .start) in
     (pre .0 .0, groups-room (take (a .count) (heldIn (a .t .now))) (a .sequences) (tabled at-start) (pre .0 .1) start (pre .1 .2) (at-put-head .put-head .ensures))
 
-put-octet-requires : tie.Need-put-octet-requires
-put-octet-requires c κs = search needs
+cast-open-waveform : tie.Need-cast-open-waveform
+cast-open-waveform c = search needs
 
-cast-put-length : tie.Need-cast-put-length
-cast-put-length c = search needs
-
-put-length-requires : tie.Need-put-length-requires
-put-length-requires c κs = search needs
+open-waveform-requires : tie.Need-open-waveform-requires
+open-waveform-requires c κs = search needs
 
 put-samples-requires : tie.Need-put-samples-requires
 put-samples-requires c κs =
-    let at-put-length = c .before .before .before in
-    let at-put-octet = at-put-length .before .before .before .before in
-    let at-put-groups = at-put-octet .before .before .before .before in
+    let at-open = c .before .before .before in
+    let at-put-groups = at-open .before .before .before .before in
     let at-put-head = at-put-groups .before .before .before .before in
     let at-start = at-put-head .before .before .before .before .before in
     let a = at-start .args in
@@ -48,7 +44,7 @@ put-samples-requires c κs =
     let start = toZ-ofZ (at-start .fits .start) in
     let room =
     samples-room (take (a .count) (heldIn (a .t .now))) (a .sequences) (tabled at-start) (pre .0 .1) start (pre .1 .2) (at-put-head .put-head .ensures)
-    (at-put-groups .put-groups .ensures) (at-put-octet .put-octet .ensures) (at-put-length .put-length .ensures) in
+    (at-put-groups .put-groups .ensures) (at-open .open-waveform .ensures) in
     (pre .0, (pre .1 .0, room))
 
 same-length : tie.Need-same-length
@@ -57,16 +53,15 @@ same-length c = search needs
 returns : tie.Need-returns
 returns c =
     let at-put-samples = c .before .before in
-    let at-put-length = at-put-samples .before .before .before .before in
-    let at-put-octet = at-put-length .before .before .before .before in
-    let at-put-groups = at-put-octet .before .before .before .before in
+    let at-open = at-put-samples .before .before .before .before in
+    let at-put-groups = at-open .before .before .before .before in
     let at-put-head = at-put-groups .before .before .before .before in
     let at-start = at-put-head .before .before .before .before .before in
     let a = at-start .args in
     let pre = at-start .pre in
     let start = toZ-ofZ (at-start .fits .start) in
     frame-stored (take (a .count) (heldIn (a .t .now))) (a .sequences) (tabled at-start) (pre .0 .1) start (pre .1 .2) (at-put-head .put-head .ensures)
-    (at-put-groups .put-groups .ensures) (at-put-octet .put-octet .ensures) (at-put-length .put-length .ensures) (at-put-samples .put-samples .ensures)
+    (at-put-groups .put-groups .ensures) (at-open .open-waveform .ensures) (at-put-samples .put-samples .ensures)
 
 pub store-frame-spec : {M : Type 1} → statement M
 store-frame-spec =
@@ -75,9 +70,8 @@ store-frame-spec =
     cast-put-head
     put-head-requires
     put-groups-requires
-    put-octet-requires
-    cast-put-length
-    put-length-requires
+    cast-open-waveform
+    open-waveform-requires
     put-samples-requires
     same-length
     returns)

@@ -41,14 +41,11 @@ put-rows-requires c κs =
     let pre = at-start .pre in
     (pre .0 .0, groups-room (channels at-start) (a .sequences) (counted at-start) (pre .0 .1) (toZ-ofZ (at-start .fits .start)) (room at-start) (at-put-head .put-head .ensures))
 
-put-octet-requires : tie.Need-put-octet-requires
-put-octet-requires c κs = search needs
+cast-open-waveform : tie.Need-cast-open-waveform
+cast-open-waveform c = search needs
 
-cast-put-length : tie.Need-cast-put-length
-cast-put-length c = search needs
-
-put-length-requires : tie.Need-put-length-requires
-put-length-requires c κs = search needs
+open-waveform-requires : tie.Need-open-waveform-requires
+open-waveform-requires c κs = search needs
 
 copy-requires : tie.Need-copy-requires
 copy-requires c κs = search needs
@@ -59,18 +56,17 @@ same-length c = search needs
 returns : tie.Need-returns
 returns c =
     let at-copy = c .before .before in
-    let at-put-length = at-copy .before .before .before .before in
-    let at-put-octet = at-put-length .before .before .before .before in
-    let at-put-rows = at-put-octet .before .before .before .before in
+    let at-open = at-copy .before .before .before .before in
+    let at-put-rows = at-open .before .before .before .before in
     let at-put-head = at-put-rows .before .before .before .before in
     let at-start = at-put-head .before .before .before .before .before in
     let a = at-start .args in
     let start = toZ-ofZ (at-start .fits .start) in
     let all = take-all (length (a .samples .now)) (a .samples .now) (omega arith) in
     let fits = samples-room (channels at-start) (a .sequences) (counted at-start) (at-start .pre .0 .1) start (room at-start) (at-put-head .put-head .ensures)
-    (at-put-rows .put-rows .ensures) (at-put-octet .put-octet .ensures) (at-put-length .put-length .ensures) in
+    (at-put-rows .put-rows .ensures) (at-open .open-waveform .ensures) in
     frame-stored (channels at-start) (a .sequences) (counted at-start) (at-start .pre .0 .1) start (room at-start) (at-put-head .put-head .ensures)
-    (at-put-rows .put-rows .ensures) (at-put-octet .put-octet .ensures) (at-put-length .put-length .ensures)
+    (at-put-rows .put-rows .ensures) (at-open .open-waveform .ensures)
     (put-as all (put-fits (rw all fits) (at-copy .copy .ensures)))
 
 pub store-frame-spec : {M : Type 1} → statement M
@@ -80,9 +76,8 @@ store-frame-spec =
     cast-put-head
     put-head-requires
     put-rows-requires
-    put-octet-requires
-    cast-put-length
-    put-length-requires
+    cast-open-waveform
+    open-waveform-requires
     copy-requires
     same-length
     returns)
