@@ -1,5 +1,7 @@
 -- Each number by its place in the row.
 use Rattle.maker.specs.Given.{numbersInTable}
+use Rattle.octets.specs.Pick.{both}
+use mathlib.Core.Path.{ap₂, _∙_}
 use borrow.Author.Needs.{needs}
 use Rattle.maker.proofs.rows.numbers_fit.Statement.{statement}
 use Rattle.maker.proofs.rows.numbers_fit.Tie as tie
@@ -48,7 +50,15 @@ all-requires-3 c κs = search needs
 
 returns : tie.Need-returns
 unfolding numbersInTable
-returns c = cc
+returns c =
+    let at-all2 = c .before in
+    let at-all = at-all2 .before in
+    let at-datatype = at-all .before in
+    let at-lead = at-datatype .before in
+    let at-class = at-lead .before in
+    let at-block = at-class .before in
+    let codes = at-all .all .ensures ∙ ap₂ both (at-lead .is-within3 .ensures) (at-datatype .is-within4 .ensures) in
+    c .all3 .ensures ∙ ap₂ both (at-block .is-within .ensures) (at-all2 .all2 .ensures ∙ ap₂ both (at-class .is-within2 .ensures) codes)
 
 pub numbers-fit-spec : {M : Type 1} → statement M
 numbers-fit-spec =

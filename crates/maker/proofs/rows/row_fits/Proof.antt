@@ -1,7 +1,8 @@
 -- The bits are looked at where the data type is in the table.
 use Rattle.maker.specs.Given.{inTable}
 use borrow.Author.Tests.{not-true, not-false}
-use mathlib.Core.Path.{sym, _∙_}
+use mathlib.Core.Path.{sym, ap₂, _∙_}
+use Rattle.octets.specs.Pick.{both}
 use borrow.Author.Needs.{needs}
 use Rattle.maker.proofs.rows.row_fits.Statement.{statement}
 use Rattle.maker.proofs.rows.row_fits.Tie as tie
@@ -29,7 +30,8 @@ unfolding inTable
 returns-2 c =
     let at-if1 = c .before .before .before in
     let numbers = sym (at-if1 .before .numbers-fit .ensures) ∙ not-false _ (at-if1 .if1 .left) in
-    c .all .ensures ∙ rw numbers (cc)
+    let at-bits = c .before in
+    c .all .ensures ∙ rw numbers (ap₂ both (at-bits .before .scales-fit .ensures) (at-bits .bits-within .ensures))
 
 pub row-fits-spec : {M : Type 1} → statement M
 row-fits-spec =

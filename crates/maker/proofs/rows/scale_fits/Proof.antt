@@ -1,5 +1,7 @@
 -- Unit, exponent and mantissa, one behind the other.
 use Rattle.maker.specs.Given.{scaleInTable}
+use Rattle.octets.specs.Pick.{both}
+use mathlib.Core.Path.{ap₂, _∙_}
 use borrow.Author.Needs.{needs}
 use Rattle.maker.proofs.rows.scale_fits.Statement.{statement}
 use Rattle.maker.proofs.rows.scale_fits.Tie as tie
@@ -27,7 +29,12 @@ all-requires-2 c κs = search needs
 
 returns : tie.Need-returns
 unfolding scaleInTable
-returns c = cc
+returns c =
+    let at-all = c .before in
+    let at-mantissa = at-all .before in
+    let at-exponent = at-mantissa .before in
+    let at-unit = at-exponent .before in
+    c .all2 .ensures ∙ ap₂ both (at-unit .is-within .ensures) (at-all .all .ensures ∙ ap₂ both (at-exponent .exponent-fits .ensures) (at-mantissa .is-within2 .ensures))
 
 pub scale-fits-spec : {M : Type 1} → statement M
 scale-fits-spec =

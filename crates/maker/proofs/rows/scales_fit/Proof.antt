@@ -2,7 +2,10 @@
 use Rattle.maker.proofs.Channels.{scale-at}
 use Rattle.outputs.specs.Outputs.{attributeNumbers}
 use Prim.Native.Nat.{_*_}
-use Rattle.maker.specs.Given.{scalesInTable}
+use Rattle.maker.specs.Given.{scaleInTable, scalesInTable}
+use Rattle.settings.specs.Settings.{lastIntervalUnit, lastResolutionUnit}
+use Rattle.octets.specs.Pick.{both}
+use mathlib.Core.Path.{ap, ap₂, _∙_}
 use borrow.Author.Needs.{needs}
 use Rattle.maker.proofs.rows.scales_fit.Statement.{statement}
 use Rattle.maker.proofs.rows.scales_fit.Tie as tie
@@ -36,7 +39,11 @@ unfolding scalesInTable
 returns c =
     let a = c .before .before .before .before .args in
     let at = a .i * attributeNumbers in
-    cc (scale-at (a .numbers .now) at 7, scale-at (a .numbers .now) at 10)
+    let at-resolution = c .before in
+    let at-interval = at-resolution .before in
+    c .all .ensures
+    ∙ ap₂ both (at-interval .scale-fits .ensures ∙ ap (scaleInTable lastIntervalUnit) (scale-at (a .numbers .now) at 7))
+    (at-resolution .scale-fits2 .ensures ∙ ap (scaleInTable lastResolutionUnit) (scale-at (a .numbers .now) at 10))
 
 pub scales-fit-spec : {M : Type 1} → statement M
 scales-fit-spec =
