@@ -17,7 +17,7 @@ use Rattle.stores.proofs.Number.{octets-back}
 use Rattle.settings.specs.declared.Settings.{Settings}
 use Rattle.settings.specs.Settings.{zeroSettings}
 use Rattle.layout.specs.Frame.{Frame, widthIn, blockOctets, sequenceOctets, channelIn, samplesOf, offsetOf, reported, samplesOctets, octetsSampled}
-use Rattle.layout.specs.Size.{frameSize}
+use Rattle.sizes.specs.Size.{frameSize}
 use Rattle.laid.specs.Laid.{Named, sequence, laidFrom, laid, sampleOctets, sampleBits}
 use Rattle.laid.specs.Turned.{turnedAll}
 use Rattle.laid.proofs.Places.{offset-inside}

@@ -30,7 +30,8 @@ use Rattle.stores.proofs.Stores.{put-then, put-long}
 use Rattle.settings.specs.declared.Settings.{Settings}
 use Rattle.settings.specs.Settings.{channelLimit}
 use Rattle.layout.specs.Frame.{Frame, samplesOctets, reported}
-use Rattle.layout.specs.Size.{groupsSize, frameSize}
+use Rattle.sizes.specs.Size.{frameSize}
+use Rattle.layout.specs.Measure.{groupsSize}
 use Rattle.standing.specs.Standing.{octetsLimit}
 use Rattle.effects.specs.Effects.{valueAt}
 use Rattle.verdict.specs.Verdict.{accepted, refused, verdict}

@@ -29,7 +29,7 @@ use Rattle.records.specs.Records.{recordsIn, heldIn}
 use Rattle.frames.specs.Parts.{Few}
 use Rattle.layout.specs.Frame.{widthIn, blockOctets, sequenceOctets, reported, samplesOctets}
 use Rattle.laid.specs.Turned.{turnedSequence, turnedAll}
-use Rattle.layout.specs.Size.{groupsSize}
+use Rattle.layout.specs.Measure.{groupsSize}
 use Rattle.groups.specs.Group.{groupOctets, groupsOctets}
 use Rattle.groups.proofs.Sizes.{groups-long}
 

@@ -22,9 +22,9 @@ use Rattle.stores.proofs.Stores.{putting-none}
 use Rattle.settings.specs.declared.Settings.{Settings}
 use Rattle.settings.specs.Settings.{channelLimit}
 use Rattle.layout.specs.Frame.{sequenceOctets, samplesOctets}
-use Rattle.layout.specs.Size.{groupsSize, frameSize}
+use Rattle.sizes.specs.Size.{frameSize}
 use Rattle.layout.specs.declared.Layout.{Layout}
-use Rattle.layout.specs.Measure.{layoutOf}
+use Rattle.layout.specs.Measure.{groupsSize, layoutOf}
 use Rattle.layout.proofs.Laws.{groups-few}
 use Rattle.dated.proofs.Refreshed.{held-long}
 use Rattle.records.specs.Records.{recordsIn, heldIn}

@@ -14,7 +14,8 @@ use Rattle.stores.specs.Storing.{Put, Putting, put-fits}
 use Rattle.stores.proofs.Stores.{put-then, put-long}
 use Rattle.settings.specs.declared.Settings.{Settings}
 use Rattle.layout.specs.Frame.{samplesOctets, reported}
-use Rattle.layout.specs.Size.{groupsSize, frameSize}
+use Rattle.sizes.specs.Size.{frameSize}
+use Rattle.layout.specs.Measure.{groupsSize}
 use Rattle.groups.specs.Head.{headItems}
 use Rattle.groups.specs.Group.{groupsOctets}
 use Rattle.groups.proofs.Sizes.{head-long, groups-long}

@@ -12,7 +12,8 @@ ghost use lib.Dec.{leb};
 ghost use lib.ListN.{length, take};
 ghost use Rattle.stores.specs.Storing.{Put, Putting};
 ghost use Rattle.layout.specs.Frame.{samplesOctets, reported};
-ghost use Rattle.layout.specs.Size.{groupsSize, frameSize};
+ghost use Rattle.sizes.specs.Size.{frameSize};
+ghost use Rattle.layout.specs.Measure.{groupsSize};
 ghost use Rattle.laid.specs.Turned.{Even, turnedAll};
 ghost use Rattle.groups.specs.Group.{groupsOctets};
 ghost use Rattle.frames.specs.Parts.{Few, samplesTurned, waveformHead, frameParts, frameGiven};
@@ -154,7 +155,7 @@ fn most(long: usize) -> u64
 fn holds(long: usize, sequences: u32, octets: u64) -> bool
     ensures { λ r. ⌜ r ≡ leb (sequences * octets) (min long octetsLimit) ⌝ }
 {
-    layout::holds(most(long), sequences, octets)
+    sizes::holds(most(long), sequences, octets)
 }
 
 // Stores the frame of a waveform, whose channels' settings are what the first `count` records that words hold say.
@@ -176,7 +177,7 @@ pub fn put_frame(
         return at;
     }
     let octets = sequences as u64 * l.octets;
-    let size = layout::frame_size(sequences, l.groups as u32, octets as u32);
+    let size = sizes::frame_size(sequences, l.groups as u32, octets as u32);
     if stores::overruns(out.len(), at, size as usize) {
         return at;
     }

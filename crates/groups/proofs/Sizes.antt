@@ -20,8 +20,9 @@ use Rattle.values.proofs.Laws.{width-le}
 use Rattle.settings.specs.declared.Scale.{Scale}
 use Rattle.settings.specs.declared.Settings.{Settings}
 use Rattle.layout.specs.Frame.{widthIn, offsetBits, reported}
-use Rattle.layout.specs.Size.{channelSize, nullSize, contentSize, groupSize, groupsSize, sequencesSize, headSize}
-use Rattle.layout.proofs.Laws.{null-le}
+use Rattle.sizes.specs.Size.{channelSize, nullSize, contentSize, groupSize, sequencesSize, headSize}
+use Rattle.layout.specs.Measure.{groupsSize}
+use Rattle.sizes.proofs.Laws.{null-le}
 use Rattle.groups.specs.Item.{itemOctets, numberItem, unsignedOf}
 use Rattle.groups.specs.Head.{sequencesItem, headItems}
 use Rattle.groups.specs.Group.{channelOctets, scaleItem, nullItem, groupItems, groupOctets, groupsOctets}

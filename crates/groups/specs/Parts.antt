@@ -5,7 +5,7 @@ use lib.IntN.{ℤ, pos, negsuc}
 use Rattle.stores.specs.Number.{field}
 use Rattle.settings.specs.declared.Settings.{Settings}
 use Rattle.layout.specs.Frame.{widthIn, offsetBits}
-use Rattle.layout.specs.Size.{nullSize}
+use Rattle.sizes.specs.Size.{nullSize}
 use Rattle.groups.specs.Group.{scaleItem}
 
 -- A signed number in two's complement, where `full` numbers can be told apart.

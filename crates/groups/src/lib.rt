@@ -10,7 +10,7 @@ ghost use lib.ListN.{length};
 ghost use lib.Signed.{mag};
 ghost use Rattle.stores.specs.Storing.{Put, Putting};
 ghost use Rattle.layout.specs.Frame.{widthIn, reported};
-ghost use Rattle.layout.specs.Size.{contentSize};
+ghost use Rattle.sizes.specs.Size.{contentSize};
 ghost use Rattle.groups.specs.Head.{sequencesItem, headItems};
 ghost use Rattle.groups.specs.Group.{channelOctets, scaleItem, groupItems, groupOctets};
 ghost use Rattle.groups.specs.Parts.{unsignedBy, firstItems, scaleItems, lastItems};
@@ -71,7 +71,7 @@ fn put_last(out: &mut [u8], at: usize, c: Settings) -> usize
     let offset = layout::offset_bits(c);
     let null = c.null;
     let w = values::width(c.datatype) as u8;
-    let n = layout::null_size(w, null) as u8;
+    let n = sizes::null_size(w, null) as u8;
     let a = stores::put_field(out, at, 0x0D, w, offset.bits);
     stores::put_field(out, a, 0x12, n, null.bits)
 }
@@ -113,10 +113,10 @@ pub fn put_group(out: &mut [u8], at: usize, k: u8, c: Settings) -> usize
 {
     let w = values::width(c.datatype) as u8;
     let null = c.null;
-    if stores::overruns(out.len(), at, layout::group_size(k as usize, w, null)) {
+    if stores::overruns(out.len(), at, sizes::group_size(k as usize, w, null)) {
         return at;
     }
-    store_group(out, at, k, layout::content_size(w, null) as u8, c)
+    store_group(out, at, k, sizes::content_size(w, null) as u8, c)
 }
 
 // 06 with four octets, or none for 0 sequences.
@@ -144,7 +144,7 @@ fn store_head(out: &mut [u8], at: usize, count: u32, sequences: u32, start: i32)
 pub fn put_head(out: &mut [u8], at: usize, count: u32, sequences: u32, start: i32) -> usize
     ensures { λ r. ⌜ Putting (now (out .entry)) at (headItems count sequences start) r (now (out .exit)) ⌝ }
 {
-    if stores::overruns(out.len(), at, layout::head_size(sequences)) {
+    if stores::overruns(out.len(), at, sizes::head_size(sequences)) {
         return at;
     }
     store_head(out, at, count, sequences, start)

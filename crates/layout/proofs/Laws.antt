@@ -6,41 +6,33 @@
 --     Summing        the same over the first records of a table
 --     summing-start, summing-none, summing-more, summed-below, summed-up    before the first one, one further, between two, after the last one
 --     take-few       no more records are taken than there are
---     null-le, channel-few, groups-few    a null, a channel number and groups take few octets
---     sequences-item-few, head-few, frame-few    and so do 06, a frame's head, and a frame
---     held-by      whether sequences fit in so many octets, by how many do
+--     groups-few, frame-few    groups and a frame take few octets
 -- Assumes nothing.
 use mathlib.Core.Path.{_≡_, refl, sym, ap, _∙_}
 use mathlib.Core.List.{List, [], _∷_}
 use mathlib.Core.Bool.{Bool, true, false}
-use Prim.Native.Nat.{ℕ, zero, suc, _+_, _-_, _*_, _/_, _^_, _≤_, _<_, _%_, min}
-use native.Mathlib.Nat.{add-assoc, zero-add, add-zero, mod-eq-of-lt, le-div-iff-mul-le, div-lt-iff-lt-mul}
+use Prim.Native.Nat.{ℕ, zero, suc, _+_, _-_, _*_, _^_, _≤_, _<_, _%_, min}
+use native.Mathlib.Nat.{add-assoc, zero-add, add-zero, mod-eq-of-lt}
 use native.Mathlib.Numerals.{add-one}
 use native.Mathlib.Omega.{arith}
 use native.Mathlib.Decide.{decLt}
-use borrow.Author.Tests.{ltb-true, ltb-false, le-leb, lt-leb, leb-true, leb-false}
-use lib.Dec.{ltb, leb, eqb}
+use borrow.Author.Tests.{ltb-true, ltb-false}
+use lib.Dec.{ltb}
 use lib.ListN.{length, getD, take, drop, drop-of-length-le}
 use lib.Seq.{drop-cons, take-nil, take-all, getD-take, length-take-le}
 use Rattle.octets.specs.Pick.{pick, both}
 use Rattle.octets.proofs.Pick.{pick-cases}
 use Rattle.stores.proofs.Length.{length-shortest}
+use Rattle.sizes.specs.Size.{groupSize, frameSize}
+use Rattle.sizes.proofs.Laws.{null-le, channel-few, head-few}
 use Rattle.values.proofs.Laws.{width-le}
-use Rattle.values.specs.declared.Bits.{Bits}
 use Rattle.settings.specs.declared.Settings.{Settings}
 use Rattle.settings.specs.Settings.{channelLimit, zeroSettings}
 use Rattle.layout.specs.declared.Layout.{Layout}
 use Rattle.layout.specs.Frame.{widthIn, blockOctets, sequenceOctets, octetsBelow, channelAgrees, allAgree}
-use Rattle.layout.specs.Size.{channelSize, nullSize, groupSize, groupsSize, sequencesSize, headSize, frameSize}
-use Rattle.layout.specs.Measure.{layoutOf, noLayout, moreOf, More}
+use Rattle.layout.specs.Measure.{groupsSize, layoutOf, noLayout, moreOf, More}
 
--- A null takes no more than a sample, and a group at most 64 octets.
-pub null-le : (width : ℕ) (null : Bits) → nullSize width null ≤ width
-null-le width null = pick-cases (λ (n : ℕ). n ≤ width) (eqb (null .width) 0) (λ _. omega arith) (λ _. omega arith)
-
-pub channel-few : (k : ℕ) → channelSize k ≤ 2
-channel-few k = pick-cases (λ (n : ℕ). n ≤ 2) (ltb k 128) (λ _. omega arith) (λ _. omega arith)
-
+-- A group takes at most 64 octets.
 group-few : (k : ℕ) (c : Settings) → groupSize k (widthIn c) (c .null) ≤ 64
 unfolding groupSize
 group-few k c = omega (arith, channel-few k, width-le (c .datatype), null-le (widthIn c) (c .null))
@@ -191,27 +183,7 @@ unfolding groupsSize
 groups-few k [] = omega arith
 groups-few k (c ∷ cs) = omega (arith, group-few k c, groups-few (suc k) cs)
 
--- 06 and a frame's head take few octets, and so does a frame of few channels in a file that has a limit.
-pub sequences-item-few : (sequences : ℕ) → sequencesSize sequences ≤ 6
-sequences-item-few sequences = pick-cases (λ (n : ℕ). n ≤ 6) (eqb sequences 0) (λ _. omega arith) (λ _. omega arith)
-
-pub head-few : (sequences : ℕ) → headSize sequences ≤ 18
-unfolding headSize
-head-few sequences = omega (arith, sequences-item-few sequences)
-
+-- A frame of few channels in a file that has a limit takes few octets.
 pub frame-few : (sequences groups waveform : ℕ) → groups ≤ channelLimit * 64 → waveform < 2 ^ 31 → frameSize sequences groups waveform < 2 ^ 32
 unfolding frameSize
 frame-few sequences groups waveform h l = omega (arith, head-few sequences, length-shortest waveform)
-
--- ---- sequences in so many octets
-
--- Sequences fit in where that many do.
-pub held-by : (sequences octets most : ℕ) → (octets ≡ 0 → ⊥) → leb sequences (most / octets) ≡ leb (sequences * octets) most
-held-by sequences octets most n = by (leb sequences (most / octets)) refl
-  where
-    some : 0 < octets
-    some = omega arith
-
-    by : (t : Bool) → leb sequences (most / octets) ≡ t → t ≡ leb (sequences * octets) most
-    by true h = sym (le-leb (sequences * octets) most (le-div-iff-mul-le some .0 (leb-true sequences (most / octets) h)))
-    by false h = sym (lt-leb (sequences * octets) most (div-lt-iff-lt-mul some .0 (leb-false sequences (most / octets) h)))

@@ -1,3 +1,2 @@
 pub mod Frame
-pub mod Size
 pub mod Measure

@@ -1,14 +1,19 @@
 -- What one pass over the channels of a frame tells.
 use mathlib.Core.Path.{_≡_}
 use mathlib.Core.Bool.{true}
-use mathlib.Core.List.{List}
-use Prim.Native.Nat.{ℕ, _+_, _%_, _<_, _^_}
+use mathlib.Core.List.{List, [], _∷_}
+use Prim.Native.Nat.{ℕ, suc, _+_, _%_, _<_, _^_}
 use lib.Dec.{ltb}
 use Rattle.octets.specs.Pick.{pick, both}
+use Rattle.sizes.specs.Size.{groupSize}
 use Rattle.settings.specs.declared.Settings.{Settings}
 use Rattle.layout.specs.declared.Layout.{Layout}
 use Rattle.layout.specs.Frame.{widthIn, blockOctets, sequenceOctets, octetsBelow, channelAgrees, allAgree}
-use Rattle.layout.specs.Size.{groupSize, groupsSize}
+
+-- The octets that the groups of channels from k on take in the canonical file.
+unfoldable pub groupsSize : ℕ → List Settings → ℕ
+groupsSize k [] = 0
+groupsSize k (c ∷ cs) = groupSize k (widthIn c) (c .null) + groupsSize (suc k) cs
 
 -- Whether offsets and nulls agree with their widths, G, the octets below a channel, and the canonical groups' octets.
 unfoldable pub layoutOf : ℕ → List Settings → Layout

@@ -2,15 +2,13 @@
 //
 // Promises: `Layout::more`, called for one channel after the other, sums up whether offsets and nulls have their sample widths, the octets of
 // a sequence, those below a channel, and the octets that the channels' groups take in the canonical file.
-// `frame_size` answers how many octets a frame takes there, `head_size` and `group_size` its head and a group, `content_size` and `null_size` a
-// group's items and a null's value; `holds` whether so many octets hold so many sequences; `offset_bits` a channel's offset, one that is not defined too, and `reported` its attributes with that offset.
-// Read first: specs/Frame.antt (frames and the place of a sample), specs/Size.antt.
+// `offset_bits` answers a channel's offset, one that is not defined too, and `reported` its attributes with that offset.
+// Read first: specs/Frame.antt (frames and the place of a sample), specs/Measure.antt.
 ghost use mathlib.Core.Path.{_≡_};
-ghost use Prim.Native.Nat.{_+_, _*_, _%_, _^_, _<_};
-ghost use lib.Dec.{ltb, leb};
+ghost use Prim.Native.Nat.{_+_, _%_, _^_};
+ghost use lib.Dec.{ltb};
 ghost use Rattle.octets.specs.Pick.{pick, both};
-ghost use Rattle.layout.specs.Frame.{offsetBits, widthAgrees, widthIn, blockOctets, reported, channelAgrees};
-ghost use Rattle.layout.specs.Size.{channelSize, nullSize, contentSize, groupSize, sequencesSize, headSize, frameSize};
+ghost use Rattle.layout.specs.Frame.{offsetBits, widthAgrees, reported};
 ghost use Rattle.layout.specs.Measure.{noLayout, More};
 use settings::Change;
 use settings::Settings;
@@ -62,34 +60,6 @@ pub fn reported(c: Settings) -> Settings
     settings::apply(c, Change::Offset(offset_bits(c)))
 }
 
-// A shortest channel number's octets.
-fn channel_size(k: usize) -> usize
-    ensures { λ r. ⌜ r ≡ channelSize k ⌝ }
-{
-    if k < 128 { 1 } else { 2 }
-}
-
-// The octets of a null's value, where samples have w octets.
-pub fn null_size(w: u8, null: Bits) -> usize
-    ensures { λ r. ⌜ r ≡ nullSize w null ⌝ }
-{
-    if null.width == 0 { 0 } else { w as usize }
-}
-
-// The octets of the items of a channel's group.
-pub fn content_size(w: u8, null: Bits) -> usize
-    ensures { λ r. ⌜ r ≡ contentSize w null ⌝ }
-{
-    37 + w as usize + null_size(w, null)
-}
-
-// The octets of channel k's group.
-pub fn group_size(k: usize, w: u8, null: Bits) -> usize
-    ensures { λ r. ⌜ r ≡ groupSize k w null ⌝ }
-{
-    2 + channel_size(k) + content_size(w, null)
-}
-
 // Octets of a channel that lies below another one are added.
 fn added_below(i: usize, channel: u32, below: u64, octets: u64) -> u64
     ensures { λ r. ⌜ r ≡ pick (ltb i channel) ((below + octets) % 2 ^ 64) below ⌝ }
@@ -133,40 +103,7 @@ impl Layout {
             agree: agree_both(self.agree, widths_agree(w, offset, null)),
             octets: std::num::wrapping_add_u64(self.octets, octets),
             below: added_below(i, channel, self.below, octets),
-            groups: std::num::wrapping_add_u64(self.groups, group_size(i, w, null) as u64),
+            groups: std::num::wrapping_add_u64(self.groups, sizes::group_size(i, w, null) as u64),
         }
     }
-}
-
-// The octets of 06.
-fn sequences_size(sequences: u32) -> usize
-    ensures { λ r. ⌜ r ≡ sequencesSize sequences ⌝ }
-{
-    if sequences == 0 { 2 } else { 6 }
-}
-
-// The octets of 05, 06 and 07.
-pub fn head_size(sequences: u32) -> usize
-    ensures { λ r. ⌜ r ≡ headSize sequences ⌝ }
-{
-    12 + sequences_size(sequences)
-}
-
-// Whether `long` octets hold so many sequences of so many octets.
-pub fn holds(long: u64, sequences: u32, octets: u64) -> bool
-    ensures { λ r. ⌜ r ≡ leb (sequences * octets) long ⌝ }
-{
-    if octets < octets::FOUR_OCTETS {
-        return sequences as u64 * octets <= long;
-    }
-    sequences as u64 <= long / octets
-}
-
-// The octets of a frame, whose channels' groups and whose samples take so many.
-pub fn frame_size(sequences: u32, groups: u32, waveform: u32) -> u64
-    ensures { λ r. ⌜ (r ≡ frameSize sequences groups waveform) × (r < 2 ^ 34) ⌝ }
-{
-    let head = head_size(sequences) as u64;
-    let length = stores::length_octets(waveform) as u64;
-    head + groups as u64 + (1 + length + waveform as u64)
 }

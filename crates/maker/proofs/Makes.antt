@@ -32,8 +32,8 @@ use Rattle.stores.proofs.Stores.{sets-front}
 use Rattle.settings.specs.Settings.{channelLimit}
 use Rattle.layout.specs.declared.Layout.{Layout}
 use Rattle.layout.specs.Frame.{sequenceOctets, samplesOctets, octetsSampled}
-use Rattle.layout.specs.Size.{groupsSize, frameSize}
-use Rattle.layout.specs.Measure.{layoutOf}
+use Rattle.sizes.specs.Size.{frameSize}
+use Rattle.layout.specs.Measure.{groupsSize, layoutOf}
 use Rattle.layout.proofs.Laws.{groups-few}
 use Rattle.standing.specs.Standing.{octetsLimit}
 use Rattle.framing.specs.Framing.{pointerFits}

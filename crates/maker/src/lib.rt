@@ -15,7 +15,8 @@ ghost use Rattle.stores.specs.Storing.{Put};
 ghost use Rattle.heads.specs.Answer.{refusedAs};
 ghost use Rattle.standing.specs.Standing.{octetsLimit};
 ghost use Rattle.layout.specs.Frame.{samplesOctets, reported};
-ghost use Rattle.layout.specs.Size.{groupsSize, frameSize};
+ghost use Rattle.sizes.specs.Size.{frameSize};
+ghost use Rattle.layout.specs.Measure.{groupsSize};
 ghost use Rattle.groups.specs.Group.{groupsOctets};
 ghost use Rattle.frames.specs.Parts.{frameParts};
 ghost use Rattle.canonical.specs.Write.{writtenSays};
@@ -125,7 +126,7 @@ pub fn make_frame(
     if Standing::OCTETS < samples.len() {
         return refused(Refusal::NO_ROOM);
     }
-    let size = layout::frame_size(sequences as u32, l.groups as u32, samples.len() as u32) as usize;
+    let size = sizes::frame_size(sequences as u32, l.groups as u32, samples.len() as u32) as usize;
     if Standing::OCTETS - ORDER < size {
         return refused(Refusal::NO_ROOM);
     }

@@ -17,7 +17,7 @@ use Rattle.settings.specs.declared.Change.{Change}
 use Rattle.settings.specs.Settings.{channelLimit, defaultSettings, zeroSettings, applied, allApplied}
 use Rattle.settings.proofs.Repeats.{map-replicate}
 use Rattle.layout.specs.declared.Layout.{Layout}
-use Rattle.layout.specs.Size.{frameSize}
+use Rattle.sizes.specs.Size.{frameSize}
 use Rattle.layout.specs.Measure.{More}
 use Rattle.layout.proofs.Laws.{Summing, summing-more}
 use Rattle.standing.specs.declared.Standing.{Standing}

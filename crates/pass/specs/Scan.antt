@@ -9,7 +9,8 @@ use lib.ListN.{length, getD}
 use Rattle.octets.specs.Pick.{pick}
 use Rattle.heads.specs.declared.Refusal.{Refusal}
 use Rattle.layout.specs.Frame.{Frame, octetsSampled}
-use Rattle.layout.specs.Size.{frameSize, groupsSize}
+use Rattle.sizes.specs.Size.{frameSize}
+use Rattle.layout.specs.Measure.{groupsSize}
 use Rattle.pass.specs.declared.Asked.{Asked}
 use Rattle.pass.specs.declared.Found.{Found}
 use Rattle.pass.specs.declared.Found.the-variants.{Nothing}

@@ -12,7 +12,7 @@ ghost use lib.ListN.{length, take, replicate};
 ghost use Rattle.items.specs.Walk.{cursor, refusal};
 ghost use Rattle.settings.specs.Settings.{defaultSettings, channelLimit};
 ghost use Rattle.stretch.specs.Stretch.{stretchOf};
-ghost use Rattle.layout.specs.Size.{frameSize};
+ghost use Rattle.sizes.specs.Size.{frameSize};
 ghost use Rattle.layout.specs.Measure.{layoutOf};
 ghost use Rattle.standing.specs.Standing.{octetsLimit};
 ghost use Rattle.framing.specs.Framing.{channelsOf};
@@ -142,7 +142,7 @@ impl Met {
         ensures { λ r. ⌜ (r ≡ metWith asked st sequences start l c self) × (frameSize sequences (l .groups) (sequences * l .octets) < 2 ^ 32) ⌝ }
     {
         let waveform = sequences as u64 * l.octets;
-        let size = self.size + layout::frame_size(sequences, l.groups as u32, waveform as u32);
+        let size = self.size + sizes::frame_size(sequences, l.groups as u32, waveform as u32);
         let frames = self.frames + 1;
         if self.frames == asked.frame {
             return Met {

@@ -65,7 +65,7 @@ fn sequences_inside(place: usize, sequences: u32, octets: u64, size: usize) -> b
     if size < place {
         return false;
     }
-    layout::holds((size - place) as u64, sequences, octets)
+    sizes::holds((size - place) as u64, sequences, octets)
 }
 
 impl Spread {

@@ -8,7 +8,7 @@ use Rattle.values.proofs.Laws.{width-le}
 use Rattle.stores.proofs.Stores.{putting, putting-kept}
 use Rattle.settings.specs.declared.Settings.{Settings}
 use Rattle.layout.specs.Frame.{widthIn, reported}
-use Rattle.layout.specs.Size.{contentSize, groupSize}
+use Rattle.sizes.specs.Size.{contentSize, groupSize}
 use Rattle.groups.specs.Group.{groupOctets}
 use Rattle.groups.proofs.Sizes.{content-few, group-long}
 use borrow.Author.Needs.{needs}

@@ -9,8 +9,8 @@ use Rattle.values.specs.declared.Bits.{Bits}
 use Rattle.values.proofs.Laws.{width-le}
 use Rattle.settings.specs.declared.Settings.{Settings}
 use Rattle.layout.specs.Frame.{widthIn, offsetBits}
-use Rattle.layout.specs.Size.{nullSize}
-use Rattle.layout.proofs.Laws.{null-le}
+use Rattle.sizes.specs.Size.{nullSize}
+use Rattle.sizes.proofs.Laws.{null-le}
 use Rattle.groups.specs.Parts.{lastItems}
 use Rattle.groups.proofs.Puts.{put-two, put-as}
 use borrow.Author.Needs.{needs}

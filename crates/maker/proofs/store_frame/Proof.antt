@@ -1,7 +1,8 @@
 -- Head, groups, tag, length and samples, one after the other.
 use Rattle.groups.proofs.Puts.{put-as}
 use Rattle.stores.specs.Storing.{put-fits}
-use Rattle.layout.specs.Size.{groupsSize, frameSize}
+use Rattle.sizes.specs.Size.{frameSize}
+use Rattle.layout.specs.Measure.{groupsSize}
 use lib.Seq.{take-all}
 use native.Mathlib.Omega.{arith}
 use Prim.Native.Nat.{_+_, _≤_}

@@ -6,9 +6,9 @@ use native.Mathlib.Nat.{mul-le-mul-left}
 use lib.Dec.{ltb}
 use Rattle.octets.specs.Pick.{pick, both}
 use Rattle.values.proofs.Laws.{width-le}
+use Rattle.sizes.specs.Size.{groupSize}
 use Rattle.settings.specs.declared.Settings.{Settings}
 use Rattle.layout.specs.Frame.{widthIn, blockOctets, channelAgrees, widthAgrees}
-use Rattle.layout.specs.Size.{groupSize}
 use borrow.Author.Needs.{needs}
 use Rattle.layout.proofs.Layout.more.Statement.{statement}
 use Rattle.layout.proofs.Layout.more.Tie as tie

@@ -1,10 +1,10 @@
 -- A channel number and the items take few octets.
 use native.Mathlib.Omega.{arith}
-use Rattle.layout.specs.Size.{groupSize}
-use Rattle.layout.proofs.Laws.{null-le, channel-few}
+use Rattle.sizes.specs.Size.{groupSize}
+use Rattle.sizes.proofs.Laws.{null-le, channel-few}
 use borrow.Author.Needs.{needs}
-use Rattle.layout.proofs.group_size.Statement.{statement}
-use Rattle.layout.proofs.group_size.Tie as tie
+use Rattle.sizes.proofs.group_size.Statement.{statement}
+use Rattle.sizes.proofs.group_size.Tie as tie
 
 channel-size-requires : tie.Need-channel-size-requires
 channel-size-requires c κs = search needs

@@ -1,10 +1,10 @@
 -- 06 takes few octets.
 use native.Mathlib.Omega.{arith}
-use Rattle.layout.specs.Size.{headSize}
-use Rattle.layout.proofs.Laws.{sequences-item-few}
+use Rattle.sizes.specs.Size.{headSize}
+use Rattle.sizes.proofs.Laws.{sequences-item-few}
 use borrow.Author.Needs.{needs}
-use Rattle.layout.proofs.head_size.Statement.{statement}
-use Rattle.layout.proofs.head_size.Tie as tie
+use Rattle.sizes.proofs.head_size.Statement.{statement}
+use Rattle.sizes.proofs.head_size.Tie as tie
 
 sequences-size-requires : tie.Need-sequences-size-requires
 sequences-size-requires c κs = search needs

@@ -1,13 +1,10 @@
--- How many octets a frame takes in the canonical file (document 01, "The canonical file").
-use mathlib.Core.List.{List, [], _∷_}
-use Prim.Native.Nat.{ℕ, suc, _+_}
+-- How many octets the parts of a frame take in the canonical file (document 01, "The canonical file").
+use Prim.Native.Nat.{ℕ, _+_}
 use lib.Dec.{eqb, ltb}
 use lib.ListN.{length}
 use Rattle.octets.specs.Pick.{pick}
 use Rattle.stores.specs.Length.{shortest}
 use Rattle.values.specs.declared.Bits.{Bits}
-use Rattle.settings.specs.declared.Settings.{Settings}
-use Rattle.layout.specs.Frame.{widthIn}
 
 -- A shortest channel number below 16,384: one octet or two.
 abbrev pub channelSize : ℕ → ℕ
@@ -24,11 +21,6 @@ contentSize width null = 37 + width + nullSize width null
 -- A group: tag, channel number, one length octet, and its items.
 unfoldable pub groupSize : ℕ → ℕ → Bits → ℕ
 groupSize k width null = 2 + channelSize k + contentSize width null
-
--- The groups of channels from k on.
-unfoldable pub groupsSize : ℕ → List Settings → ℕ
-groupsSize k [] = 0
-groupsSize k (c ∷ cs) = groupSize k (widthIn c) (c .null) + groupsSize (suc k) cs
 
 -- 06 takes six octets, or two for 0 sequences.
 abbrev pub sequencesSize : ℕ → ℕ

@@ -1,11 +1,11 @@
 -- Its parts are small.
 use native.Mathlib.Omega.{arith}
 use Rattle.stores.proofs.Length.{length-shortest}
-use Rattle.layout.specs.Size.{frameSize}
-use Rattle.layout.proofs.Laws.{head-few}
+use Rattle.sizes.specs.Size.{frameSize}
+use Rattle.sizes.proofs.Laws.{head-few}
 use borrow.Author.Needs.{needs}
-use Rattle.layout.proofs.frame_size.Statement.{statement}
-use Rattle.layout.proofs.frame_size.Tie as tie
+use Rattle.sizes.proofs.frame_size.Statement.{statement}
+use Rattle.sizes.proofs.frame_size.Tie as tie
 
 head-size-requires : tie.Need-head-size-requires
 head-size-requires c κs = search needs

@@ -1,7 +1,7 @@
 -- Each way out is what its tests say.
 use borrow.Author.Tests.{lt-ltb, le-ltb}
-use Rattle.layout.proofs.channel_size.Statement.{statement}
-use Rattle.layout.proofs.channel_size.Tie as tie
+use Rattle.sizes.proofs.channel_size.Statement.{statement}
+use Rattle.sizes.proofs.channel_size.Tie as tie
 
 returns : tie.Need-returns
 returns c = simp (lt-ltb _ 128 (c .if1 .taken))

@@ -1,9 +1,9 @@
 -- A null takes no more than a sample.
 use native.Mathlib.Omega.{arith}
-use Rattle.layout.proofs.Laws.{null-le}
+use Rattle.sizes.proofs.Laws.{null-le}
 use borrow.Author.Needs.{needs}
-use Rattle.layout.proofs.content_size.Statement.{statement}
-use Rattle.layout.proofs.content_size.Tie as tie
+use Rattle.sizes.proofs.content_size.Statement.{statement}
+use Rattle.sizes.proofs.content_size.Tie as tie
 
 add-result : tie.Need-add-result
 add-result c = search needs

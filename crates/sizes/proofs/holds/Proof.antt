@@ -2,10 +2,10 @@
 use Prim.Native.Nat.{_≤_}
 use native.Mathlib.Nat.{mul-le-mul}
 use native.Mathlib.Omega.{arith}
-use Rattle.layout.proofs.Laws.{held-by}
+use Rattle.sizes.proofs.Laws.{held-by}
 use borrow.Author.Needs.{needs}
-use Rattle.layout.proofs.holds.Statement.{statement}
-use Rattle.layout.proofs.holds.Tie as tie
+use Rattle.sizes.proofs.holds.Statement.{statement}
+use Rattle.sizes.proofs.holds.Tie as tie
 
 mul-result : tie.Need-mul-result
 mul-result c =
