@@ -109,8 +109,8 @@ fn scale_of(v: &[u8], little: bool) -> Scale
 {
     Scale {
         unit: octet(v, 0),
-        exponent: octets::signed_octet(octet(v, 1)),
-        mantissa: octets::signed(octets::part(v, 2, 4), little),
+        exponent: digits::signed_octet(octet(v, 1)),
+        mantissa: digits::signed(octets::part(v, 2, 4), little),
     }
 }
 
@@ -130,9 +130,9 @@ fn change_of(a: Attribute, v: &[u8], little: bool) -> Change
     ensures { λ r. ⌜ r ≡ changeOf a «little» (now (v .entry)) ⌝ }
 {
     match a {
-        Attribute::Block => Change::Block(octets::four(v, little)),
-        Attribute::Class => Change::Class(octets::two(v, little)),
-        Attribute::Lead => Change::Lead(octets::two(v, little)),
+        Attribute::Block => Change::Block(digits::four(v, little)),
+        Attribute::Class => Change::Class(digits::two(v, little)),
+        Attribute::Lead => Change::Lead(digits::two(v, little)),
         Attribute::DataType => Change::DataType(octet(v, 0)),
         Attribute::Interval => Change::Interval(scale_of(v, little)),
         Attribute::Resolution => Change::Resolution(scale_of(v, little)),
@@ -231,7 +231,7 @@ pub fn block_read(v: &[u8], little: bool, base: u32) -> BlockRead
     if v.len() == 0 {
         return BlockRead::Value(base);
     }
-    let n = octets::four(v, little);
+    let n = digits::four(v, little);
     if block_fits(n) {
         BlockRead::Value(n)
     } else {
@@ -249,7 +249,7 @@ pub fn code_read(v: &[u8], little: bool, base: u16) -> CodeRead
     if v.len() == 0 {
         return CodeRead::Value(base);
     }
-    CodeRead::Value(octets::two(v, little))
+    CodeRead::Value(digits::two(v, little))
 }
 
 // The data type.

@@ -62,7 +62,7 @@ fn count_effect(little: bool, v: &[u8]) -> Effect
     if v.len() == 0 {
         return Effect::Count(0);
     }
-    let n = octets::four(v, little);
+    let n = digits::four(v, little);
     if n == 0 {
         return Effect::Refused(Refusal::UNFIT_VALUE);
     }
@@ -82,7 +82,7 @@ fn sequences_effect(little: bool, v: &[u8]) -> Effect
     if v.len() == 0 {
         return Effect::Sequences(0);
     }
-    let n = octets::four(v, little);
+    let n = digits::four(v, little);
     if n == 0 {
         return Effect::Refused(Refusal::UNFIT_VALUE);
     }
@@ -99,7 +99,7 @@ fn start_effect(little: bool, continued: i64, v: &[u8]) -> Effect
     if v.len() == 0 {
         return Effect::Start(continued);
     }
-    let z = octets::signed(v, little);
+    let z = digits::signed(v, little);
     Effect::Start(z as i64)
 }
 

@@ -120,7 +120,7 @@ fn mantissa(numbers: &[i64], at: usize) -> i32
 fn bits_fit(width: usize, x: u64) -> bool
     ensures { λ r. ⌜ r ≡ bitsFit width x ⌝ }
 {
-    octets::lowest(x, width) == x
+    digits::lowest(x, width) == x
 }
 
 // There is no null.

@@ -84,8 +84,8 @@ fn scale(t: &[u64], i: usize, a: usize) -> Scale
 {
     Scale {
         unit: one(word(t, i, a)),
-        exponent: octets::signed_octet(one(word(t, i, a + 1))),
-        mantissa: octets::lowest_signed(word(t, i, a + 2), 4),
+        exponent: digits::signed_octet(one(word(t, i, a + 1))),
+        mantissa: digits::lowest_signed(word(t, i, a + 2), 4),
     }
 }
 

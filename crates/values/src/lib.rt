@@ -68,7 +68,7 @@ fn whole(n: u64, w: usize) -> Value
     requires { ⌜ (w ≤ 4) × (n < range w) ⌝ }
     ensures { λ r. ⌜ valueSays r ≡ wholeSaid (twos w n) ⌝ }
 {
-    Value::Whole(octets::lowest_signed(n, w) as i64)
+    Value::Whole(digits::lowest_signed(n, w) as i64)
 }
 
 // A whole number without a sign.
@@ -119,7 +119,7 @@ fn plain(datatype: u8, n: u64) -> Value
 pub fn sample_value(bits: u64, datatype: u8, null: Bits) -> Value
     ensures { λ r. ⌜ valueSays r ≡ valueOf datatype null (lowBits datatype bits) ⌝ }
 {
-    let n = octets::lowest(bits, width(datatype));
+    let n = digits::lowest(bits, width(datatype));
     if null.width != 0 {
         if null.bits == n {
             return Value::Null;

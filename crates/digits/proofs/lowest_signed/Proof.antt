@@ -1,12 +1,12 @@
--- `octets::lowest_signed` meets its contract: the lowest octets are a number of their width, and `extended` gives it its sign.
+-- `digits::lowest_signed` meets its contract: the lowest octets are a number of their width, and `extended` gives it its sign.
 -- Assumes nothing.
 use mathlib.Core.Path.{_∙_}
 use native.Mathlib.Nat.{mod-lt, min-le-right}
 use mir.Facts.{toZ-ofZ}
 use Rattle.octets.proofs.Laws.{range-pos}
 use borrow.Author.Needs.{needs}
-use Rattle.octets.proofs.lowest_signed.Statement.{statement}
-use Rattle.octets.proofs.lowest_signed.Tie as tie
+use Rattle.digits.proofs.lowest_signed.Statement.{statement}
+use Rattle.digits.proofs.lowest_signed.Tie as tie
 
 at-most-four-requires : tie.Need-at-most-four-requires
 at-most-four-requires c κs = search needs

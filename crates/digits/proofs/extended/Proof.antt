@@ -1,12 +1,12 @@
--- `octets::extended` meets its contract: below half of the range the number is itself, else the complement of its distance from the
+-- `digits::extended` meets its contract: below half of the range the number is itself, else the complement of its distance from the
 -- top. Assumes nothing.
 use Prim.Native.Nat.{_-_, _≤_}
 use native.Mathlib.Omega.{arith}
 use mir.Syntax.{w32}
 use Rattle.octets.proofs.Laws.{cap, twos-low, twos-high}
 use borrow.Author.Needs.{needs}
-use Rattle.octets.proofs.extended.Statement.{statement}
-use Rattle.octets.proofs.extended.Tie as tie
+use Rattle.digits.proofs.extended.Statement.{statement}
+use Rattle.digits.proofs.extended.Tie as tie
 
 -- the range of at most four octets
 small : (c : tie.After-span) → c .span .result ≤ 4294967296

@@ -1,10 +1,10 @@
--- `octets::signed_octet` meets its contract as `extended` does, at one octet. Assumes nothing.
+-- `digits::signed_octet` meets its contract as `extended` does, at one octet. Assumes nothing.
 use Prim.Native.Nat.{_-_}
 use mir.Syntax.{w8}
 use Rattle.octets.proofs.Laws.{twos-low, twos-high}
 use borrow.Author.Needs.{needs}
-use Rattle.octets.proofs.signed_octet.Statement.{statement}
-use Rattle.octets.proofs.signed_octet.Tie as tie
+use Rattle.digits.proofs.signed_octet.Statement.{statement}
+use Rattle.digits.proofs.signed_octet.Tie as tie
 
 cast-result : tie.Need-cast-result
 cast-result c = search needs

@@ -1,15 +1,15 @@
--- `octets::signed` meets its contract: the number of at most four octets is one of their width, and `extended` gives it its sign.
+-- `digits::signed` meets its contract: the number of at most four octets is one of their width, and `extended` gives it its sign.
 -- Assumes nothing.
 use Prim.Native.Nat.{_≤_}
 use mathlib.Core.Path.{_∙_}
 use native.Mathlib.Omega.{arith}
 use lib.ListN.{length}
 use mir.Facts.{toZ-ofZ}
 use Rattle.octets.specs.Number.{signedOf, NumberRead}
 use Rattle.octets.proofs.Laws.{part-short, read-all}
 use borrow.Author.Needs.{needs}
-use Rattle.octets.proofs.signed.Statement.{statement}
-use Rattle.octets.proofs.signed.Tie as tie
+use Rattle.digits.proofs.signed.Statement.{statement}
+use Rattle.digits.proofs.signed.Tie as tie
 
 -- the part that counts, with the number that was read of it
 short : (c : tie.After-number) → length (c .before .part .result .now) ≤ 4

@@ -1,12 +1,12 @@
--- `octets::lowest` meets its contract: no number has more than eight octets, and of fewer the rest of a division is left. Assumes nothing.
+-- `digits::lowest` meets its contract: no number has more than eight octets, and of fewer the rest of a division is left. Assumes nothing.
 use Prim.Native.Nat.{ℕ, _%_}
 use mathlib.Core.Path.{sym, ap}
 use native.Mathlib.Nat.{lt-of-lt-of-le, mod-eq-of-lt}
 use native.Mathlib.Omega.{arith}
 use Rattle.octets.proofs.Laws.{range-pos, cap}
 use borrow.Author.Needs.{needs}
-use Rattle.octets.proofs.lowest.Statement.{statement}
-use Rattle.octets.proofs.lowest.Tie as tie
+use Rattle.digits.proofs.lowest.Statement.{statement}
+use Rattle.digits.proofs.lowest.Tie as tie
 
 returns : tie.Need-returns
 returns c = sym (mod-eq-of-lt (lt-of-lt-of-le (search needs) (cap 8 _ (c .if1 .taken))))

@@ -1,11 +1,11 @@
--- `octets::span` meets its contract: eight bits are an octet, by `range-bits`. Assumes nothing.
+-- `digits::span` meets its contract: eight bits are an octet, by `range-bits`. Assumes nothing.
 use Prim.Native.Nat.{_≤_, _*_, _^_}
 use native.Mathlib.Omega.{arith}
 use lib.Pow.{pow-mono}
 use Rattle.octets.proofs.Laws.{range-bits}
 use borrow.Author.Needs.{needs}
-use Rattle.octets.proofs.span.Statement.{statement}
-use Rattle.octets.proofs.span.Tie as tie
+use Rattle.digits.proofs.span.Statement.{statement}
+use Rattle.digits.proofs.span.Tie as tie
 
 mul-result : tie.Need-mul-result
 mul-result c = search needs
