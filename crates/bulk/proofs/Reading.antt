@@ -17,10 +17,11 @@ use Rattle.heads.specs.Refusals.{noFrame, noSample}
 use Rattle.heads.specs.Answer.{answered, refusedAs, mapAnswer, leftBy}
 use Rattle.layout.specs.Frame.{channelIn, samplesOf}
 use Rattle.laid.specs.Laid.{sampleBits}
-use Rattle.strides.specs.Spread.{bitsSpread, bitsFrom, laysIn}
+use Rattle.spread.specs.Spread.{bitsSpread}
+use Rattle.strides.specs.Laying.{bitsFrom, laysIn}
 use Rattle.strides.specs.Walked.{Layable}
 use Rattle.strides.proofs.Walks.{length-bits, bits-same}
-use Rattle.strides.proofs.Lying.{in-lays}
+use Rattle.strides.proofs.Laying.{in-lays}
 use Rattle.strides.proofs.Channels.{filled}
 use Rattle.view.specs.declared.View.{View}
 use Rattle.view.specs.View.{spreadOf, countSeen, placeSeen, liesIn, askedSeen}

@@ -28,7 +28,7 @@ use Rattle.heads.specs.Answer.{Answer, answered, refusedAs, leftBy}
 use Rattle.view.specs.declared.View.{View}
 use Rattle.view.specs.View.{countSeen, placeSeen, liesIn}
 use Rattle.view.proofs.Lying.{LiesIn, FoundIn, found-asked}
-use Rattle.strides.specs.Spread.{bitsFrom}
+use Rattle.strides.specs.Laying.{bitsFrom}
 use Rattle.strides.proofs.Walks.{length-bits, bits-append, stores-join}
 use Rattle.bulk.specs.Samples.{bitsSeen, readSeen, valuesBy}
 use Rattle.bulk.specs.Walked.{meaningSeen, kindsSeen, wholesSeen}

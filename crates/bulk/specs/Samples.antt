@@ -9,7 +9,8 @@ use Rattle.settings.specs.declared.Settings.{Settings}
 use Rattle.layout.specs.Frame.{channelIn, samplesOf}
 use Rattle.laid.specs.Laid.{sampleBits}
 use Rattle.view.specs.declared.View.{View}
-use Rattle.strides.specs.Spread.{bitsSpread, bitsFrom}
+use Rattle.spread.specs.Spread.{bitsSpread}
+use Rattle.strides.specs.Laying.{bitsFrom}
 use Rattle.view.specs.View.{spreadOf, countSeen, askedSeen}
 use Rattle.verdict.specs.Verdict.{verdict}
 use Rattle.reader.specs.Answer.{askedSample}

@@ -9,7 +9,7 @@ use Rattle.values.specs.declared.Meaning.{Meaning}
 use Rattle.values.specs.Told.{meaningOf, toldOf}
 use Rattle.view.specs.declared.View.{View}
 use Rattle.view.specs.View.{countSeen, liesIn}
-use Rattle.strides.specs.Spread.{bitsFrom}
+use Rattle.strides.specs.Laying.{bitsFrom}
 use Rattle.bulk.specs.Samples.{bitsSeen}
 
 -- Samples are still to be told: the channel lies in the file and has n samples from `first` on, and both buffers have room for them.

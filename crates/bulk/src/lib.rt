@@ -33,7 +33,7 @@ pub fn seen(s: &[u8], v: View, first: u64, out: &mut [u64]) -> Read
         });
     }
     if x.lies(s.len()) {
-        let n = strides::fitting(out.len(), count - first);
+        let n = spread::fitting(out.len(), count - first);
         strides::lay(s, x, first, n, out, 0);
         return Read::Samples(n);
     }
@@ -86,7 +86,7 @@ fn tell_samples(s: &[u8], v: View, first: u64, n: usize, kinds: &mut [u8], whole
     let mut bits = [0u64; PIECE];
     let mut done = 0usize;
     while done < n {
-        let k = strides::smaller(PIECE, n - done);
+        let k = spread::smaller(PIECE, n - done);
         seen(s, v, first + done as u64, &mut bits);
         tell(&bits, k, m, kinds, wholes, done);
         done += k;
@@ -104,8 +104,8 @@ pub fn values_seen(s: &[u8], v: View, first: u64, kinds: &mut [u8], wholes: &mut
         SamplePlace::Refused(x) => Read::Refused(x),
         SamplePlace::At(_) => {
             let x = v.spread();
-            let n = strides::fitting(
-                strides::smaller(kinds.len(), wholes.len()),
+            let n = spread::fitting(
+                spread::smaller(kinds.len(), wholes.len()),
                 x.count() - first,
             );
             tell_samples(s, v, first, n, kinds, wholes);

@@ -18,13 +18,14 @@ use Rattle.octets.proofs.Pick.{both-split}
 use Rattle.stores.proofs.Stores.{sets-front}
 use Rattle.heads.specs.Refusals.{noFrame}
 use Rattle.heads.specs.Answer.{Answer, answered, refusedAs, mapAnswer, leftBy}
-use Rattle.strides.specs.declared.Spread.{Spread}
-use Rattle.strides.specs.declared.Sequences.{Sequences}
-use Rattle.strides.specs.Spread.{countSpread, liesSpread, bitsSpread, bitsFrom}
+use Rattle.spread.specs.declared.Spread.{Spread}
+use Rattle.spread.specs.declared.Sequences.{Sequences}
+use Rattle.spread.specs.Spread.{countSpread, liesSpread, bitsSpread}
+use Rattle.spread.proofs.Lying.{lies-in}
+use Rattle.strides.specs.Laying.{bitsFrom}
 use Rattle.strides.specs.Channels.{spreadAt, spreadsFrom, allLie, sweptBits, sweptOf}
 use Rattle.strides.specs.Walked.{Layable}
 use Rattle.strides.proofs.Walks.{length-bits, stores-join}
-use Rattle.strides.proofs.Lying.{lies-in}
 
 -- The buffer, by what is read.
 module _ {A : Type 0} {a : Answer (List A)} (out : List A) where

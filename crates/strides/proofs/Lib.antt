@@ -1,4 +1,4 @@
 -- What the proofs of several functions use.
 pub mod Walks
-pub mod Lying
+pub mod Laying
 pub mod Channels

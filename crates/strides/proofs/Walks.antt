@@ -19,7 +19,7 @@ use lib.ListN.{length, set, length-set}
 use lib.Seq.{sets, length-sets}
 use Rattle.standing.specs.Standing.{octetsLimit}
 use Rattle.stores.proofs.Stores.{sets-append}
-use Rattle.strides.specs.Spread.{bitsFrom}
+use Rattle.strides.specs.Laying.{bitsFrom}
 use Rattle.strides.specs.Walked.{bitsHere, spaced, blocked, Wide, InFile, InBlocks, Even}
 
 -- ---- lists of bits

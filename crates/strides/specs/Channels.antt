@@ -8,11 +8,12 @@ use Rattle.heads.specs.Refusals.{noFrame}
 use Rattle.heads.specs.Answer.{Answer, answered, refusedAs, refusedBy}
 use Rattle.dated.specs.Dated.{zeroDated}
 use Rattle.records.specs.Records.{recordsIn, belowIn}
-use Rattle.strides.specs.declared.Spread.{Spread}
-use Rattle.strides.specs.declared.Sequences.{Sequences}
+use Rattle.spread.specs.declared.Spread.{Spread}
+use Rattle.spread.specs.declared.Sequences.{Sequences}
+use Rattle.spread.specs.Spread.{countSpread, liesSpread, bitsSpread}
 use Rattle.strides.specs.declared.Read.{Read}
 use Rattle.strides.specs.declared.Read.the-variants.{Samples}
-use Rattle.strides.specs.Spread.{countSpread, liesSpread, bitsSpread, bitsFrom}
+use Rattle.strides.specs.Laying.{bitsFrom}
 
 -- What the answer says: how many samples were written.
 abbrev pub readSays : Read → Answer ℕ

@@ -7,8 +7,9 @@ use Prim.Native.Nat.{ℕ, zero, suc, _+_, _*_, _/_, _%_, _≤_, _<_}
 use lib.ListN.{take, drop, set}
 use Rattle.standing.specs.Standing.{octetsLimit}
 use Rattle.octets.specs.Number.{numberOf}
-use Rattle.strides.specs.declared.Spread.{Spread}
-use Rattle.strides.specs.Spread.{widthSpread, countSpread}
+use Rattle.spread.specs.declared.Spread.{Spread}
+use Rattle.spread.specs.Spread.{countSpread}
+use Rattle.spread.specs.Lies.{Lies}
 
 -- The bits of the sample of w octets that lies at p.
 abbrev pub bitsHere : Bool → ℕ → List ℕ → ℕ → ℕ
@@ -50,13 +51,6 @@ pub record InBlocks (size start r b g w n : ℕ) : Type 0 where
 -- Samples of blocks of b that lie g octets apart are `step` octets apart: one to a block, or blocks one behind the other.
 abbrev pub Even : ℕ → ℕ → ℕ → ℕ → Type 0
 Even b g w step = ((b ≡ 1) × (step ≡ g)) ⊎ ((b * w ≡ g) × (step ≡ w))
-
--- The samples lie in a file of `size` octets.
-pub record Lies (size : ℕ) (x : Spread) : Type 0 where
-  pub small : size ≤ octetsLimit
-  pub wide : 0 < widthSpread x
-  pub block : x .below + x .block * widthSpread x ≤ x .octets
-  pub inside : x .place + x .sequences * x .octets ≤ size
 
 -- Samples that can be laid from `at` on in a buffer of `room` words.
 pub record Layable (size room : ℕ) (x : Spread) (first n at : ℕ) : Type 0 where

@@ -1,97 +1,33 @@
-// Where the samples of a channel lie, and their bits read into a buffer.
+// The bits of samples read into a buffer.
 //
-// For whoever knows a frame: `Spread` is where the samples of a channel lie, `lay` reads many of them, and `lay_channels` all of all channels, with nothing
-// else read.
-// Promises, whatever numbers a spread holds: `count` is how many samples it has, `lies` whether they lie in a file of so many octets. `lay`
-// lays the bits of samples into a buffer where they do and the buffer holds them, `lay_channels` as many as fit; else they leave it as it is.
-// Read first: specs/Spread.antt and specs/Channels.antt, then `lay` and upwards. A change to a loop wants its speed measured again: each width has a loop
-// of its own, with straight-line reads, because the compiler makes one wide load of them only so.
+// For whoever knows where the samples of a channel lie: `lay` reads many of them, and `lay_channels` all of all channels of a frame, with nothing else
+// read.
+// Promises, whatever numbers a spread holds: `lay` lays the bits of samples into a buffer where they lie in the file and the buffer holds them,
+// `lay_channels` as many as fit; else they leave it as it is.
+// Read first: crate spread, specs/Laying.antt and specs/Channels.antt, then `lay` and upwards. A change to a loop wants its speed measured again: each width
+// has a loop of its own, with straight-line reads, because the compiler makes one wide load of them only so.
 ghost use mathlib.Core.Path.{_≡_};
 ghost use mathlib.Core.Bool.{true};
 ghost use mathlib.Core.Logic.{_⊎_};
-ghost use Prim.Native.Nat.{_+_, _*_, _/_, _≤_, _<_, min};
+ghost use Prim.Native.Nat.{_+_, _*_, _/_, _≤_, _<_};
 ghost use Rattle.standing.specs.Standing.{octetsLimit};
 ghost use lib.ListN.{length, take};
 ghost use lib.Dec.{leb};
 ghost use lib.Seq.{sets};
 ghost use Rattle.octets.specs.Pick.{pick, both};
-ghost use Rattle.strides.specs.Spread.{countSpread, liesSpread, bitsSpread, bitsFrom, laysIn};
+ghost use Rattle.spread.specs.Spread.{bitsSpread};
+ghost use Rattle.strides.specs.Laying.{bitsFrom, laysIn};
 ghost use Rattle.heads.specs.Answer.{mapAnswer, leftBy};
 ghost use Rattle.strides.specs.Channels.{readSays, spreadAt, spreadsFrom, allLie, sweptBits, sweptOf};
 ghost use Rattle.strides.specs.Walked.{bitsHere, fourLaid, spaced, blocked, Wide, InFile, InBlocks, Even, Layable};
 use heads::Refusal;
-use standing::Standing;
-
-// Where the samples of a channel lie: `place` is that of the waveform's first octet, `octets` are those of a sequence, `below` those below the
-// channel.
-pub struct Spread {
-    pub sequences: u32,
-    pub little: bool,
-    pub place: usize,
-    pub octets: u64,
-    pub below: u64,
-    pub block: u32,
-    pub datatype: u8,
-}
-
-// The sequences of a frame: how many, their byte order, the place of the first one's first octet, and the octets of one.
-pub struct Sequences {
-    pub count: u32,
-    pub little: bool,
-    pub place: usize,
-    pub octets: u64,
-}
+use spread::Sequences;
+use spread::Spread;
 
 // The answer to reading samples: how many were written, or why none.
 pub enum Read {
     Samples(usize),
     Refused(Refusal),
-}
-
-// Whether a block behind so many octets ends by the end of a sequence.
-fn block_inside(below: u64, block: u64, octets: u64) -> bool
-    ensures { λ r. ⌜ r ≡ leb (below + block) octets ⌝ }
-{
-    if octets < block {
-        return false;
-    }
-    below <= octets - block
-}
-
-// Whether sequences from a place on end by the end of a file.
-fn sequences_inside(place: usize, sequences: u32, octets: u64, size: usize) -> bool
-    ensures { λ r. ⌜ r ≡ leb (place + sequences * octets) size ⌝ }
-{
-    if size < place {
-        return false;
-    }
-    sizes::holds((size - place) as u64, sequences, octets)
-}
-
-impl Spread {
-    // How many samples the channel has.
-    pub fn count(self) -> u64
-        ensures { λ r. ⌜ r ≡ countSpread self ⌝ }
-    {
-        self.sequences as u64 * self.block as u64
-    }
-
-    // Whether the samples lie in a file of `size` octets.
-    pub fn lies(self, size: usize) -> bool
-        ensures { λ r. ⌜ r ≡ liesSpread size self ⌝ }
-    {
-        let w = values::width(self.datatype) as u64;
-        if Standing::OCTETS < size {
-            return false;
-        }
-        if w == 0 {
-            return false;
-        }
-        if block_inside(self.below, self.block as u64 * w, self.octets) {
-            return sequences_inside(self.place, self.sequences, self.octets, size);
-        }
-        false
-    }
 }
 
 // The number of one octet.
@@ -330,13 +266,6 @@ fn run(
     run8(s, from, step, n, little, out, at);
 }
 
-// The smaller of two.
-pub fn smaller(a: usize, b: usize) -> usize
-    ensures { λ r. ⌜ r ≡ min a b ⌝ }
-{
-    if a < b { a } else { b }
-}
-
 // The bits of n samples of blocks of b samples that lie g octets apart, from sample `first` of the block at `from` on, from `at` on in the buffer.
 fn blocks(
     s: &[u8],
@@ -359,7 +288,7 @@ fn blocks(
     let mut r = first;
     let mut p = 0usize;
     while p < n {
-        let m = smaller(b - r, n - p);
+        let m = spread::smaller(b - r, n - p);
         run(s, start + r * w, w, m, w, little, out, at + p);
         p += m;
         start += g;
@@ -537,16 +466,6 @@ fn lay_whole(s: &[u8], x: Spread, n: usize, out: &mut [u64], at: usize)
     }
 }
 
-// How many of so many samples there is room for.
-pub fn fitting(room: usize, count: u64) -> usize
-    ensures { λ r. ⌜ r ≡ min room count ⌝ }
-{
-    if count < room as u64 {
-        return count as usize;
-    }
-    room
-}
-
 // The samples of channels that lie in the file, at the front of the buffer, as many as fit or there are; how many.
 fn lay_all(s: &[u8], t: &[u64], q: Sequences, channels: u32, out: &mut [u64]) -> usize
     requires { ⌜ allLie (length (now s)) (spreadsFrom (now t) q 0 channels) ≡ true ⌝ }
@@ -557,7 +476,7 @@ fn lay_all(s: &[u8], t: &[u64], q: Sequences, channels: u32, out: &mut [u64]) ->
     let mut at = 0usize;
     while channel < channels as usize {
         let x = spread_at(t, q, channel);
-        let n = fitting(out.len() - at, x.count());
+        let n = spread::fitting(out.len() - at, x.count());
         lay_whole(s, x, n, out, at);
         at += n;
         channel += 1;

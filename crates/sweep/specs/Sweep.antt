@@ -8,8 +8,8 @@ use Rattle.octets.specs.Pick.{pick, both}
 use Rattle.heads.specs.Refusals.{noFrame}
 use Rattle.heads.specs.Answer.{Answer, refusedAs}
 use Rattle.records.specs.Records.{recordsHeld}
-use Rattle.strides.specs.declared.Spread.{Spread}
-use Rattle.strides.specs.declared.Sequences.{Sequences}
+use Rattle.spread.specs.declared.Spread.{Spread}
+use Rattle.spread.specs.declared.Sequences.{Sequences}
 use Rattle.strides.specs.Channels.{spreadsFrom, sweptOf}
 use Rattle.walk.specs.declared.Waveform.{Waveform}
 use Rattle.kept.specs.Words.{headWords, holdsHead, waveformIn}

@@ -12,8 +12,8 @@ ghost use Rattle.sweep.specs.Sweep.{holdsFrame, sweepIn};
 use heads::Refusal;
 use kept::Kept;
 use records::Records;
+use spread::Sequences;
 use strides::Read;
-use strides::Sequences;
 
 // Whether words hold a frame with a record for each of its channels.
 fn holds_frame(w: &[u64]) -> bool

@@ -31,7 +31,7 @@ use Rattle.pass.specs.Scan.{zeroFrame}
 use Rattle.view.specs.View.{viewOf}
 use Rattle.reader.specs.Answer.{FoundSample, FoundPlace, foundPlace, asked, askedSample, attributesIn, attributesOf, sampleIn, sampleOf, seenOf, placedOf}
 use Rattle.values.specs.Sample.{Said}
-use Rattle.strides.specs.Spread.{bitsFrom}
+use Rattle.strides.specs.Laying.{bitsFrom}
 use Rattle.bulk.specs.Samples.{readOf, valuesBy, valuesOf}
 use Rattle.laid.specs.Laid.{sampleBits}
 

@@ -20,8 +20,9 @@ use Rattle.dated.specs.Dated.{held}
 use Rattle.dated.proofs.Refreshed.{held-long}
 use Rattle.records.specs.Records.{recordsIn, recordsHeld}
 use Rattle.records.proofs.Laws.{records-long}
-use Rattle.strides.specs.declared.Spread.{Spread}
-use Rattle.strides.specs.Spread.{countSpread, liesSpread, bitsSpread, bitsFrom}
+use Rattle.spread.specs.declared.Spread.{Spread}
+use Rattle.spread.specs.Spread.{countSpread, liesSpread, bitsSpread}
+use Rattle.strides.specs.Laying.{bitsFrom}
 use Rattle.strides.specs.Channels.{spreadAt, spreadsFrom, allLie, sweptBits, sweptOf}
 use Rattle.strides.proofs.Walks.{bits-same}
 use Rattle.view.specs.declared.View.{View}

@@ -6,7 +6,7 @@ use lib.ListN.{length, take}
 use Rattle.heads.specs.Answer.{Answer, answered, mapAnswer}
 use Rattle.layout.specs.Frame.{Frame, sequenceOctets, samplesOf}
 use Rattle.laid.specs.Laid.{sampleBits}
-use Rattle.strides.specs.Spread.{bitsFrom}
+use Rattle.strides.specs.Laying.{bitsFrom}
 use Rattle.verdict.specs.Verdict.{verdict}
 use Rattle.reader.specs.Answer.{asked, attributesSeen, attributesOf, seenOf}
 use Rattle.bulk.specs.Samples.{readOf, valuesOf}

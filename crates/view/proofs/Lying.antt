@@ -16,10 +16,10 @@ use Rattle.heads.specs.declared.Refusal.{Refusal}
 use Rattle.heads.specs.Refusals.{noFrame, noSample}
 use Rattle.heads.specs.Answer.{answered, refusedAs, refusedBy, mapAnswer}
 use Rattle.layout.specs.Frame.{widthIn}
-use Rattle.strides.specs.declared.Spread.{Spread}
-use Rattle.strides.specs.Spread.{widthSpread, placeSpread}
-use Rattle.strides.specs.Walked.{Lies}
-use Rattle.strides.proofs.Lying.{lies-in, in-lies, spread-inside}
+use Rattle.spread.specs.declared.Spread.{Spread}
+use Rattle.spread.specs.Spread.{widthSpread, placeSpread}
+use Rattle.spread.specs.Lies.{Lies}
+use Rattle.spread.proofs.Lying.{lies-in, in-lies, spread-inside}
 use Rattle.view.specs.declared.View.{View}
 use Rattle.view.specs.declared.SamplePlace.{SamplePlace}
 use Rattle.view.specs.declared.SamplePlace.the-variants.{At}

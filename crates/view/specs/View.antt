@@ -9,8 +9,8 @@ use Rattle.heads.specs.Refusals.{noFrame, noSample}
 use Rattle.heads.specs.Answer.{Answer, answered, refusedAs, refusedBy}
 use Rattle.settings.specs.Settings.{defaultSettings}
 use Rattle.layout.specs.Frame.{Frame, sequenceOctets, octetsBelow, channelIn}
-use Rattle.strides.specs.declared.Spread.{Spread}
-use Rattle.strides.specs.Spread.{countSpread, placeSpread, liesSpread}
+use Rattle.spread.specs.declared.Spread.{Spread}
+use Rattle.spread.specs.Spread.{countSpread, placeSpread, liesSpread}
 use Rattle.view.specs.declared.View.{View}
 use Rattle.view.specs.declared.SamplePlace.{SamplePlace}
 use Rattle.view.specs.declared.SamplePlace.the-variants.{At}

@@ -3,14 +3,14 @@
 // For whoever found a frame and wants samples of its channels with nothing read again.
 // Promises, whatever numbers a view holds: `spread` is where its samples lie, and `find` where one of them lies in a file of so many octets, or a
 // refusal. The view of a frame of an accepted file lies in that file (reader/proofs/Answers: located-lies).
-// Read first: crate strides, then specs/View.antt.
+// Read first: crate spread, then specs/View.antt.
 ghost use mathlib.Core.Path.{_≡_};
 ghost use Prim.Native.Nat.{_^_, _<_};
-ghost use Rattle.strides.specs.Spread.{placeSpread};
+ghost use Rattle.spread.specs.Spread.{placeSpread};
 ghost use Rattle.view.specs.View.{spreadOf, placeIn, samplePlaceSays};
 use heads::Refusal;
 use settings::Settings;
-use strides::Spread;
+use spread::Spread;
 
 // What is kept of a frame and one of its channels: `place` is that of the waveform's first octet, `octets` are those of a sequence, `below`
 // those below the channel, and `settings` the channel's, the defaults where the frame lacks it.

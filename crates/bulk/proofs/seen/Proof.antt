@@ -4,7 +4,7 @@ use Prim.Native.Nat.{ℕ, _-_, _≤_, _<_, min}
 use native.Mathlib.Omega.{arith}
 use lib.ListN.{length}
 use Rattle.heads.specs.Answer.{mapAnswer}
-use Rattle.strides.specs.Spread.{bitsFrom}
+use Rattle.strides.specs.Laying.{bitsFrom}
 use Rattle.view.specs.View.{countSeen, liesIn}
 use Rattle.bulk.specs.Samples.{bitsSeen, readSeen}
 use Rattle.strides.proofs.Channels.{kept}

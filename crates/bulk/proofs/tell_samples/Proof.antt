@@ -8,7 +8,7 @@ use lib.Seq.{sets}
 use Rattle.values.specs.declared.Meaning.{Meaning}
 use Rattle.values.specs.Told.{toldOf}
 use Rattle.view.proofs.Lying.{seen-lies}
-use Rattle.strides.specs.Spread.{bitsFrom}
+use Rattle.strides.specs.Laying.{bitsFrom}
 use Rattle.bulk.specs.Samples.{bitsSeen}
 use Rattle.bulk.specs.Walked.{kindsTold, wholesTold}
 use Rattle.bulk.proofs.Telling.{Pieces, pieces-begin, pieces-turn, pieces-end, seen-piece, seen-long}

@@ -8,7 +8,7 @@ use Rattle.octets.specs.Number.{Octets}
 use Rattle.heads.specs.Answer.{answered, mapAnswer}
 use Rattle.view.specs.View.{countSeen}
 use Rattle.view.proofs.Lying.{lies-seen, found-in, found-asked, unfound}
-use Rattle.strides.specs.Spread.{bitsFrom}
+use Rattle.strides.specs.Laying.{bitsFrom}
 use Rattle.bulk.specs.Samples.{bitsSeen, readSeen, valuesBy, valuesSeen, kindsIn, wholesIn}
 use Rattle.strides.proofs.Walks.{length-bits}
 use Rattle.strides.proofs.Channels.{kept, filled}

@@ -2,7 +2,7 @@
 use mathlib.Core.Path.{sym, ap, _∙_}
 use Prim.Native.Nat.{_-_}
 use native.Mathlib.Omega.{arith}
-use Rattle.strides.specs.Spread.{liesSpread}
+use Rattle.spread.specs.Spread.{liesSpread}
 use Rattle.strides.proofs.Channels.{Checking, checking-begins, checking-unlaid, checking-turns, checking-ends}
 use borrow.Author.Needs.{needs}
 use Rattle.strides.proofs.all_lie.Statement.{statement}

@@ -4,7 +4,7 @@ use Prim.Native.Nat.{_+_}
 use native.Mathlib.Nat.{add-comm}
 use native.Mathlib.Omega.{arith}
 use borrow.Author.Tests.{lt-leb}
-use Rattle.strides.proofs.Lying.{rest-test}
+use Rattle.spread.proofs.Lying.{rest-test}
 use Rattle.strides.proofs.among.Statement.{statement}
 use Rattle.strides.proofs.among.Tie as tie
 

@@ -1,6 +1,6 @@
 -- By the test; no samples leave the buffer as it is.
 use mathlib.Core.Path.{sym, _∙_}
-use Rattle.strides.proofs.Lying.{lays-in, no-bits}
+use Rattle.strides.proofs.Laying.{lays-in, no-bits}
 use borrow.Author.Needs.{needs}
 use Rattle.strides.proofs.lay.Statement.{statement}
 use Rattle.strides.proofs.lay.Tie as tie

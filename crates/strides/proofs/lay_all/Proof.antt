@@ -3,7 +3,7 @@ use mathlib.Core.Path.{ap, _∙_}
 use Prim.Native.Nat.{_-_, min}
 use native.Mathlib.Omega.{arith}
 use lib.ListN.{length}
-use Rattle.strides.specs.Spread.{countSpread}
+use Rattle.spread.specs.Spread.{countSpread}
 use Rattle.strides.proofs.Channels.{Laying, laying-begins, laying-can, laying-turns, laying-ends}
 use borrow.Author.Needs.{needs}
 use Rattle.strides.proofs.lay_all.Statement.{statement}

@@ -2,7 +2,7 @@
 use mathlib.Core.Path.{ap, _∙_}
 use native.Mathlib.Omega.{arith}
 use lib.Seq.{sets}
-use Rattle.strides.proofs.Lying.{block-some, start-inside, block-rest, width-wide, in-blocks, laid-bits}
+use Rattle.strides.proofs.Laying.{block-some, start-inside, block-rest, width-wide, in-blocks, laid-bits}
 use borrow.Author.Needs.{needs}
 use Rattle.strides.proofs.lay_blocks.Statement.{statement}
 use Rattle.strides.proofs.lay_blocks.Tie as tie

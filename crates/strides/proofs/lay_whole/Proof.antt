@@ -2,7 +2,7 @@
 use mathlib.Core.Path.{ap, sym, _∙_}
 use native.Mathlib.Omega.{arith}
 use lib.Seq.{sets}
-use Rattle.strides.proofs.Lying.{width-wide, no-bits, whole-small, whole-blocks, whole-bits, single-inside, single-bits}
+use Rattle.strides.proofs.Laying.{width-wide, no-bits, whole-small, whole-blocks, whole-bits, single-inside, single-bits}
 use borrow.Author.Needs.{needs}
 use Rattle.strides.proofs.lay_whole.Statement.{statement}
 use Rattle.strides.proofs.lay_whole.Tie as tie

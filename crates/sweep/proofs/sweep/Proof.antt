@@ -4,7 +4,7 @@ use mathlib.Core.List.{List}
 use native.Mathlib.Omega.{arith}
 use lib.ListN.{length}
 use Rattle.heads.specs.Answer.{Answer, mapAnswer, leftBy}
-use Rattle.strides.specs.declared.Spread.{Spread}
+use Rattle.spread.specs.declared.Spread.{Spread}
 use Rattle.strides.specs.Channels.{spreadsFrom, sweptOf}
 use Rattle.strides.proofs.Channels.{kept}
 use Rattle.kept.specs.Words.{headWords}

@@ -4,7 +4,7 @@ use Prim.Native.Nat.{_≤_, _<_}
 use native.Mathlib.Omega.{arith}
 use borrow.Author.Tests.{lt-ltb, le-ltb}
 use Rattle.layout.proofs.Rows.{cells-some}
-use Rattle.strides.proofs.Lying.{lies-in, spread-inside}
+use Rattle.spread.proofs.Lying.{lies-in, spread-inside}
 use Rattle.view.specs.View.{spreadOf, countSeen, placeSeen, liesIn}
 use borrow.Author.Needs.{needs}
 use Rattle.view.proofs.View.find.Statement.{statement}

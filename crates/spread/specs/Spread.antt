@@ -1,15 +1,15 @@
 -- Where the samples of a channel lie (document 01, "Frames and samples"): how many they are, their places and their bits, and whether they lie in
 -- a file.
-use mathlib.Core.List.{List, [], _∷_}
+use mathlib.Core.List.{List}
 use mathlib.Core.Bool.{Bool}
-use Prim.Native.Nat.{ℕ, zero, suc, _+_, _*_, _/_, _%_}
+use Prim.Native.Nat.{ℕ, _+_, _*_, _/_, _%_}
 use lib.Dec.{ltb, leb}
-use lib.ListN.{length, take, drop}
+use lib.ListN.{take, drop}
 use Rattle.octets.specs.Pick.{both}
 use Rattle.octets.specs.Number.{numberOf}
 use Rattle.values.specs.Sample.{widthOf}
 use Rattle.standing.specs.Standing.{octetsLimit}
-use Rattle.strides.specs.declared.Spread.{Spread}
+use Rattle.spread.specs.declared.Spread.{Spread}
 
 -- Octets per sample.
 abbrev pub widthSpread : Spread → ℕ
@@ -34,13 +34,3 @@ liesSpread size x =
 -- The bits of sample n: the octets at its place, by the byte order that stands there.
 abbrev pub bitsSpread : List ℕ → Spread → ℕ → ℕ
 bitsSpread s x n = numberOf (x .little) (take (widthSpread x) (drop (placeSpread x n) s))
-
--- The bits of k samples from number n on, where g gives the bits of each by its number.
-unfoldable pub bitsFrom : (ℕ → ℕ) → ℕ → ℕ → List ℕ
-bitsFrom g n zero = []
-bitsFrom g n (suc k) = g n ∷ bitsFrom g (suc n) k
-
--- n samples from number `first` on can be laid from place `at` on in a buffer of `room` words: they lie in a file of `size` octets, the channel has
--- so many, and the buffer holds them.
-abbrev pub laysIn : ℕ → ℕ → Spread → ℕ → ℕ → ℕ → Bool
-laysIn size room x first n at = both (leb (at + n) room) (both (leb (first + n) (countSpread x)) (liesSpread size x))

@@ -5,10 +5,10 @@ use native.Mathlib.Nat.{mul-le-mul}
 use native.Mathlib.Omega.{arith}
 use borrow.Author.Tests.{lt-leb}
 use Rattle.values.proofs.Laws.{width-le}
-use Rattle.strides.proofs.Lying.{lies-narrow, lies-tests}
+use Rattle.spread.proofs.Lying.{lies-narrow, lies-tests}
 use borrow.Author.Needs.{needs}
-use Rattle.strides.proofs.Spread.lies.Statement.{statement}
-use Rattle.strides.proofs.Spread.lies.Tie as tie
+use Rattle.spread.proofs.Spread.lies.Statement.{statement}
+use Rattle.spread.proofs.Spread.lies.Tie as tie
 
 width-requires : tie.Need-width-requires
 width-requires c κs = search needs

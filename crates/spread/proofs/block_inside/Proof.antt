@@ -3,9 +3,9 @@ use mathlib.Core.Path.{sym}
 use Prim.Native.Nat.{_+_}
 use native.Mathlib.Omega.{arith}
 use borrow.Author.Tests.{lt-leb}
-use Rattle.strides.proofs.Lying.{rest-test}
-use Rattle.strides.proofs.block_inside.Statement.{statement}
-use Rattle.strides.proofs.block_inside.Tie as tie
+use Rattle.spread.proofs.Lying.{rest-test}
+use Rattle.spread.proofs.block_inside.Statement.{statement}
+use Rattle.spread.proofs.block_inside.Tie as tie
 
 returns : tie.Need-returns
 returns c = let a = c .before .args in sym (lt-leb (a .below + a .block) (a .octets) (omega arith))

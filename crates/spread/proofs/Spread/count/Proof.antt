@@ -3,8 +3,8 @@ use Prim.Native.Nat.{_≤_}
 use native.Mathlib.Nat.{mul-le-mul}
 use native.Mathlib.Omega.{arith}
 use borrow.Author.Needs.{needs}
-use Rattle.strides.proofs.Spread.count.Statement.{statement}
-use Rattle.strides.proofs.Spread.count.Tie as tie
+use Rattle.spread.proofs.Spread.count.Statement.{statement}
+use Rattle.spread.proofs.Spread.count.Tie as tie
 
 cast-result : tie.Need-cast-result
 cast-result c = search needs

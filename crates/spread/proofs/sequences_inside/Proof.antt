@@ -4,10 +4,10 @@ use Prim.Native.Nat.{_+_, _*_}
 use native.Mathlib.Nat.{add-comm}
 use native.Mathlib.Omega.{arith}
 use borrow.Author.Tests.{lt-leb}
-use Rattle.strides.proofs.Lying.{rest-test}
+use Rattle.spread.proofs.Lying.{rest-test}
 use borrow.Author.Needs.{needs}
-use Rattle.strides.proofs.sequences_inside.Statement.{statement}
-use Rattle.strides.proofs.sequences_inside.Tie as tie
+use Rattle.spread.proofs.sequences_inside.Statement.{statement}
+use Rattle.spread.proofs.sequences_inside.Tie as tie
 
 returns : tie.Need-returns
 returns c = let a = c .before .args in sym (lt-leb (a .place + a .sequences * a .octets) (a .size) (omega arith))

@@ -1,0 +1,3 @@
+-- The samples of a channel of a frame: where they lie.
+pub mod Spread
+pub mod Lies
