@@ -39,7 +39,7 @@ pub extern "C" fn mfer_walk_next(
     file: &[u8],
     walk: &mut [u64; Walking::WORDS],
     start: &mut i64,
-    frame: &mut [u64; outputs::FRAME_NUMBERS],
+    frame: &mut [u64; numbers::FRAME_NUMBERS],
     place: &mut u64,
 ) -> u32
     ensures { λ r. ⌜ WalkNext (now (file .entry)) (now (walk .entry)) (outputs r (now (place .exit)) (frameValues (now (start .exit)) (now (frame .exit)))) (now (walk .exit)) ⌝ }
@@ -52,7 +52,7 @@ pub extern "C" fn mfer_walk_next(
 pub extern "C" fn mfer_walk_channel(
     walk: &[u64; Walking::WORDS],
     channel: u32,
-    numbers: &mut [i64; outputs::NUMBERS],
+    numbers: &mut [i64; numbers::NUMBERS],
     bits: &mut [u64; 2],
     below: &mut u64,
     place: &mut u64,
@@ -76,11 +76,7 @@ pub extern "C" fn mfer_walk_samples(
     ensures { λ r. ⌜ outputs r (now (place .exit)) (now (count .exit)) ≡ countOut (mapAnswer length (walkRead (now (file .entry)) (now (walk .entry)) channel first (length (now (out .entry))))) ⌝ }
     ensures { λ _. ⌜ now (out .exit) ≡ leftBy (walkRead (now (file .entry)) (now (walk .entry)) channel first (length (now (out .entry)))) (now (out .entry)) ⌝ }
 {
-    outputs::read_out(
-        tour::samples(file, walk, channel, first, out),
-        count,
-        place,
-    )
+    outputs::read_out(tour::samples(file, walk, channel, first, out), count, place)
 }
 
 // The bits of all samples of the frame that a walk stands behind: those of channel 0, then those of channel 1, at the front of `out`, as many as fit or there are.

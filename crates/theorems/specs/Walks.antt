@@ -14,8 +14,9 @@ use Rattle.walking.specs.Words.{walkWords}
 use Rattle.walking.specs.Steps.{Opened}
 use Rattle.walking.specs.Views.{viewIn}
 use Rattle.sweep.specs.Sweep.{sweepIn}
+use Rattle.numbers.specs.Numbers.{flagNumber}
 use Rattle.outputs.specs.Outputs.{Outputs}
-use Rattle.outputs.specs.Walks.{FrameOut, frameValues, flagNumber}
+use Rattle.outputs.specs.Walks.{FrameOut, frameValues}
 use Rattle.tour.specs.Tour.{walkRead, walkValues}
 use Rattle.mfer.specs.Walks.{WalkNext}
 

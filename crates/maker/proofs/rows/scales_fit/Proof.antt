@@ -1,6 +1,6 @@
 -- Both scales, each by its place.
 use Rattle.maker.proofs.Channels.{scale-at}
-use Rattle.outputs.specs.Outputs.{attributeNumbers}
+use Rattle.numbers.specs.Numbers.{attributeNumbers}
 use Prim.Native.Nat.{_*_}
 use Rattle.maker.specs.Given.{scalesInTable}
 use borrow.Author.Needs.{needs}
