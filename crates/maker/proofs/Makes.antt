@@ -44,7 +44,7 @@ use Rattle.frames.specs.Parts.{frameParts}
 use Rattle.canonical.specs.Canonical.{waveformOf, frameOctets}
 use Rattle.canonical.proofs.Octets.{waveform-big, frame-long}
 use Rattle.canonical.proofs.Writing.{frame-is}
-use Rattle.outputs.specs.Outputs.{attributeNumbers}
+use Rattle.numbers.specs.Numbers.{attributeNumbers}
 use Rattle.maker.specs.declared.rows.Measured.{Measured}
 use Rattle.maker.specs.Given.{bitNumbers, givenAt, givensIn, allInTable, channelsMade}
 use Rattle.maker.specs.Rows.{RowsThere, RowsFit, measured}

@@ -14,7 +14,7 @@ use Rattle.settings.specs.declared.Scale.{Scale}
 use Rattle.settings.specs.declared.Settings.{Settings}
 use Rattle.settings.specs.Settings.{blockLimit, lastDataType, lastIntervalUnit, lastResolutionUnit}
 use Rattle.canonical.specs.Recording.{tabulate}
-use Rattle.outputs.specs.Outputs.{attributeNumbers}
+use Rattle.numbers.specs.Numbers.{attributeNumbers}
 
 -- ---- rows
 
@@ -44,7 +44,7 @@ bitNumbers = 2
 abbrev pub givenScale : (ℕ → ℤ) → ℕ → GivenScale
 givenScale g a = record { unit = g a; exponent = g (a + 1); mantissa = g (a + 2) }
 
--- A row is as the attributes of a channel are told (crate outputs, `numbersOf` and `bitPairOf`): g 0 to g 14, and h 0 and h 1. The numbers 0, 1, 2 and 13,
+-- A row is as the attributes of a channel are told (crate numbers, `numbersOf` and `bitPairOf`): g 0 to g 14, and h 0 and h 1. The numbers 0, 1, 2 and 13,
 -- which are start pointer, channels, sequences and sample width, are not looked at.
 abbrev pub givenBy : (ℕ → ℤ) → (ℕ → ℕ) → Given
 givenBy g h =

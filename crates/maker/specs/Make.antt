@@ -17,7 +17,7 @@ use Rattle.standing.specs.Standing.{octetsLimit}
 use Rattle.framing.specs.Framing.{pointerFits}
 use Rattle.canonical.specs.Recording.{Recorded, recordedFrame}
 use Rattle.canonical.specs.Canonical.{frameOctets}
-use Rattle.outputs.specs.Outputs.{attributeNumbers}
+use Rattle.numbers.specs.Numbers.{attributeNumbers}
 use Rattle.maker.specs.Given.{bitNumbers, givensIn, allInTable, channelsMade}
 
 -- What goes in: start pointer, sequences and channel count; a row of numbers and one of bits for each channel; and the samples, big-endian and in file order.

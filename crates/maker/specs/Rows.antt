@@ -8,7 +8,7 @@ use lib.ListN.{length, getD}
 use Rattle.octets.specs.Pick.{pick}
 use Rattle.settings.specs.Settings.{channelLimit}
 use Rattle.layout.specs.Measure.{layoutOf}
-use Rattle.outputs.specs.Outputs.{attributeNumbers}
+use Rattle.numbers.specs.Numbers.{attributeNumbers}
 use Rattle.maker.specs.declared.rows.Measured.{Measured}
 use Rattle.maker.specs.Given.{bitNumbers, givensIn, allInTable, channelsMade}
 

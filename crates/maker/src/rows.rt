@@ -22,7 +22,7 @@ pub struct Row {}
 
 impl Row {
     // Numbers of a row.
-    pub const NUMBERS: usize = outputs::NUMBERS;
+    pub const NUMBERS: usize = numbers::NUMBERS;
 
     // Bits of a row.
     pub const BITS: usize = 2;

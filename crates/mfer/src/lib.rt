@@ -34,7 +34,7 @@ pub extern "C" fn mfer_attributes(
     file: &[u8],
     frame: u32,
     channel: u32,
-    numbers: &mut [i64; outputs::NUMBERS],
+    numbers: &mut [i64; numbers::NUMBERS],
     bits: &mut [u64; 2],
     place: &mut u64,
 ) -> u32

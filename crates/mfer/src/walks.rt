@@ -2,7 +2,7 @@
 //
 // `mfer_walk_open` checks the file and begins the walk, `mfer_walk_next` goes to its next frame, `mfer_walk_channel`, `mfer_walk_samples` and `mfer_walk_values` tell of
 // a channel of the frame that it stands behind and `mfer_walk_frame` of all of them, with nothing read again. Any words at all are some walk.
-// Read first: specs/Walks.antt, and specs/Steps.antt and specs/Views.antt of crate walking.
+// Read first: specs/Walks.antt, specs/Steps.antt and specs/Views.antt of crate walking, and specs/Tour.antt of crate tour.
 ghost use mathlib.Core.Path.{_≡_};
 ghost use Prim.Native.Nat.{min};
 ghost use lib.ListN.{length};
@@ -14,9 +14,8 @@ ghost use Rattle.walking.specs.Views.{viewIn};
 ghost use Rattle.sweep.specs.Sweep.{sweepIn};
 ghost use Rattle.outputs.specs.Outputs.{outputs, countOut};
 ghost use Rattle.outputs.specs.Walks.{frameValues, channelValues, channelOut};
-ghost use Rattle.mfer.specs.Walks.{WalkNext, walkRead, walkValues};
-use reader::LookedUp;
-use strides::Read;
+ghost use Rattle.tour.specs.Tour.{walkRead, walkValues};
+ghost use Rattle.mfer.specs.Walks.{WalkNext};
 use walking::Walking;
 
 // Opens a walk over a file, which is checked: how many frames it has. The words of `walk` begin the walk; at a refusal they keep what they held.
@@ -40,7 +39,7 @@ pub extern "C" fn mfer_walk_next(
     file: &[u8],
     walk: &mut [u64; Walking::WORDS],
     start: &mut i64,
-    frame: &mut [u64; outputs::FRAME_NUMBERS],
+    frame: &mut [u64; numbers::FRAME_NUMBERS],
     place: &mut u64,
 ) -> u32
     ensures { λ r. ⌜ WalkNext (now (file .entry)) (now (walk .entry)) (outputs r (now (place .exit)) (frameValues (now (start .exit)) (now (frame .exit)))) (now (walk .exit)) ⌝ }
@@ -53,7 +52,7 @@ pub extern "C" fn mfer_walk_next(
 pub extern "C" fn mfer_walk_channel(
     walk: &[u64; Walking::WORDS],
     channel: u32,
-    numbers: &mut [i64; outputs::NUMBERS],
+    numbers: &mut [i64; numbers::NUMBERS],
     bits: &mut [u64; 2],
     below: &mut u64,
     place: &mut u64,
@@ -77,10 +76,7 @@ pub extern "C" fn mfer_walk_samples(
     ensures { λ r. ⌜ outputs r (now (place .exit)) (now (count .exit)) ≡ countOut (mapAnswer length (walkRead (now (file .entry)) (now (walk .entry)) channel first (length (now (out .entry))))) ⌝ }
     ensures { λ _. ⌜ now (out .exit) ≡ leftBy (walkRead (now (file .entry)) (now (walk .entry)) channel first (length (now (out .entry)))) (now (out .entry)) ⌝ }
 {
-    match walking::view_at(walk, channel) {
-        LookedUp::Refused(x) => outputs::read_out(Read::Refused(x), count, place),
-        LookedUp::Channel(v) => outputs::read_out(bulk::seen(file, v, first, out), count, place),
-    }
+    outputs::read_out(tour::samples(file, walk, channel, first, out), count, place)
 }
 
 // The bits of all samples of the frame that a walk stands behind: those of channel 0, then those of channel 1, at the front of `out`, as many as fit or there are.
@@ -115,12 +111,9 @@ pub extern "C" fn mfer_walk_values(
     ensures { λ _. ⌜ now (kinds .exit) ≡ leftBy (kindsIn (walkValues (now (file .entry)) (now (walk .entry)) channel first (min (length (now (kinds .entry))) (length (now (wholes .entry)))))) (now (kinds .entry)) ⌝ }
     ensures { λ _. ⌜ now (wholes .exit) ≡ leftBy (wholesIn (walkValues (now (file .entry)) (now (walk .entry)) channel first (min (length (now (kinds .entry))) (length (now (wholes .entry)))))) (now (wholes .entry)) ⌝ }
 {
-    match walking::view_at(walk, channel) {
-        LookedUp::Refused(x) => outputs::read_out(Read::Refused(x), count, place),
-        LookedUp::Channel(v) => outputs::read_out(
-            bulk::values_seen(file, v, first, kinds, wholes),
-            count,
-            place,
-        ),
-    }
+    outputs::read_out(
+        tour::values(file, walk, channel, first, kinds, wholes),
+        count,
+        place,
+    )
 }

@@ -1,12 +1,13 @@
 -- What the functions for C hand out: a refusal's number as the result, 0 where there is none, and every output set in every case. At a
 -- refusal `place` is the refusal's, and every other output is 0.
-use mathlib.Core.List.{List, [], _∷_}
+use mathlib.Core.List.{List}
 use Prim.Native.Nat.{ℕ}
 use lib.IntN.{ℤ, pos}
 use lib.ListN.{replicate}
 use Rattle.heads.specs.Answer.{Answer, answered, refusedAs}
 use Rattle.reader.specs.declared.Attributes.{Attributes}
 use Rattle.reader.specs.Answer.{FoundSample}
+use Rattle.numbers.specs.Numbers.{attributeNumbers, numbersOf, bitPairOf}
 
 -- The result, the place in the file, and the other outputs.
 pub record Outputs (A : Type 0) : Type 0 where
@@ -30,38 +31,9 @@ countOut a = handedOut (λ n. 0) (λ n. n) 0 a
 
 -- ---- attributes
 
--- How many attributes are numbers.
-abbrev pub attributeNumbers : ℕ
-attributeNumbers = 15
-
 pub record AttributesOut : Type 0 where
   pub numbers : List ℤ
   pub bits : List ℕ
-
--- The attributes that are numbers, in their order; a null of width 0 is none.
-unfoldable pub numbersOf : Attributes → List ℤ
-numbersOf a =
-    let c = a .settings in
-    a .start
-    ∷ pos (a .channels)
-    ∷ pos (a .sequences)
-    ∷ pos (c .block)
-    ∷ pos (c .class)
-    ∷ pos (c .lead)
-    ∷ pos (c .datatype)
-    ∷ pos (c .interval .unit)
-    ∷ c .interval .exponent
-    ∷ c .interval .mantissa
-    ∷ pos (c .resolution .unit)
-    ∷ c .resolution .exponent
-    ∷ c .resolution .mantissa
-    ∷ pos (c .offset .width)
-    ∷ pos (c .null .width)
-    ∷ []
-
--- The bits of the offset and of null.
-unfoldable pub bitPairOf : Attributes → List ℕ
-bitPairOf a = a .settings .offset .bits ∷ a .settings .null .bits ∷ []
 
 abbrev pub attributesValues : List ℤ → List ℕ → AttributesOut
 attributesValues numbers bits = record { numbers = numbers; bits = bits }

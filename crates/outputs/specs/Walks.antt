@@ -1,21 +1,16 @@
 -- What the functions of a walk hand out.
-use mathlib.Core.Bool.{Bool}
-use mathlib.Core.List.{List, [], _∷_}
+use mathlib.Core.List.{List}
 use Prim.Native.Nat.{ℕ}
 use lib.IntN.{ℤ, pos}
 use lib.ListN.{replicate}
-use Rattle.octets.specs.Pick.{pick}
 use Rattle.heads.specs.Answer.{Answer}
 use Rattle.view.specs.declared.View.{View}
 use Rattle.reader.specs.Answer.{attributesSeen}
 use Rattle.walk.specs.declared.Waveform.{Waveform}
-use Rattle.outputs.specs.Outputs.{Outputs, handedOut, AttributesOut, attributesValues, zeroAttributes, numbersOf, bitPairOf}
+use Rattle.numbers.specs.Numbers.{numbersOf, bitPairOf, frameNumbers, frameNumbersOf}
+use Rattle.outputs.specs.Outputs.{Outputs, handedOut, AttributesOut, attributesValues, zeroAttributes}
 
 -- ---- frames
-
--- How many numbers a frame has, besides its start pointer.
-abbrev pub frameNumbers : ℕ
-frameNumbers = 6
 
 pub record FrameOut : Type 0 where
   pub start : ℤ
@@ -23,14 +18,6 @@ pub record FrameOut : Type 0 where
 
 abbrev pub frameValues : ℤ → List ℕ → FrameOut
 frameValues start numbers = record { start = start; numbers = numbers }
-
--- 1 for yes.
-abbrev pub flagNumber : Bool → ℕ
-flagNumber b = pick b 1 0
-
--- The numbers of a frame besides its start pointer, in their order.
-unfoldable pub frameNumbersOf : Waveform → List ℕ
-frameNumbersOf v = v .channels ∷ v .sequences ∷ flagNumber (v .little) ∷ v .place ∷ v .len ∷ v .octets ∷ []
 
 abbrev pub noFrameValues : FrameOut
 noFrameValues = frameValues (pos 0) (replicate frameNumbers 0)

@@ -27,7 +27,7 @@ use Rattle.walking.specs.Views.{viewIn}
 use Rattle.sweep.specs.Sweep.{sweepIn}
 use Rattle.outputs.specs.Outputs.{Outputs, outputs, handedOut, countOut, zeroAttributes, attributesOut, zeroSample, sampleOut}
 use Rattle.outputs.specs.Walks.{frameOut, noFrameValues, zeroChannel, channelOut}
-use Rattle.mfer.specs.Walks.{walkRead, walkValues}
+use Rattle.tour.specs.Tour.{walkRead, walkValues}
 use Rattle.maker.specs.Make.{Making, madeIn, Made}
 use Rattle.mfer.specs.Answers.{CanonicalOut, MadeOut}
 

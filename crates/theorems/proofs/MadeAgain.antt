@@ -34,7 +34,7 @@ use Rattle.canonical.proofs.Good.{GoodScale, GoodReported, AllReported, GoodRec
 use Rattle.canonical.proofs.Effects.{width-good}
 use Rattle.canonical.proofs.Recordings.{frameOf, waveform-long, tabulate-is, recorded-back}
 use Rattle.canonical.proofs.Accepted.{accepted-recorded}
-use Rattle.outputs.specs.Outputs.{attributeNumbers, numbersOf, bitPairOf}
+use Rattle.numbers.specs.Numbers.{attributeNumbers, numbersOf, bitPairOf}
 use Rattle.maker.specs.Given.{Given, GivenScale, bitNumbers, givenAt, lastCode, lastMantissa, within, exponentFits, scaleInTable, bitsFit, noNull, numbersInTable, scalesInTable, bitsInTable, inTable, bitsMade, nullMade, settingsMade}
 use Rattle.maker.specs.Make.{Making, settingsFit, samplesFit, channelsIn, frameMade, recordMade, orderOctets, madeIn}
 use Rattle.maker.proofs.Channels.{all-fit}

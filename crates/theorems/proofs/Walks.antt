@@ -30,8 +30,9 @@ use Rattle.walking.specs.Steps.{stepIn, Goes}
 use Rattle.walking.specs.Views.{viewIn}
 use Rattle.walking.proofs.Walked.{Walked, walked-open, walked-counts, walked-frame, walked-ended, walked-never}
 use Rattle.walking.proofs.Told.{walked-is, walked-seen}
+use Rattle.numbers.specs.Numbers.{flagNumber, frameNumbersOf}
 use Rattle.outputs.specs.Outputs.{Outputs, outputs, handedOut}
-use Rattle.outputs.specs.Walks.{FrameOut, frameOut, noFrameValues, frameValues, flagNumber, frameNumbersOf}
+use Rattle.outputs.specs.Walks.{FrameOut, frameOut, noFrameValues, frameValues}
 use Rattle.mfer.specs.Walks.{WalkNext}
 use Rattle.sweep.specs.Sweep.{holdsFrame}
 use Rattle.theorems.specs.Walks.{Walks, opened, stepped, frameShown, Tells}

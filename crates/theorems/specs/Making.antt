@@ -21,7 +21,7 @@ use Rattle.verdict.specs.Verdict.{checkOf}
 use Rattle.canonical.specs.Recording.{Recorded, tabulate}
 use Rattle.canonical.specs.Canonical.{waveformOf, frameOctets}
 use Rattle.canonical.specs.Write.{recordingOf, canonicalOf}
-use Rattle.outputs.specs.Outputs.{attributeNumbers, numbersOf, bitPairOf}
+use Rattle.numbers.specs.Numbers.{attributeNumbers, numbersOf, bitPairOf}
 use Rattle.maker.specs.Given.{GivenScale, Given, bitNumbers, givenAt, lastCode, lastMantissa, widthGiven}
 use Rattle.maker.specs.Make.{Making, making, lastSequences, channelsIn, recordMade, orderOctets, madeIn}
 use Rattle.theorems.specs.Told.{attributesRecorded, frameRecorded}

@@ -14,9 +14,11 @@ use Rattle.walking.specs.Words.{walkWords}
 use Rattle.walking.specs.Steps.{Opened}
 use Rattle.walking.specs.Views.{viewIn}
 use Rattle.sweep.specs.Sweep.{sweepIn}
+use Rattle.numbers.specs.Numbers.{flagNumber}
 use Rattle.outputs.specs.Outputs.{Outputs}
-use Rattle.outputs.specs.Walks.{FrameOut, frameValues, flagNumber}
-use Rattle.mfer.specs.Walks.{WalkNext, walkRead, walkValues}
+use Rattle.outputs.specs.Walks.{FrameOut, frameValues}
+use Rattle.tour.specs.Tour.{walkRead, walkValues}
+use Rattle.mfer.specs.Walks.{WalkNext}
 
 -- The words that a walk over a file s is left in by mfer_walk_open, whatever they held, and then by n calls of mfer_walk_next, each of which handed a frame
 -- out.

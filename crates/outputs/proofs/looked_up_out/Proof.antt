@@ -2,7 +2,8 @@
 use mathlib.Core.Path.{sym, ap, _∙_}
 use Rattle.reader.specs.declared.LookedUp.{LookedUp}
 use Rattle.reader.specs.Answer.{lookedUpSays}
-use Rattle.outputs.specs.Outputs.{outputs, handedOut, numbersOf, bitPairOf}
+use Rattle.numbers.specs.Numbers.{numbersOf, bitPairOf}
+use Rattle.outputs.specs.Outputs.{outputs, handedOut}
 use Rattle.outputs.specs.Walks.{channelValues, channelOut}
 use borrow.Author.Needs.{needs}
 use Rattle.outputs.proofs.looked_up_out.Statement.{statement}

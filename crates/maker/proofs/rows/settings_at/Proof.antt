@@ -1,7 +1,7 @@
 -- Each number fits where the row is in the table.
 use Rattle.maker.proofs.Channels.{NumbersFit, numbers-split, RowFits, row-split, scale-at, settings-made}
 use Rattle.maker.specs.Given.{Given, givenAt, bitNumbers, scaleInTable, widthGiven, scaleMade}
-use Rattle.outputs.specs.Outputs.{attributeNumbers}
+use Rattle.numbers.specs.Numbers.{attributeNumbers}
 use Rattle.settings.specs.Settings.{lastIntervalUnit, lastResolutionUnit}
 use Rattle.values.proofs.Laws.{width-le}
 use Rattle.values.specs.Sample.{widthOf}

@@ -1,9 +1,9 @@
 -- Each number in its order.
 use mathlib.Core.List.{[], _∷_}
-use Rattle.outputs.specs.Walks.{frameNumbersOf}
+use Rattle.numbers.specs.Numbers.{frameNumbersOf}
 use borrow.Author.Needs.{needs}
-use Rattle.outputs.proofs.frame_numbers.Statement.{statement}
-use Rattle.outputs.proofs.frame_numbers.Tie as tie
+use Rattle.numbers.proofs.frame_numbers.Statement.{statement}
+use Rattle.numbers.proofs.frame_numbers.Tie as tie
 
 cast-t2 : tie.Need-cast-t2
 cast-t2 c = search needs

@@ -1,8 +1,8 @@
 -- The pair is made of the two.
 use mathlib.Core.Path.{refl}
-use Rattle.outputs.specs.Outputs.{bitPairOf}
-use Rattle.outputs.proofs.bit_pair_of.Statement.{statement}
-use Rattle.outputs.proofs.bit_pair_of.Tie as tie
+use Rattle.numbers.specs.Numbers.{bitPairOf}
+use Rattle.numbers.proofs.bit_pair_of.Statement.{statement}
+use Rattle.numbers.proofs.bit_pair_of.Tie as tie
 
 returns : tie.Need-returns
 unfolding bitPairOf

@@ -3,8 +3,8 @@ use mathlib.Core.Path.{sym, ap}
 use Rattle.values.specs.declared.Value.{Value}
 use Rattle.values.specs.Sample.{valueSays}
 use borrow.Author.Needs.{needs}
-use Rattle.outputs.proofs.kind_of.Statement.{statement}
-use Rattle.outputs.proofs.kind_of.Tie as tie
+use Rattle.numbers.proofs.kind_of.Statement.{statement}
+use Rattle.numbers.proofs.kind_of.Tie as tie
 
 enum-told : tie.Need-enum-told
 enum-told c = search needs

@@ -6,8 +6,8 @@ use mir.Syntax.{w64}
 use Rattle.values.specs.declared.Value.{Value}
 use Rattle.values.specs.Sample.{valueSays}
 use borrow.Author.Needs.{needs}
-use Rattle.outputs.proofs.whole_of.Statement.{statement}
-use Rattle.outputs.proofs.whole_of.Tie as tie
+use Rattle.numbers.proofs.whole_of.Statement.{statement}
+use Rattle.numbers.proofs.whole_of.Tie as tie
 
 enum-known-v : tie.Need-enum-known-v
 enum-known-v c = search needs
