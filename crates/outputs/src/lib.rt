@@ -1,8 +1,8 @@
-// What the functions for C hand out: an answer of each kind as plain numbers.
+// What the functions for C hand out: a refusal's number, a place, and an answer of each kind as plain numbers.
 //
 // Promises, for any answer: the result is the number of the refusal, 0 where there is none; every output is set in every case, and at a refusal all are
 // 0 but `place`, which is the refusal's. Nothing here reads a file; crate mfer puts these around the functions that do.
-// Read first: specs/Outputs.antt, then specs/Walks.antt.
+// Read first: crate numbers, then specs/Outputs.antt and specs/Walks.antt.
 ghost use mathlib.Core.Path.{_≡_};
 ghost use Rattle.verdict.specs.Verdict.{checkedSays};
 ghost use Rattle.reader.specs.Answer.{describedSays, sampledSays, lookedUpSays};

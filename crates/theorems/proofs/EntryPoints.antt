@@ -133,7 +133,7 @@ handed-refusal (answered n) h = let z : ⊥ = omega arith in absurd z
 handed-refusal (refusedAs number place) h = (number, place, refl)
 
 -- A refusal changes no octet of the output buffer: `write_canonical`, `mfer_canonical`, `make_frame`, `mfer_make_frame`, `bulk::samples`, `mfer_samples`, `bulk::values`, `mfer_values`,
--- `mfer_walk_samples`, `mfer_walk_frame` and `mfer_walk_values`.
+-- `tour::samples`, `mfer_walk_samples`, `mfer_walk_frame`, `tour::values` and `mfer_walk_values`.
 pub record BuffersKept (s d : List ℕ) : Type 0 where
   pub canonical : (number place : ℕ) (left : List ℕ) → Wrote s d (refusedAs number place) left → left ≡ d
   pub canonicalOut : (out : Outputs ℕ) (left : List ℕ) → CanonicalOut s d out left → 0 < out .refusal → left ≡ d
