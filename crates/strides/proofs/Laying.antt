@@ -6,7 +6,7 @@
 --     single-inside, single-bits    the same, one to a block
 --     block-start, block-rest, in-blocks, laid-bits    they lie in the file in blocks, from the block of the first one on
 -- Assumes nothing.
-use mathlib.Core.Path.{_≡_, refl, sym, ap, _∙_}
+use mathlib.Core.Path.{_≡_, refl, ap, _∙_}
 use mathlib.Core.Bool.{true}
 use mathlib.Core.Logic.{inl, inr}
 use mathlib.Core.List.{List}
