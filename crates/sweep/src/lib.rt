@@ -11,7 +11,7 @@ ghost use Rattle.strides.specs.Channels.{readSays};
 ghost use Rattle.sweep.specs.Sweep.{holdsFrame, sweepIn};
 use heads::Refusal;
 use kept::Kept;
-use records::Records;
+use words::Records;
 use strides::Read;
 use strides::Sequences;
 

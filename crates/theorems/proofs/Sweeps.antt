@@ -18,8 +18,8 @@ use Rattle.layout.specs.Frame.{Frame, samplesOf}
 use Rattle.laid.specs.Laid.{sampleBits}
 use Rattle.dated.specs.Dated.{held}
 use Rattle.dated.proofs.Refreshed.{held-long}
-use Rattle.records.specs.Records.{recordsIn, recordsHeld}
-use Rattle.records.proofs.Laws.{records-long}
+use Rattle.words.specs.Words.{recordsIn, recordsHeld}
+use Rattle.words.proofs.Laws.{records-long}
 use Rattle.strides.specs.declared.Spread.{Spread}
 use Rattle.strides.specs.Spread.{countSpread, liesSpread, bitsSpread, bitsFrom}
 use Rattle.strides.specs.Channels.{spreadAt, spreadsFrom, allLie, sweptBits, sweptOf}
