@@ -17,7 +17,7 @@ ghost use Rattle.heads.specs.Answer.{refusedAs};
 ghost use Rattle.canonical.specs.Write.{canonicalOf, canonicalLengthOf, Ready, writtenSays, Wrote};
 use heads::Refusal;
 use pass::Asked;
-use records::Records;
+use words::Records;
 use standing::Standing;
 use verdict::Checked;
 use walk::Head;

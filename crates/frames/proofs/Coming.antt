@@ -25,7 +25,7 @@ use Rattle.settings.specs.declared.Settings.{Settings}
 use Rattle.settings.specs.Settings.{zeroSettings}
 use Rattle.dated.specs.Dated.{zeroDated}
 use Rattle.dated.proofs.Refreshed.{held-long, held-at}
-use Rattle.records.specs.Records.{recordsIn, heldIn}
+use Rattle.words.specs.Words.{recordsIn, heldIn}
 use Rattle.frames.specs.Parts.{Few}
 use Rattle.layout.specs.Frame.{widthIn, blockOctets, sequenceOctets, reported, samplesOctets}
 use Rattle.laid.specs.Turned.{turnedSequence, turnedAll}

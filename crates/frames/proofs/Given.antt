@@ -27,7 +27,7 @@ use Rattle.layout.specs.declared.Layout.{Layout}
 use Rattle.layout.specs.Measure.{groupsSize, layoutOf}
 use Rattle.layout.proofs.Laws.{groups-few}
 use Rattle.dated.proofs.Refreshed.{held-long}
-use Rattle.records.specs.Records.{recordsIn, heldIn}
+use Rattle.words.specs.Words.{recordsIn, heldIn}
 use Rattle.records.proofs.Channels.{channels-few, take-there}
 use Rattle.groups.proofs.Sizes.{head-long, groups-long}
 use Rattle.frames.specs.Parts.{Few, samplesTurned, frameParts, frameGiven}

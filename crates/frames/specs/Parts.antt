@@ -11,7 +11,7 @@ use Rattle.stores.specs.Length.{shortest}
 use Rattle.laid.specs.Turned.{turnedAll}
 use Rattle.settings.specs.declared.Settings.{Settings}
 use Rattle.settings.specs.Settings.{channelLimit}
-use Rattle.records.specs.Records.{recordsIn}
+use Rattle.words.specs.Words.{recordsIn}
 use Rattle.layout.specs.Frame.{samplesOctets, reported}
 use Rattle.groups.specs.Head.{headItems}
 use Rattle.groups.specs.Group.{groupsOctets}

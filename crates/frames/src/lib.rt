@@ -18,7 +18,7 @@ ghost use Rattle.laid.specs.Turned.{Even, turnedAll};
 ghost use Rattle.groups.specs.Group.{groupsOctets};
 ghost use Rattle.frames.specs.Parts.{Few, samplesTurned, waveformHead, frameParts, frameGiven};
 ghost use Rattle.settings.specs.Settings.{channelLimit};
-ghost use Rattle.records.specs.Records.{heldIn};
+ghost use Rattle.words.specs.Words.{heldIn};
 ghost use Rattle.standing.specs.Standing.{octetsLimit};
 use standing::Standing;
 
@@ -30,7 +30,7 @@ fn put_groups(out: &mut [u8], at: usize, t: &[u64], count: usize) -> usize
     let mut i = 0usize;
     let mut next = at;
     while i < count {
-        let c = records::held(t, i);
+        let c = words::held(t, i);
         next = groups::put_group(out, next, i as u8, c);
         i += 1;
     }
@@ -42,11 +42,11 @@ fn even_width(t: &[u64], count: usize) -> usize
     requires { ⌜ Few count (now t) ⌝ }
     ensures { λ r. ⌜ (0 < r → Even r (take count (heldIn (now (t .entry))))) ⌝ }
 {
-    let first = records::held(t, 0);
+    let first = words::held(t, 0);
     let v = values::width(first.datatype);
     let mut i = 0usize;
     while i < count {
-        let c = records::held(t, i);
+        let c = words::held(t, i);
         if values::width(c.datatype) != v {
             return 0;
         }
@@ -67,7 +67,7 @@ fn put_blocks(w: &[u8], sequences: u32, t: &[u64], count: usize, out: &mut [u8],
     while q < sequences {
         let mut i = 0usize;
         while i < count {
-            let c = records::held(t, i);
+            let c = words::held(t, i);
             let v = values::width(c.datatype);
             next = runs::turn(w, place, c.block as usize, v, out, next);
             place = place + c.block as usize * v;

@@ -15,8 +15,8 @@ use Rattle.octets.specs.Number.{lowOf, twos}
 use Rattle.items.specs.Walk.{cursor}
 use Rattle.dated.specs.declared.Dated.{Dated}
 use Rattle.dated.specs.Dated.{zeroDated}
-use Rattle.records.specs.Records.{recordNumbers, recordBy, wordsAt, recordsIn, Overlaid}
-use Rattle.records.proofs.Laws.{records-long, holding-put}
+use Rattle.words.specs.Words.{recordNumbers, recordBy, wordsAt, recordsIn, Overlaid}
+use Rattle.words.proofs.Laws.{records-long, holding-put}
 use Rattle.walk.specs.declared.Head.{Head}
 use Rattle.walk.specs.declared.Waveform.{Waveform}
 use Rattle.kept.specs.Words.{headWords, headPlace, headNumbers, waveformPlace, waveformNumbers, flagOf, withinBy, headBy, rootOf, toldBy, Keeping}

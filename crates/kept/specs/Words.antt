@@ -16,7 +16,7 @@ use Rattle.dated.specs.declared.Times.{Times}
 use Rattle.dated.specs.declared.Dated.{Dated}
 use Rattle.dated.specs.Dated.{noted, zeroDated}
 use Rattle.standing.specs.declared.Standing.{Standing}
-use Rattle.records.specs.Records.{recordWords, wordsAt, recordsIn}
+use Rattle.words.specs.Words.{recordWords, wordsAt, recordsIn}
 use Rattle.walk.specs.declared.Waveform.{Waveform}
 use Rattle.walk.specs.declared.Head.{Head}
 

@@ -8,13 +8,13 @@ ghost use mathlib.Core.Path.{_≡_};
 ghost use Prim.Native.Nat.{_+_, _≤_};
 ghost use lib.ListN.{length, getD};
 ghost use Rattle.octets.specs.Number.{lowOf, twos};
-ghost use Rattle.records.specs.Records.{wordsAt, Overlaid};
+ghost use Rattle.words.specs.Words.{wordsAt, Overlaid};
 ghost use Rattle.kept.specs.Words.{headPlace, flagOf, withinBy, cursorBy, standingBy, timesBy, headBy, rootOf, toldBy, headIn, waveformIn, Keeping};
 use dated::Dates;
 use dated::Times;
 use items::Cursor;
 use items::Within;
-use records::Records;
+use words::Records;
 use settings::Settings;
 use standing::Standing;
 use walk::Head;
@@ -127,7 +127,7 @@ fn times_at(w: &[u64]) -> Times
 pub fn head_at(w: &[u64]) -> Head
     ensures { λ r. ⌜ r ≡ headIn (now (w .entry)) ⌝ }
 {
-    let x = records::get(w, 0);
+    let x = words::get(w, 0);
     let cursor = cursor_at(w);
     let standing = standing_at(w, x.settings);
     let times = times_at(w);
@@ -195,8 +195,8 @@ fn head_words(h: Head) -> [u64; Kept::HEAD_NUMBERS]
         flag_word(st.little),
         st.counted as u64,
         st.sequences as u64,
-        records::signed_word(st.start),
-        records::signed_word(st.continued),
+        words::signed_word(st.start),
+        words::signed_word(st.continued),
         times.block as u64,
         times.class as u64,
         times.lead as u64,
@@ -216,7 +216,7 @@ fn waveform_words(v: Waveform) -> [u64; Kept::WAVEFORM_NUMBERS]
     ensures { λ r. ⌜ toldBy (λ a. getD r a 0) ≡ v ⌝ }
 {
     [
-        records::signed_word(v.start),
+        words::signed_word(v.start),
         v.channels as u64,
         v.sequences as u64,
         flag_word(v.little),
@@ -249,7 +249,7 @@ pub fn keep(w: &mut [u64], h: Head, v: Waveform)
     let frame = waveform_words(v);
     let dates = h.dates;
     let st = h.standing;
-    let root = records::words_of(dates.note(st.root));
+    let root = words::words_of(dates.note(st.root));
     store(w, Kept::HEAD_PLACE, &numbers);
     store(w, Kept::WAVEFORM_PLACE, &frame);
     store(w, 0, &root);

@@ -1,6 +1,7 @@
 -- Records brought up to date one after the other.
 --     Refreshing             the first i of n are
 --     refreshing-start, -room, -more, -all    none yet, there is a next one, one more, all
+--     refreshed-few          no more than there are
 -- Assumes nothing.
 use mathlib.Core.Path.{_≡_, refl, sym, ap, _∙_}
 use mathlib.Core.Bool.{Bool, true, false}
@@ -12,7 +13,7 @@ use native.Mathlib.Numerals.{add-one}
 use native.Mathlib.Omega.{arith}
 use borrow.Author.Tests.{ltb-true, ltb-false}
 use lib.Dec.{ltb}
-use lib.ListN.{length, getD, set, length-set}
+use lib.ListN.{length, getD, set, take, length-set}
 use lib.Seq.{getD-set-same, getD-set-other, take-take}
 use Rattle.settings.specs.declared.Settings.{Settings}
 use Rattle.settings.specs.Settings.{channelLimit}
@@ -22,11 +23,13 @@ use Rattle.dated.proofs.Tables.{table-long}
 use Rattle.dated.proofs.Refreshed.{refreshed-past, refreshed-more, refreshed-there}
 use Rattle.layout.specs.declared.Layout.{Layout}
 use Rattle.layout.specs.Frame.{sequenceOctets, octetsBelow}
-use Rattle.layout.specs.Measure.{noLayout, More}
-use Rattle.layout.proofs.Laws.{Summing, summing-start, summed-below}
-use Rattle.records.specs.Records.{recordWords, recordNumbers, belowWord, recordsHeld, recordsIn, channelsIn, belowIn, Holding, PastKept, Refreshed}
-use Rattle.records.proofs.Laws.{records-long, below-aside}
-use Rattle.records.proofs.Channels.{layout-more, laid-out}
+use Rattle.layout.specs.Measure.{noLayout, layoutOf, More}
+use Rattle.layout.proofs.Laws.{Summing, summing-start, summed-below, summed-up}
+use Rattle.words.specs.Words.{recordWords, recordNumbers, belowWord, recordsHeld, recordsIn, belowIn, Holding}
+use Rattle.records.specs.Records.{channelsIn, PastKept, Refreshed}
+use Rattle.words.proofs.Laws.{records-long, below-aside}
+use Rattle.records.proofs.Channels.{layout-more, take-there}
+use Rattle.records.proofs.Renewing.{renewed-holds}
 
 -- ---- one after the other
 
@@ -67,8 +70,12 @@ module _ {u : List ℕ} {n : ℕ} {root : Settings} {d : Dates} {i : ℕ} {l : L
   unfolding octetsBelow
   octets-below h = summed-below (p .sums) ∙ ap sequenceOctets (take-take i n (channelsIn root d u) (omega (arith, h)))
 
-  module _ {c : Settings} {v' v″ : List ℕ} (h : i < n) (ec : c ≡ settledAt root d (getD (recordsIn v) i zeroDated))
-      (o : Holding v (set (recordsIn v) i (upToDate root d (getD (recordsIn v) i zeroDated))) v') (e : v″ ≡ set v' (i * recordWords + belowWord) (l .octets)) where
+  module _ {v' v″ : List ℕ} (h : i < n) (o : Holding v (set (recordsIn v) i (upToDate root d (getD (recordsIn v) i zeroDated))) v')
+      (e : v″ ≡ set v' (i * recordWords + belowWord) (l .octets)) where
+    -- The record holds what stands for its channel.
+    holds-now : getD (recordsIn v') i zeroDated .settings ≡ settledAt root d (getD (recordsIn u) i zeroDated)
+    holds-now = renewed-holds (upToDate root d (getD (recordsIn v) i zeroDated)) (refreshing-room h) o ∙ ap (settledAt root d) same-at
+
     below-more : (k : ℕ) → k < i + 1 → (t : Bool) → ltb k i ≡ t → belowIn (set v' (i * recordWords + belowWord) (l .octets)) k ≡ octetsBelow k (channelsIn root d u)
     below-more k l' true q =
         let b = ltb-true k i q in
@@ -83,11 +90,11 @@ module _ {u : List ℕ} {n : ℕ} {root : Settings} {d : Dates} {i : ℕ} {l : L
         → getD (set v' (i * recordWords + belowWord) (l .octets)) m 0 ≡ getD v m 0
     aside m ne b = getD-set-other v' (i * recordWords + belowWord) m (l .octets) 0 ne ∙ o .others m b
 
-    pub refreshing-more : (m : Layout) → More i 0 c l m → Refreshing u n root d (i + 1) m v″
+    pub refreshing-more : (m : Layout) → More i 0 (getD (recordsIn v') i zeroDated .settings) l m → Refreshing u n root d (i + 1) m v″
     refreshing-more m g =
         record {
           room = p .room;
-          sums = layout-more root d (recordsIn u) (p .room) (p .sums) m h (ec ∙ ap (settledAt root d) same-at) g;
+          sums = layout-more root d (recordsIn u) (p .room) (p .sums) m h holds-now g;
           records = ap recordsIn e ∙ below-aside v' i (l .octets) ∙ o .records
               ∙ (λ j. set (p .records j) i (upToDate root d (same-at j)))
               ∙ refreshed-more root d i (recordsIn u) zeroDated (omega (arith, h, p .room))
@@ -106,15 +113,27 @@ module _ {u : List ℕ} {n : ℕ} {root : Settings} {d : Dates} {i : ℕ} {l : L
           };
         }
 
-  pub refreshing-all : (count : ℕ) → n ≡ min (min count channelLimit) (length (recordsIn u)) → n ≤ i → Refreshed u (min count channelLimit) root d l v
-  refreshing-all count e h =
-      let low : i ≤ n = omega (arith, p .sums .passed .low, p .sums .long) in
-      let same : i ≡ min (min count channelLimit) (length (recordsIn u)) = omega arith in
+  pub refreshing-all : n ≤ i → Refreshed u n root d l v
+  refreshing-all h =
+      let same : i ≡ n = omega (arith, p .sums .passed .low, p .sums .long) in
       record {
-        layout = laid-out (p .sums) count e (table-long root d (recordsIn u)) h;
-        records = p .records ∙ ap (λ (k : ℕ). refreshed k root d (recordsIn u)) same ∙ refreshed-there root d (min count channelLimit) (recordsIn u);
+        layout = summed-up (p .sums) n refl h;
+        records = p .records ∙ ap (λ (k : ℕ). refreshed k root d (recordsIn u)) same;
         long = p .long;
-        below = λ k a b. p .below k (omega (arith, records-long u));
+        below = λ k a b. p .below k (omega arith);
         others = λ k b. p .others k (omega arith);
         past = p .past;
       }
+
+-- No more are brought up to date than there are.
+pub refreshed-few : {u v : List ℕ} {n : ℕ} {root : Settings} {d : Dates} {l : Layout} (m : ℕ) → n ≡ min m (length (recordsIn u)) → Refreshed u n root d l v → Refreshed u m root d l v
+refreshed-few {u} {root = root} {d} m e f =
+    let table = channelsIn root d u in
+    record {
+      layout = f .layout ∙ ap (λ (k : ℕ). layoutOf 0 (take k table)) (e ∙ ap (min m) (sym (table-long root d (recordsIn u)))) ∙ ap (layoutOf 0) (take-there m table);
+      records = f .records ∙ ap (λ (k : ℕ). refreshed k root d (recordsIn u)) e ∙ refreshed-there root d m (recordsIn u);
+      long = f .long;
+      below = λ k a b. f .below k (omega (arith, records-long u)) b;
+      others = λ k b. f .others k (omega arith);
+      past = f .past;
+    }

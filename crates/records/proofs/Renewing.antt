@@ -24,8 +24,9 @@ use Rattle.dated.specs.declared.Dates.{Dates}
 use Rattle.dated.specs.declared.Times.{Times}
 use Rattle.dated.specs.Dated.{noted, zeroDated, settledFrom, settledAt, upToDate}
 use Rattle.dated.proofs.Refreshed.{fresh-same}
-use Rattle.records.specs.Records.{recordNumbers, timeWord, scaleBy, bitsBy, recordBy, wordsAt, recordAt, recordsHeld, recordsIn, settingsBy, sinceBy, Holding, Overtaken}
-use Rattle.records.proofs.Laws.{not-last, further-out, place, same-by, records-long, records-at, holding-same, holding-at}
+use Rattle.words.specs.Words.{recordNumbers, timeWord, scaleBy, bitsBy, recordBy, wordsAt, recordAt, recordsHeld, recordsIn, Holding}
+use Rattle.records.specs.Records.{settingsBy, sinceBy, Overtaken}
+use Rattle.words.proofs.Laws.{not-last, further-out, place, same-by, records-long, records-at, holding-same, holding-at}
 
 -- ---- word by word
 
@@ -136,9 +137,9 @@ module _ (u : List ℕ) (k : ℕ) (root : Settings) (d : Dates) (h : k < records
       ef' : from ≡ pick (leb (x .at) (d .cleared)) 0 (x .at)
       ef' = ef ∙ ap (λ (n : ℕ). pick (leb n (d .cleared)) 0 n) ea
 
-pub renewed-holds : {u v : List ℕ} {k : ℕ} (x : Dated) {c : Settings} → k < recordsHeld u → Holding u (set (recordsIn u) k x) v → c ≡ getD (recordsIn v) k zeroDated .settings → c ≡ x .settings
-renewed-holds {u} {v} {k} x h o e =
-    e ∙ ap (λ (t : List Dated). getD t k zeroDated .settings) (o .records)
+pub renewed-holds : {u v : List ℕ} {k : ℕ} (x : Dated) → k < recordsHeld u → Holding u (set (recordsIn u) k x) v → getD (recordsIn v) k zeroDated .settings ≡ x .settings
+renewed-holds {u} {v} {k} x h o =
+    ap (λ (t : List Dated). getD t k zeroDated .settings) (o .records)
     ∙ ap (λ (y : Dated). y .settings) (getD-set-same (recordsIn u) k x zeroDated (omega (arith, records-long u)))
 
 pub words-settings : (w : List ℕ) (y : Dated) → recordBy (λ a. getD w a 0) ≡ y → settingsBy w ≡ y .settings

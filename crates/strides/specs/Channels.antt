@@ -7,7 +7,7 @@ use Rattle.octets.specs.Pick.{pick, both}
 use Rattle.heads.specs.Refusals.{noFrame}
 use Rattle.heads.specs.Answer.{Answer, answered, refusedAs, refusedBy}
 use Rattle.dated.specs.Dated.{zeroDated}
-use Rattle.records.specs.Records.{recordsIn, belowIn}
+use Rattle.words.specs.Words.{recordsIn, belowIn}
 use Rattle.spread.specs.declared.Spread.{Spread}
 use Rattle.spread.specs.declared.Sequences.{Sequences}
 use Rattle.spread.specs.Spread.{countSpread, liesSpread, bitsSpread}

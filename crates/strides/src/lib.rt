@@ -409,13 +409,13 @@ pub fn lay(s: &[u8], x: Spread, first: u64, n: usize, out: &mut [u64], at: usize
 fn spread_at(t: &[u64], q: Sequences, channel: usize) -> Spread
     ensures { λ r. ⌜ r ≡ spreadAt (now (t .entry)) q channel ⌝ }
 {
-    let c = records::held(t, channel);
+    let c = words::held(t, channel);
     Spread {
         sequences: q.count,
         little: q.little,
         place: q.place,
         octets: q.octets,
-        below: records::below(t, channel),
+        below: words::below(t, channel),
         block: c.block,
         datatype: c.datatype,
     }

@@ -14,7 +14,7 @@ use Rattle.octets.specs.Pick.{pick}
 use Rattle.octets.proofs.Pick.{both-split}
 use Rattle.heads.specs.Refusals.{noFrame}
 use Rattle.heads.specs.Answer.{refusedAs}
-use Rattle.records.specs.Records.{recordsHeld}
+use Rattle.words.specs.Words.{recordsHeld}
 use Rattle.strides.specs.Channels.{sweptOf}
 use Rattle.kept.specs.Words.{headWords, waveformIn}
 use Rattle.sweep.specs.Sweep.{holdsFrame, spreadsIn, sweepIn}

@@ -7,7 +7,7 @@ use lib.ListN.{drop}
 use Rattle.octets.specs.Pick.{pick, both}
 use Rattle.heads.specs.Refusals.{noFrame}
 use Rattle.heads.specs.Answer.{Answer, refusedAs}
-use Rattle.records.specs.Records.{recordsHeld}
+use Rattle.words.specs.Words.{recordsHeld}
 use Rattle.spread.specs.declared.Spread.{Spread}
 use Rattle.spread.specs.declared.Sequences.{Sequences}
 use Rattle.strides.specs.Channels.{spreadsFrom, sweptOf}

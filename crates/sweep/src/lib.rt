@@ -11,8 +11,8 @@ ghost use Rattle.strides.specs.Channels.{readSays};
 ghost use Rattle.sweep.specs.Sweep.{holdsFrame, sweepIn};
 use heads::Refusal;
 use kept::Kept;
-use records::Records;
 use spread::Sequences;
+use words::Records;
 use strides::Read;
 
 // Whether words hold a frame with a record for each of its channels.

@@ -18,8 +18,8 @@ use Rattle.layout.specs.Frame.{Frame, samplesOf}
 use Rattle.laid.specs.Laid.{sampleBits}
 use Rattle.dated.specs.Dated.{held}
 use Rattle.dated.proofs.Refreshed.{held-long}
-use Rattle.records.specs.Records.{recordsIn, recordsHeld}
-use Rattle.records.proofs.Laws.{records-long}
+use Rattle.words.specs.Words.{recordsIn, recordsHeld}
+use Rattle.words.proofs.Laws.{records-long}
 use Rattle.spread.specs.declared.Spread.{Spread}
 use Rattle.spread.specs.Spread.{countSpread, liesSpread, bitsSpread}
 use Rattle.strides.specs.Laying.{bitsFrom}

@@ -46,8 +46,9 @@ use Rattle.framing.specs.declared.Framed.{Framed}
 use Rattle.framing.specs.Framing.{channelsOf, sequencesOf, pointerFits, framedAs}
 use Rattle.framing.specs.AnyNumbers.{framedBy}
 use Rattle.verdict.specs.Verdict.{placeAt}
-use Rattle.records.specs.Records.{recordsIn, heldIn, belowIn, Holding, PastKept, Refreshed}
-use Rattle.records.proofs.Laws.{records-long}
+use Rattle.words.specs.Words.{recordsIn, heldIn, belowIn, Holding}
+use Rattle.records.specs.Records.{PastKept, Refreshed}
+use Rattle.words.proofs.Laws.{records-long}
 use Rattle.walk.specs.declared.Waveform.{Waveform}
 use Rattle.walk.specs.declared.Step.{Step}
 use Rattle.walk.specs.declared.Head.{Head}

@@ -21,7 +21,8 @@ use Rattle.framing.specs.declared.Framed.{Framed}
 use Rattle.framing.specs.Framing.{channelsOf}
 use Rattle.framing.specs.AnyNumbers.{framedBy}
 use Rattle.verdict.specs.Verdict.{placeAt}
-use Rattle.records.specs.Records.{recordsIn, heldIn, belowIn, PastKept}
+use Rattle.words.specs.Words.{recordsIn, heldIn, belowIn}
+use Rattle.records.specs.Records.{PastKept}
 use Rattle.walk.specs.declared.Waveform.{Waveform}
 use Rattle.walk.specs.declared.Step.{Step}
 use Rattle.walk.specs.declared.Head.{Head}

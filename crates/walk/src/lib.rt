@@ -159,7 +159,7 @@ pub fn advance(s: &[u8], h: Head, t: &mut [u64]) -> Moved
                     Effect::One(channel, change) => {
                         let k = channel as usize;
                         let stood = records::settled(t, k, st.root, dates);
-                        records::put(t, k, dates.note(settings::apply(stood, change)));
+                        words::put(t, k, dates.note(settings::apply(stood, change)));
                         c = d;
                         items = read;
                     }

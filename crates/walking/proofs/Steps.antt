@@ -16,7 +16,8 @@ use lib.Seq.{drop-at, length-take-le}
 use Rattle.octets.specs.Pick.{pick}
 use Rattle.heads.specs.declared.Refusal.{Refusal}
 use Rattle.heads.specs.Answer.{Answer}
-use Rattle.records.specs.Records.{recordsIn, outdated, Holding, PastKept}
+use Rattle.words.specs.Words.{recordsIn, Holding}
+use Rattle.records.specs.Records.{outdated, PastKept}
 use Rattle.verdict.specs.declared.Checked.{Checked}
 use Rattle.verdict.specs.Verdict.{checkedSays, checkOf}
 use Rattle.walk.specs.declared.Waveform.{Waveform}

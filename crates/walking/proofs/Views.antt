@@ -20,7 +20,7 @@ use Rattle.dated.proofs.Refreshed.{held-long, held-at}
 use Rattle.layout.specs.Frame.{Frame, sequenceOctets, octetsBelow, channelIn}
 use Rattle.view.specs.declared.View.{View}
 use Rattle.view.specs.View.{viewOf}
-use Rattle.records.specs.Records.{recordsIn, belowIn}
+use Rattle.words.specs.Words.{recordsIn, belowIn}
 use Rattle.walk.specs.declared.Waveform.{Waveform}
 use Rattle.walk.specs.declared.Step.{Step}
 use Rattle.walk.specs.Joined.{frameBy}

@@ -13,8 +13,8 @@ use native.Mathlib.Omega.{arith}
 use lib.ListN.{length, drop, length-drop}
 use Rattle.heads.specs.declared.Refusal.{Refusal}
 use Rattle.layout.specs.Frame.{Frame}
-use Rattle.records.specs.Records.{tableWords, recordsIn}
-use Rattle.records.proofs.Laws.{records-full}
+use Rattle.words.specs.Words.{tableWords, recordsIn}
+use Rattle.words.proofs.Laws.{records-full}
 use Rattle.verdict.specs.declared.Checked.{Checked}
 use Rattle.verdict.specs.Verdict.{accepted, refused, verdict}
 use Rattle.walk.specs.declared.Waveform.{Waveform}

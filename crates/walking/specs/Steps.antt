@@ -11,7 +11,8 @@ use Rattle.items.specs.declared.Within.the-variants.{Root}
 use Rattle.items.specs.Walk.{cursor}
 use Rattle.dated.specs.Dated.{firstDates}
 use Rattle.standing.specs.Standing.{firstStanding}
-use Rattle.records.specs.Records.{recordsIn, outdated, PastKept}
+use Rattle.words.specs.Words.{recordsIn}
+use Rattle.records.specs.Records.{outdated, PastKept}
 use Rattle.verdict.specs.declared.Checked.{Checked}
 use Rattle.verdict.specs.Verdict.{checkedSays, checkOf}
 use Rattle.walk.specs.declared.Waveform.{Waveform}

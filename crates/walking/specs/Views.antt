@@ -9,7 +9,7 @@ use Rattle.heads.specs.Answer.{Answer, answered, refusedAs}
 use Rattle.settings.specs.declared.Settings.{Settings}
 use Rattle.dated.specs.Dated.{zeroDated}
 use Rattle.view.specs.declared.View.{View}
-use Rattle.records.specs.Records.{recordsIn, belowIn}
+use Rattle.words.specs.Words.{recordsIn, belowIn}
 use Rattle.walk.specs.declared.Waveform.{Waveform}
 use Rattle.kept.specs.Words.{headWords, holdsHead, waveformIn}
 

@@ -3,7 +3,7 @@
 use mathlib.Core.List.{List}
 use Prim.Native.Nat.{ℕ, _+_}
 use lib.ListN.{drop}
-use Rattle.records.specs.Records.{tableWords}
+use Rattle.words.specs.Words.{tableWords}
 use Rattle.walk.specs.Advance.{Stand, standOf}
 use Rattle.kept.specs.Words.{headWords, headIn}
 

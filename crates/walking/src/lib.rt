@@ -16,7 +16,7 @@ ghost use Rattle.walking.specs.Steps.{noWaveform, frameTold, Begins, Ope
 use heads::Refusal;
 use kept::Kept;
 use reader::LookedUp;
-use records::Records;
+use words::Records;
 use verdict::Checked;
 use view::View;
 use walk::Head;
@@ -106,7 +106,7 @@ fn view_kept(w: &[u64], channel: u32) -> View
     let v = kept::waveform_at(w);
     let rest = Kept::HEAD;
     let t = &w[rest..];
-    let settings = records::held(t, channel as usize);
+    let settings = words::held(t, channel as usize);
     View {
         start: v.start,
         channels: v.channels,
@@ -114,7 +114,7 @@ fn view_kept(w: &[u64], channel: u32) -> View
         little: v.little,
         place: v.place,
         octets: v.octets,
-        below: records::below(t, channel as usize),
+        below: words::below(t, channel as usize),
         settings,
     }
 }

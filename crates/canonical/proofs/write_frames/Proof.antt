@@ -7,8 +7,9 @@ use native.Mathlib.Omega.{arith}
 use lib.ListN.{length, length-replicate}
 use Rattle.stores.proofs.Stores.{put-long}
 use Rattle.standing.specs.Standing.{octetsLimit}
-use Rattle.records.specs.Records.{tableWords, recordsIn, outdated, Holding}
-use Rattle.records.proofs.Laws.{records-full}
+use Rattle.words.specs.Words.{tableWords, recordsIn, Holding}
+use Rattle.records.specs.Records.{outdated}
+use Rattle.words.proofs.Laws.{records-full}
 use Rattle.walk.specs.declared.Head.{Head}
 use Rattle.walk.specs.Advance.{firstHead, standOf}
 use Rattle.walk.proofs.Joins.{Reaches, reaches-cleared}

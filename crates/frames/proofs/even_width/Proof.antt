@@ -7,7 +7,7 @@ use native.Mathlib.Omega.{arith}
 use lib.ListN.{take, getD}
 use Rattle.settings.specs.declared.Settings.{Settings}
 use Rattle.dated.specs.Dated.{zeroDated}
-use Rattle.records.specs.Records.{recordsIn, heldIn}
+use Rattle.words.specs.Words.{recordsIn, heldIn}
 use Rattle.frames.specs.Parts.{Few}
 use Rattle.values.specs.Sample.{widthOf}
 use Rattle.laid.specs.Turned.{Even}

@@ -3,7 +3,7 @@ use borrow.Author.Needs.{needs}
 use Prim.Native.Nat.{_-_, _^_, _<_}
 use native.Mathlib.Omega.{arith}
 use lib.ListN.{length, take}
-use Rattle.records.specs.Records.{heldIn}
+use Rattle.words.specs.Words.{heldIn}
 use Rattle.frames.specs.Parts.{Few}
 use Rattle.frames.proofs.Coming.{Nth, nth, taken-long, blocks-sum, Blocks, blocks-first, blocks-next, blocks-place, blocks-done, Sequences, sequences-first, sequences-fit, sequences-room, sequences-next, sequences-done}
 use Rattle.frames.proofs.put_blocks.Statement.{statement}

@@ -3,7 +3,7 @@ use borrow.Author.Needs.{needs}
 use Prim.Native.Nat.{_-_}
 use native.Mathlib.Omega.{arith}
 use lib.ListN.{take}
-use Rattle.records.specs.Records.{heldIn}
+use Rattle.words.specs.Words.{heldIn}
 use Rattle.frames.specs.Parts.{Few}
 use Rattle.frames.proofs.Coming.{Grouped, grouped-first, grouped-next, grouped-done, nth, taken-long}
 use Rattle.frames.proofs.put_groups.Statement.{statement}

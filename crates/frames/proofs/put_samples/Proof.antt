@@ -4,7 +4,7 @@ use mathlib.Core.List.{List}
 use native.Mathlib.Omega.{arith}
 use borrow.Author.Tests.{not-true, not-false}
 use lib.ListN.{take}
-use Rattle.records.specs.Records.{heldIn}
+use Rattle.words.specs.Words.{heldIn}
 use Prim.Native.Nat.{ℕ, _<_}
 use Rattle.settings.specs.declared.Settings.{Settings}
 use Rattle.laid.specs.Turned.{Even}

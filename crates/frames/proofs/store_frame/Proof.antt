@@ -1,7 +1,7 @@
 -- Head, groups, tag, length and samples, one after the other.
 use mathlib.Core.Path.{_≡_}
 use lib.ListN.{length, take}
-use Rattle.records.specs.Records.{heldIn}
+use Rattle.words.specs.Words.{heldIn}
 use mir.Facts.{toZ-ofZ}
 use Rattle.frames.proofs.Coming.{taken-long}
 use Rattle.frames.proofs.Stored.{groups-room, samples-room, frame-stored}

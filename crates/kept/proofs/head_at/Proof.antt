@@ -1,7 +1,7 @@
 -- Each part by itself.
 use mathlib.Core.Path.{_∙_, ap}
 use Rattle.dated.specs.declared.Dated.{Dated}
-use Rattle.records.specs.Records.{wordsAt}
+use Rattle.words.specs.Words.{wordsAt}
 use Rattle.kept.specs.Words.{headPlace, standingBy}
 use borrow.Author.Needs.{needs}
 use Rattle.kept.proofs.head_at.Statement.{statement}

@@ -2,7 +2,7 @@
 use mathlib.Core.Path.{_≡_, _∙_}
 use native.Mathlib.Omega.{arith}
 use lib.ListN.{length}
-use Rattle.records.specs.Records.{recordNumbers}
+use Rattle.words.specs.Words.{recordNumbers}
 use Rattle.kept.specs.Words.{headNumbers, waveformNumbers}
 use Rattle.kept.proofs.Laws.{keeping-none, keeping-stored}
 use borrow.Author.Needs.{needs}

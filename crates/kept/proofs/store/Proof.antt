@@ -4,8 +4,8 @@ use mathlib.Core.Path.{_≡_}
 use native.Mathlib.Omega.{arith}
 use lib.ListN.{length}
 use borrow.Author.Needs.{needs}
-use Rattle.records.specs.Records.{Overlaid}
-use Rattle.records.proofs.Laws.{overlaid-more}
+use Rattle.words.specs.Words.{Overlaid}
+use Rattle.words.proofs.Laws.{overlaid-more}
 use Rattle.kept.proofs.store.Statement.{statement}
 use Rattle.kept.proofs.store.Tie as tie
 

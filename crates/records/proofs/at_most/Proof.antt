@@ -1,6 +1,6 @@
 -- The smaller of the two.
 use native.Mathlib.Omega.{arith}
-use Rattle.records.proofs.Laws.{records-long}
+use Rattle.words.proofs.Laws.{records-long}
 use borrow.Author.Needs.{needs}
 use Rattle.records.proofs.at_most.Statement.{statement}
 use Rattle.records.proofs.at_most.Tie as tie

@@ -10,7 +10,7 @@ use Rattle.dated.specs.Dated.{zeroDated}
 use Rattle.dated.proofs.Refreshed.{held-long, held-at}
 use Rattle.layout.specs.Measure.{More}
 use Rattle.layout.proofs.Laws.{Summing, summing-start, summing-more}
-use Rattle.records.specs.Records.{recordsIn, heldIn}
+use Rattle.words.specs.Words.{recordsIn, heldIn}
 use Rattle.records.proofs.Channels.{channels-few, laid-out}
 use Rattle.records.proofs.layout_in.Statement.{statement}
 use Rattle.records.proofs.layout_in.Tie as tie

@@ -4,7 +4,8 @@ use mathlib.Core.Path.{_≡_}
 use native.Mathlib.Omega.{arith}
 use lib.ListN.{length}
 use borrow.Author.Needs.{needs}
-use Rattle.records.specs.Records.{recordNumbers, Overtaken}
+use Rattle.words.specs.Words.{recordNumbers}
+use Rattle.records.specs.Records.{Overtaken}
 use Rattle.records.proofs.Renewing.{overtaken-more}
 use Rattle.records.proofs.overtake.Statement.{statement}
 use Rattle.records.proofs.overtake.Tie as tie

@@ -7,7 +7,8 @@ use borrow.Author.Needs.{needs}
 use lib.ListN.{length}
 use Rattle.items.specs.declared.Item.{Item}
 use Rattle.items.proofs.Walks.{found-as}
-use Rattle.records.specs.Records.{recordsIn, PastKept}
+use Rattle.words.specs.Words.{recordsIn}
+use Rattle.records.specs.Records.{PastKept}
 use Rattle.records.proofs.Channels.{channels-few}
 use Rattle.walk.specs.declared.Waveform.{Waveform}
 use Rattle.walk.specs.Advance.{Stand, stand, advanceOf}

@@ -7,7 +7,7 @@ use mir.Val.{SFits}
 use mir.Facts.{toZ-ofZ}
 use lib.ListN.{getD}
 use Rattle.dated.specs.Dated.{zeroDated}
-use Rattle.records.specs.Records.{recordsIn, belowIn}
+use Rattle.words.specs.Words.{recordsIn, belowIn}
 use Rattle.kept.specs.Words.{headWords}
 use Rattle.walking.specs.Views.{viewBy}
 use Rattle.kept.proofs.Laws.{lent-all}

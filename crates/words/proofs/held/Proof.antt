@@ -2,8 +2,8 @@
 use mathlib.Core.Path.{ap}
 use Rattle.dated.specs.declared.Dated.{Dated}
 use borrow.Author.Needs.{needs}
-use Rattle.records.proofs.held.Statement.{statement}
-use Rattle.records.proofs.held.Tie as tie
+use Rattle.words.proofs.held.Statement.{statement}
+use Rattle.words.proofs.held.Tie as tie
 
 get-requires : tie.Need-get-requires
 get-requires c κs = search needs

@@ -2,8 +2,8 @@
 use mathlib.Core.Path.{_∙_, ap}
 use Rattle.octets.specs.Number.{lowOf}
 use borrow.Author.Needs.{needs}
-use Rattle.records.proofs.bits.Statement.{statement}
-use Rattle.records.proofs.bits.Tie as tie
+use Rattle.words.proofs.bits.Statement.{statement}
+use Rattle.words.proofs.bits.Tie as tie
 
 word-requires : tie.Need-word-requires
 word-requires c κs = search needs

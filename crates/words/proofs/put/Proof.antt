@@ -1,9 +1,9 @@
 -- By the test: nothing is stored, or the record's words at its place.
 use native.Mathlib.Omega.{arith}
-use Rattle.records.proofs.Laws.{holding-none, holding-put}
+use Rattle.words.proofs.Laws.{holding-none, holding-put}
 use borrow.Author.Needs.{needs}
-use Rattle.records.proofs.put.Statement.{statement}
-use Rattle.records.proofs.put.Tie as tie
+use Rattle.words.proofs.put.Statement.{statement}
+use Rattle.words.proofs.put.Tie as tie
 
 returns : tie.Need-returns
 returns c =

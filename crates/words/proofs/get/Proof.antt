@@ -2,10 +2,10 @@
 use mathlib.Core.Path.{_∙_, sym}
 use native.Mathlib.Omega.{arith}
 use Rattle.dated.specs.Dated.{zeroDated}
-use Rattle.records.proofs.Laws.{records-at, records-past}
+use Rattle.words.proofs.Laws.{records-at, records-past}
 use borrow.Author.Needs.{needs}
-use Rattle.records.proofs.get.Statement.{statement}
-use Rattle.records.proofs.get.Tie as tie
+use Rattle.words.proofs.get.Statement.{statement}
+use Rattle.words.proofs.get.Tie as tie
 
 mul-record-at : tie.Need-mul-record-at
 mul-record-at c = search needs

@@ -4,10 +4,10 @@ use native.Mathlib.Omega.{arith}
 use lib.ListN.{List·getD-eq-default}
 use Prim.Native.Nat.{_+_, _*_, _≤_}
 use lib.ListN.{length}
-use Rattle.records.specs.Records.{recordWords, belowWord}
+use Rattle.words.specs.Words.{recordWords, belowWord}
 use borrow.Author.Needs.{needs}
-use Rattle.records.proofs.below.Statement.{statement}
-use Rattle.records.proofs.below.Tie as tie
+use Rattle.words.proofs.below.Statement.{statement}
+use Rattle.words.proofs.below.Tie as tie
 
 mul-result : tie.Need-mul-result
 mul-result c = search needs

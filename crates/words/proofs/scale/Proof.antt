@@ -6,8 +6,8 @@ use mir.Facts.{toZ-ofZ}
 use Prim.Native.Nat.{ℕ}
 use Rattle.octets.specs.Number.{lowOf, twos}
 use borrow.Author.Needs.{needs}
-use Rattle.records.proofs.scale.Statement.{statement}
-use Rattle.records.proofs.scale.Tie as tie
+use Rattle.words.proofs.scale.Statement.{statement}
+use Rattle.words.proofs.scale.Tie as tie
 
 word-requires : tie.Need-word-requires
 word-requires c κs = search needs

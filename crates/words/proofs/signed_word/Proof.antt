@@ -11,8 +11,8 @@ use mir.Val.{SFits, toZ, ofZ}
 use mir.Facts.{toZ-ofZ}
 use Rattle.octets.specs.Number.{twos}
 use Rattle.octets.proofs.Machine.{complement}
-use Rattle.records.proofs.signed_word.Statement.{statement}
-use Rattle.records.proofs.signed_word.Tie as tie
+use Rattle.words.proofs.signed_word.Statement.{statement}
+use Rattle.words.proofs.signed_word.Tie as tie
 
 below : (z : ℤ) → SFits w64 z → ltZ z (pos 0) ≡ true → twos 8 (18446744073709551615 - mag z) ≡ z
 unfolding twos

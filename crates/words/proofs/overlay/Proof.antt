@@ -4,10 +4,10 @@ use mathlib.Core.Path.{_≡_}
 use native.Mathlib.Omega.{arith}
 use lib.ListN.{length}
 use borrow.Author.Needs.{needs}
-use Rattle.records.specs.Records.{recordNumbers, Overlaid}
-use Rattle.records.proofs.Laws.{overlaid-more}
-use Rattle.records.proofs.overlay.Statement.{statement}
-use Rattle.records.proofs.overlay.Tie as tie
+use Rattle.words.specs.Words.{recordNumbers, Overlaid}
+use Rattle.words.proofs.Laws.{overlaid-more}
+use Rattle.words.proofs.overlay.Statement.{statement}
+use Rattle.words.proofs.overlay.Tie as tie
 
 abbrev Inv-loop : tie.InvT-loop
 Inv-loop t₀ i w a₀ t a = (i + recordNumbers ≤ length t₀) × (a ≤ recordNumbers) × Overlaid t₀ i w a t

@@ -3,8 +3,8 @@ use mathlib.Core.Path.{_∙_, ap}
 use Rattle.octets.specs.Number.{lowOf}
 use Rattle.dated.specs.Dated.{noted}
 use borrow.Author.Needs.{needs}
-use Rattle.records.proofs.record_at.Statement.{statement}
-use Rattle.records.proofs.record_at.Tie as tie
+use Rattle.words.proofs.record_at.Statement.{statement}
+use Rattle.words.proofs.record_at.Tie as tie
 
 scale-requires : tie.Need-scale-requires
 scale-requires c κs = search needs

@@ -2,6 +2,7 @@
 use mathlib.Core.Path.{_≡_, _∙_}
 use Prim.Native.Nat.{ℕ, _<_, _^_}
 use native.Mathlib.Nat.{mod-eq-of-lt}
+use native.Mathlib.Omega.{arith}
 use lib.IntN.{ℤ}
 use mir.Syntax.{w8, w32, w64}
 use mir.Val.{SFits, toZ, ofZ}
@@ -9,10 +10,10 @@ use Rattle.octets.specs.Number.{lowOf, twos}
 use Rattle.octets.proofs.Machine.{widens, widened}
 use Rattle.dated.specs.declared.Dated.{Dated}
 use Rattle.dated.specs.Dated.{noted}
-use Rattle.records.proofs.Laws.{one-back, four-back}
+use Rattle.words.proofs.Laws.{one-back, four-back}
 use borrow.Author.Needs.{needs}
-use Rattle.records.proofs.words_of.Statement.{statement}
-use Rattle.records.proofs.words_of.Tie as tie
+use Rattle.words.proofs.words_of.Statement.{statement}
+use Rattle.words.proofs.words_of.Tie as tie
 
 exponent-back : (r : ℕ) {z : ℤ} → r < 2 ^ 64 → SFits w8 z → twos 8 r ≡ toZ w64 (ofZ w64 (toZ w8 (ofZ w8 z))) → twos 1 (lowOf 1 r) ≡ z
 exponent-back r h f e = one-back r h (f .sfits) (e ∙ widened tt f)
@@ -39,23 +40,23 @@ record Fit (x : Dated) : Type 0 where
 fit : (c : tie.Start) → Fit (c .args .x)
 fit c = search needs
 
-cast-t7 : tie.Need-cast-t7
-cast-t7 c = search needs
+cast-t2 : tie.Need-cast-t2
+cast-t2 c = search needs
 
-cast-t8 : tie.Need-cast-t8
-cast-t8 c = search needs
+cast-t3 : tie.Need-cast-t3
+cast-t3 c = search needs
 
-cast-t9 : tie.Need-cast-t9
-cast-t9 c = search needs
+cast-t4 : tie.Need-cast-t4
+cast-t4 c = search needs
 
-cast-t10 : tie.Need-cast-t10
-cast-t10 c = search needs
+cast-t5 : tie.Need-cast-t5
+cast-t5 c = search needs
 
-cast-t11 : tie.Need-cast-t11
-cast-t11 c = search needs
+cast-t6 : tie.Need-cast-t6
+cast-t6 c = search needs
 
 cast-signed-word : tie.Need-cast-signed-word
-cast-signed-word c = widens tt (fit (c .before .before .before .before .before .before .before .before .before .before .before .before) .exponent)
+cast-signed-word c = widens tt (fit (c .before .before .before .before .before .before .before) .exponent)
 
 signed-word-requires : tie.Need-signed-word-requires
 signed-word-requires c κs = search needs
@@ -63,21 +64,19 @@ signed-word-requires c κs = search needs
 cast-signed-word-2 : tie.Need-cast-signed-word-2
 cast-signed-word-2 c =
     let at-word = c .before .before in
-    let at-start = at-word .before .before .before .before .before .before .before .before .before .before .before .before .before in
-    widens tt (fit at-start .mantissa)
+    widens tt (fit (at-word .before .before .before .before .before .before .before .before) .mantissa)
 
 signed-word-requires-2 : tie.Need-signed-word-requires-2
 signed-word-requires-2 c κs = search needs
 
-cast-t16 : tie.Need-cast-t16
-cast-t16 c = search needs
+cast-t11 : tie.Need-cast-t11
+cast-t11 c = search needs
 
 cast-signed-word-3 : tie.Need-cast-signed-word-3
 cast-signed-word-3 c =
     let at-word2 = c .before .before .before in
     let at-word = at-word2 .before .before .before in
-    let at-start = at-word .before .before .before .before .before .before .before .before .before .before .before .before .before in
-    widens tt (fit at-start .exponent2)
+    widens tt (fit (at-word .before .before .before .before .before .before .before .before) .exponent2)
 
 signed-word-requires-3 : tie.Need-signed-word-requires-3
 signed-word-requires-3 c κs = search needs
@@ -87,20 +86,24 @@ cast-signed-word-4 c =
     let at-word3 = c .before .before in
     let at-word2 = at-word3 .before .before .before .before in
     let at-word = at-word2 .before .before .before in
-    let at-start = at-word .before .before .before .before .before .before .before .before .before .before .before .before .before in
-    widens tt (fit at-start .mantissa2)
+    widens tt (fit (at-word .before .before .before .before .before .before .before .before) .mantissa2)
 
 signed-word-requires-4 : tie.Need-signed-word-requires-4
 signed-word-requires-4 c κs = search needs
 
-cast-t21 : tie.Need-cast-t21
-cast-t21 c = search needs
+cast-t16 : tie.Need-cast-t16
+cast-t16 c = search needs
 
-cast-t22 : tie.Need-cast-t22
-cast-t22 c = search needs
+cast-t17 : tie.Need-cast-t17
+cast-t17 c =
+    let at-word4 = c .before .before in
+    let at-word3 = at-word4 .before .before .before in
+    let at-word2 = at-word3 .before .before .before .before in
+    let at-word = at-word2 .before .before .before in
+    omega (arith, fit (at-word .before .before .before .before .before .before .before .before) .null)
 
-cast-t23 : tie.Need-cast-t23
-cast-t23 c = search needs
+cast-t18 : tie.Need-cast-t18
+cast-t18 c = search needs
 
 returns : tie.Need-returns
 returns c =
@@ -108,7 +111,7 @@ returns c =
     let at-word3 = at-word4 .before .before .before in
     let at-word2 = at-word3 .before .before .before .before in
     let at-word = at-word2 .before .before .before in
-    let at-start = at-word .before .before .before .before .before .before .before .before .before .before .before .before .before in
+    let at-start = at-word .before .before .before .before .before .before .before .before in
     let s = at-start .args .x .settings in
     let f = fit at-start in
     let word = at-word .signed-word in
@@ -135,21 +138,21 @@ pub words-of-spec : {M : Type 1} → statement M
 words-of-spec =
     tie.close
     (tie.spec
-    cast-t7
-    cast-t8
-    cast-t9
-    cast-t10
-    cast-t11
+    cast-t2
+    cast-t3
+    cast-t4
+    cast-t5
+    cast-t6
     cast-signed-word
     signed-word-requires
     cast-signed-word-2
     signed-word-requires-2
-    cast-t16
+    cast-t11
     cast-signed-word-3
     signed-word-requires-3
     cast-signed-word-4
     signed-word-requires-4
-    cast-t21
-    cast-t22
-    cast-t23
+    cast-t16
+    cast-t17
+    cast-t18
     returns)
