@@ -150,7 +150,13 @@ fn renew(
             return;
         }
     }
-    overtake(t, k * Records::WORDS, behind_from(at, dates.cleared), w, since);
+    overtake(
+        t,
+        k * Records::WORDS,
+        behind_from(at, dates.cleared),
+        w,
+        since,
+    );
 }
 
 // Takes a record's channel to the layout of those before it, and keeps the octets below it with the record.

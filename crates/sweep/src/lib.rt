@@ -12,8 +12,8 @@ ghost use Rattle.sweep.specs.Sweep.{holdsFrame, sweepIn};
 use heads::Refusal;
 use kept::Kept;
 use spread::Sequences;
-use words::Records;
 use strides::Read;
+use words::Records;
 
 // Whether words hold a frame with a record for each of its channels.
 fn holds_frame(w: &[u64]) -> bool
