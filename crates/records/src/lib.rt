@@ -128,7 +128,7 @@ fn time(t: &[u64], k: usize) -> u32
     requires { ⌜ k < recordsHeld (now t) ⌝ }
     ensures { λ r. ⌜ r ≡ recordAt (now (t .entry)) (k * recordWords) .at ⌝ }
 {
-    octets::lowest(t[k * Records::WORDS + Records::TIME], 4) as u32
+    digits::lowest(t[k * Records::WORDS + Records::TIME], 4) as u32
 }
 
 // Brings a record up to date, by the words of the root settings of now. Only what the root has defined since is stored.
