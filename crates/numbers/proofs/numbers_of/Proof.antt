@@ -8,6 +8,7 @@ use lib.IntN.{pos}
 use mir.Syntax.{w8, w32, w64}
 use mir.Val.{SFits, toZ}
 use mir.Facts.{toZ-ofZ, toZ-pos}
+use Rattle.settings.specs.declared.Scale.{Scale}
 use Rattle.settings.specs.declared.Settings.{Settings}
 use Rattle.reader.specs.declared.Attributes.{Attributes}
 use Rattle.octets.proofs.Machine.{widens, widened}
@@ -20,6 +21,11 @@ plain : {n : ℕ} → n < 2 ^ 32 → toZ w64 n ≡ pos n
 plain h = toZ-pos w64 (omega arith)
 
 -- The numbers that go in are of their types.
+record Scaled (x : Scale) : Type 0 where
+  unit : x .unit < 2 ^ 32
+  exponent : SFits w8 (x .exponent)
+  mantissa : SFits w32 (x .mantissa)
+
 record Typed (a : Attributes) (c : Settings) : Type 0 where
   start : SFits w64 (a .start)
   channels : a .channels < 2 ^ 32
@@ -28,12 +34,8 @@ record Typed (a : Attributes) (c : Settings) : Type 0 where
   class : c .class < 2 ^ 32
   lead : c .lead < 2 ^ 32
   datatype : c .datatype < 2 ^ 32
-  unit : c .interval .unit < 2 ^ 32
-  exponent : SFits w8 (c .interval .exponent)
-  mantissa : SFits w32 (c .interval .mantissa)
-  unit2 : c .resolution .unit < 2 ^ 32
-  exponent2 : SFits w8 (c .resolution .exponent)
-  mantissa2 : SFits w32 (c .resolution .mantissa)
+  interval : Scaled (c .interval)
+  resolution : Scaled (c .resolution)
   offset : c .offset .width < 2 ^ 32
   null : c .null .width < 2 ^ 32
 
@@ -62,19 +64,19 @@ cast-t8 : tie.Need-cast-t8
 cast-t8 c = search needs
 
 cast-t9 : tie.Need-cast-t9
-cast-t9 c = widens tt (typed (c .before .before .before .before .before .before .before .before .before) .exponent)
+cast-t9 c = widens tt (typed (c .before .before .before .before .before .before .before .before .before) .interval .exponent)
 
 cast-t10 : tie.Need-cast-t10
-cast-t10 c = widens tt (typed (c .before .before .before .before .before .before .before .before .before .before .before) .mantissa)
+cast-t10 c = widens tt (typed (c .before .before .before .before .before .before .before .before .before .before .before) .interval .mantissa)
 
 cast-t11 : tie.Need-cast-t11
-cast-t11 c = search (needs, typed (c .before .before .before .before .before .before .before .before .before .before .before .before) .unit2)
+cast-t11 c = search (needs, typed (c .before .before .before .before .before .before .before .before .before .before .before .before) .resolution .unit)
 
 cast-t12 : tie.Need-cast-t12
-cast-t12 c = widens tt (typed (c .before .before .before .before .before .before .before .before .before .before .before .before .before .before) .exponent2)
+cast-t12 c = widens tt (typed (c .before .before .before .before .before .before .before .before .before .before .before .before .before .before) .resolution .exponent)
 
 cast-t13 : tie.Need-cast-t13
-cast-t13 c = widens tt (typed (c .before .before .before .before .before .before .before .before .before .before .before .before .before .before .before .before) .mantissa2)
+cast-t13 c = widens tt (typed (c .before .before .before .before .before .before .before .before .before .before .before .before .before .before .before .before) .resolution .mantissa)
 
 cast-t14 : tie.Need-cast-t14
 cast-t14 c = search (needs, typed (c .before .before .before .before .before .before .before .before .before .before .before .before .before .before .before .before .before) .offset)
@@ -94,12 +96,12 @@ returns c =
     ∷ plain (t .class) i
     ∷ plain (t .lead) i
     ∷ plain (t .datatype) i
-    ∷ plain (t .unit) i
-    ∷ widened tt (t .exponent) i
-    ∷ widened tt (t .mantissa) i
-    ∷ plain (t .unit2) i
-    ∷ widened tt (t .exponent2) i
-    ∷ widened tt (t .mantissa2) i
+    ∷ plain (t .interval .unit) i
+    ∷ widened tt (t .interval .exponent) i
+    ∷ widened tt (t .interval .mantissa) i
+    ∷ plain (t .resolution .unit) i
+    ∷ widened tt (t .resolution .exponent) i
+    ∷ widened tt (t .resolution .mantissa) i
     ∷ plain (t .offset) i
     ∷ plain (t .null) i
     ∷ []
