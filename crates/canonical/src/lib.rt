@@ -17,11 +17,11 @@ ghost use Rattle.heads.specs.Answer.{refusedAs};
 ghost use Rattle.canonical.specs.Write.{canonicalOf, canonicalLengthOf, Ready, writtenSays, Wrote};
 use heads::Refusal;
 use pass::Asked;
-use words::Records;
 use standing::Standing;
 use verdict::Checked;
 use walk::Head;
 use walk::Step;
+use words::Records;
 
 // How many octets a writer writes, or a refusal.
 pub enum Written {

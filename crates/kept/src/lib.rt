@@ -14,11 +14,11 @@ use dated::Dates;
 use dated::Times;
 use items::Cursor;
 use items::Within;
-use words::Records;
 use settings::Settings;
 use standing::Standing;
 use walk::Head;
 use walk::Waveform;
+use words::Records;
 
 // The sizes of a head and a frame kept in words.
 pub struct Kept {}

@@ -11,9 +11,9 @@ ghost use Rattle.strides.specs.Channels.{readSays};
 ghost use Rattle.sweep.specs.Sweep.{holdsFrame, sweepIn};
 use heads::Refusal;
 use kept::Kept;
-use words::Records;
 use strides::Read;
 use strides::Sequences;
+use words::Records;
 
 // Whether words hold a frame with a record for each of its channels.
 fn holds_frame(w: &[u64]) -> bool

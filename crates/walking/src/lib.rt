@@ -16,12 +16,12 @@ ghost use Rattle.walking.specs.Steps.{noWaveform, frameTold, Begins, Ope
 use heads::Refusal;
 use kept::Kept;
 use reader::LookedUp;
-use words::Records;
 use verdict::Checked;
 use view::View;
 use walk::Head;
 use walk::Step;
 use walk::Waveform;
+use words::Records;
 
 // The size of a walk kept in words.
 pub struct Walking {}

@@ -24,9 +24,10 @@ renew-all-requires : tie.Need-renew-all-requires
 renew-all-requires c κs =
     let at-since = c .before .before .before in
     let at-words = at-since .before in
-    let at-note = at-words .before in
-    (channels-few _ _ (at-note .before .at-most .ensures),
-    (ap (λ (x : Dated). x .at) (at-words .words-of .ensures ∙ at-note .note .ensures), at-since .since-of .ensures))
+    let at-note = at-words .before in (
+      channels-few _ _ (at-note .before .at-most .ensures),
+      (ap (λ (x : Dated). x .at) (at-words .words-of .ensures ∙ at-note .note .ensures), at-since .since-of .ensures),
+    )
 
 same-length : tie.Need-same-length
 same-length c = search needs
