@@ -123,12 +123,12 @@ fn behind_from(at: u32, cleared: u32) -> u32
     if at <= cleared { 0 } else { at }
 }
 
-// The time of a record.
-fn time(t: &[u64], k: usize) -> u32
-    requires { ⌜ k < recordsHeld (now t) ⌝ }
-    ensures { λ r. ⌜ r ≡ recordAt (now (t .entry)) (k * recordWords) .at ⌝ }
+// The time of the record at place i.
+fn time(t: &[u64], i: usize) -> u32
+    requires { ⌜ i + recordNumbers ≤ length (now t) ⌝ }
+    ensures { λ r. ⌜ r ≡ recordAt (now (t .entry)) i .at ⌝ }
 {
-    digits::lowest(t[k * Records::WORDS + Records::TIME], 4) as u32
+    digits::lowest(t[i + Records::TIME], 4) as u32
 }
 
 // Brings a record up to date, by the words of the root settings of now. Only what the root has defined since is stored.
@@ -144,19 +144,14 @@ fn renew(
     requires { ⌜ now since ≡ sinceBy (dates .times) ⌝ }
     ensures { λ _. ⌜ Holding (now (t .entry)) (set (recordsIn (now (t .entry))) k (upToDate (settingsBy (now (w .entry))) dates (getD (recordsIn (now (t .entry))) k zeroDated))) (now (t .exit)) ⌝ }
 {
-    let at = time(t, k);
+    let i = k * Records::WORDS;
+    let at = time(t, i);
     if dates.cleared < at {
         if at == dates.now {
             return;
         }
     }
-    overtake(
-        t,
-        k * Records::WORDS,
-        behind_from(at, dates.cleared),
-        w,
-        since,
-    );
+    overtake(t, i, behind_from(at, dates.cleared), w, since);
 }
 
 // Takes a record's channel to the layout of those before it, and keeps the octets below it with the record.

@@ -8,6 +8,9 @@ use borrow.Author.Needs.{needs}
 use Rattle.records.proofs.renew.Statement.{statement}
 use Rattle.records.proofs.renew.Tie as tie
 
+mul-i : tie.Need-mul-i
+mul-i c = search needs
+
 time-requires : tie.Need-time-requires
 time-requires c κs = search needs
 
@@ -20,9 +23,6 @@ returns c =
     let at-time = at-if1 .before .before in
     let a = at-time .before .before .before .args in
     renew-keeps (a .t .now) (a .k) (settingsBy (a .w .now)) (a .dates) (omega arith) (at-time .time .ensures) (at-if1 .if1 .taken) (c .if2 .taken)
-
-mul-overtake : tie.Need-mul-overtake
-mul-overtake c = search needs
 
 behind-from-requires : tie.Need-behind-from-requires
 behind-from-requires c κs = search needs
@@ -49,10 +49,10 @@ pub renew-spec : {M : Type 1} → statement M
 renew-spec =
     tie.close
     (tie.spec
+    mul-i
     time-requires
     same-length
     returns
-    mul-overtake
     behind-from-requires
     overtake-requires
     same-length-2
