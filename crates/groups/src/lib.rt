@@ -3,7 +3,7 @@
 // Promises: `put_head` and `put_group` store these octets from the place `at` on and return the place after them; where they do not fit, nothing
 // is stored and `at` is returned. `Putting` of crate stores says this once.
 // Read first: specs/Head.antt and specs/Group.antt (the octets).
-// Each of the two makes one test, against the size that crate layout answers. What is private here stores what fits: `Put` says which octets, from where on.
+// Each of the two makes one test, against the size that crate sizes answers. What is private here stores what fits: `Put` says which octets, from where on.
 ghost use mathlib.Core.Path.{_≡_};
 ghost use Prim.Native.Nat.{_+_, _≤_, _<_};
 ghost use lib.ListN.{length};

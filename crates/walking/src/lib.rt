@@ -1,6 +1,6 @@
 // A walk that a caller holds as plain words.
 //
-// The first words hold the head and what the last step told of a frame (crate kept), the rest the channels' records (crate records). Any words at all
+// The first words hold the head and what the last step told of a frame (crate kept), the rest the channels' records (crate words). Any words at all
 // are some walk.
 // Promises, for any words and any octets: `open` checks a file, and the words begin a walk over one that is accepted; `next` goes from where they stand
 // to the next frame, the end or the refusal; `view_at` answers a channel of the frame that the last step told of. Words too few for a head stay as they
