@@ -2,7 +2,7 @@
 --     rest-test       a sum that fits
 --     lies-in, in-lies            the test whether samples lie in a file
 --     lies-narrow, lies-tests     and that test as it is computed
---     spread-inside   a sample that lies in a file ends there
+--     there-named, spread-inside    a sample that is there is declared, and ends in the file
 -- Assumes nothing.
 use mathlib.Core.Path.{_≡_, refl, sym}
 use mathlib.Core.Bool.{Bool, true, false}
@@ -12,10 +12,10 @@ use borrow.Author.Tests.{ltb-true, leb-true, leb-false, lt-ltb, le-ltb, le-leb, 
 use lib.Dec.{ltb, leb}
 use Rattle.octets.specs.Pick.{both}
 use Rattle.octets.proofs.Pick.{both-split}
-use Rattle.layout.proofs.Rows.{cell-inside}
+use Rattle.there.proofs.Counts.{count-few, count-inside}
 use Rattle.standing.specs.Standing.{octetsLimit}
 use Rattle.spread.specs.declared.Spread.{Spread}
-use Rattle.spread.specs.Spread.{widthSpread, countSpread, placeSpread, liesSpread}
+use Rattle.spread.specs.Spread.{widthSpread, countSpread, thereSpread, placeSpread, liesSpread}
 use Rattle.spread.specs.Lies.{Lies}
 
 -- What is left of n behind b holds a where n holds both.
@@ -42,11 +42,17 @@ module _ (size : ℕ) (x : Spread) {w : ℕ} (e : w ≡ widthSpread x) (h : size
   pub lies-narrow : w ≡ 0 → false ≡ liesSpread size x
   lies-narrow z = let k : widthSpread x ≤ 0 = omega arith in simp (le-leb _ _ h, le-ltb _ _ k)
 
-  pub lies-tests : (w ≡ 0 → ⊥) → {t : Bool} → t ≡ leb (x .below + x .block * w) (x .octets) → both t (leb (x .place + x .sequences * x .octets) size) ≡ liesSpread size x
+  pub lies-tests : (w ≡ 0 → ⊥) → {t : Bool} → t ≡ leb (x .below + x .block * w) (x .octets) → both t (leb (x .place + x .long) size) ≡ liesSpread size x
   lies-tests n f =
       let k : 0 < widthSpread x = omega arith in
       simp (le-leb _ _ h, lt-ltb _ _ k, f, e)
 
--- A sample that lies in a file ends there.
-pub spread-inside : {size : ℕ} {x : Spread} → Lies size x → (n : ℕ) → n < countSpread x → placeSpread x n + widthSpread x ≤ size
-spread-inside {x = x} l n h = omega (arith, l .inside, cell-inside (x .block) (widthSpread x) (x .octets) (x .below) (x .sequences) n (l .block) h)
+-- A sample that is there is declared.
+pub there-named : (x : Spread) (n : ℕ) → n < thereSpread x → n < countSpread x
+there-named x n h = omega (arith, count-few (x .sequences) (x .block) (widthSpread x) (x .octets) (x .below) (x .long))
+
+-- Where the samples there lie in a file, it ends there.
+pub spread-inside : {size : ℕ} {x : Spread} → Lies size x → (n : ℕ) → n < thereSpread x → placeSpread x n + widthSpread x ≤ size
+spread-inside {x = x} l n h =
+    let e = count-inside (x .sequences) (x .block) (widthSpread x) (x .octets) (x .below) (x .long) (l .wide) (l .block) n (there-named x n h) .1 h in
+    omega (arith, l .inside)

@@ -1,8 +1,8 @@
 // A channel of a frame as it is kept for reading its samples.
 //
 // For whoever found a frame and wants samples of its channels with nothing read again.
-// Promises, whatever numbers a view holds: `spread` is where its samples lie, and `find` where one of them lies in a file of so many octets, or a
-// refusal. The view of a frame of an accepted file lies in that file (reader/proofs/Answers: located-lies).
+// Promises, whatever numbers a view holds: `spread` is where its samples lie, and `find` where one of them lies in a file of so many octets, that it is not
+// there, or a refusal. The view of a frame of an accepted file lies in that file (reader/proofs/Answers: located-lies).
 // Read first: crate spread, then specs/View.antt.
 ghost use mathlib.Core.Path.{_≡_};
 ghost use Prim.Native.Nat.{_^_, _<_};
@@ -12,22 +12,24 @@ use heads::Refusal;
 use settings::Settings;
 use spread::Spread;
 
-// What is kept of a frame and one of its channels: `place` is that of the waveform's first octet, `octets` are those of a sequence, `below`
-// those below the channel, and `settings` the channel's, the defaults where the frame lacks it.
+// What is kept of a frame and one of its channels: `place` is that of the waveform's first octet, `long` are its octets, `octets` those of a sequence,
+// `below` those below the channel, and `settings` the channel's, the defaults where the frame lacks it.
 pub struct View {
     pub start: i64,
     pub channels: u32,
     pub sequences: u32,
     pub little: bool,
     pub place: usize,
+    pub long: usize,
     pub octets: u64,
     pub below: u64,
     pub settings: Settings,
 }
 
-// The place of a sample, or why there is none.
+// The place of a sample, or that it is declared and not there, or why there is none.
 pub enum SamplePlace {
     At(usize),
+    Lacking,
     Refused(Refusal),
 }
 
@@ -52,6 +54,7 @@ impl View {
             sequences: self.sequences,
             little: self.little,
             place: self.place,
+            long: self.long,
             octets: self.octets,
             below: self.below,
             block: c.block,
@@ -71,7 +74,10 @@ impl View {
             });
         }
         if x.lies(size) {
-            return SamplePlace::At(place_of(x, number));
+            if number < x.there() {
+                return SamplePlace::At(place_of(x, number));
+            }
+            return SamplePlace::Lacking;
         }
         SamplePlace::Refused(Refusal {
             number: Refusal::NO_FRAME,

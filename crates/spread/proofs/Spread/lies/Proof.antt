@@ -35,15 +35,15 @@ mul-block-inside c =
 block-inside-requires : tie.Need-block-inside-requires
 block-inside-requires c κs = search needs
 
-sequences-inside-requires : tie.Need-sequences-inside-requires
-sequences-inside-requires c κs = search needs
+waveform-inside-requires : tie.Need-waveform-inside-requires
+waveform-inside-requires c κs = search needs
 
 returns-3 : tie.Need-returns-3
 returns-3 c =
     let at-block = c .before .before in
     let at-width = at-block .before .before .before .before in
     let a = at-width .before .args in
-    c .sequences-inside .ensures
+    c .waveform-inside .ensures
     ∙ lies-tests (a .size) (a .self) (at-width .width .ensures) (at-block .before .before .before .if1 .left) (at-block .before .before .if2 .left) (sym (c .before .if3 .taken) ∙ at-block .block-inside .ensures)
 
 returns-4 : tie.Need-returns-4
@@ -63,6 +63,6 @@ lies-spec =
     cast-block-inside
     mul-block-inside
     block-inside-requires
-    sequences-inside-requires
+    waveform-inside-requires
     returns-3
     returns-4)
