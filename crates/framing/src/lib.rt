@@ -1,18 +1,19 @@
 // What a waveform gives.
 //
-// Promises, for any numbers at all: `frame_of` answers the sequences of a waveform and what stands after it, or 11 to 14, and 15 for
+// Promises, for any numbers at all: `frame_of` answers the sequences of a waveform and what stands after it, or 11 to 13, and 15 for
 // numbers that no file has; `channels_of` answers how many channels a frame has, and `pointer_fits` whether a start pointer has signed 32 bits. Nothing is
 // carried out here.
 // Read first: specs/Framing.antt (the rule), then specs/AnyNumbers.antt; what stands is in crate standing.
 ghost use mathlib.Core.Bool.{true};
 ghost use mathlib.Core.Path.{_≡_};
 ghost use Prim.Native.Nat.{_*_, _≤_, _<_};
-ghost use lib.Dec.{ltb};
 ghost use lib.IntN.{pos, _+ℤ_};
-ghost use Rattle.standing.specs.Standing.{octetsLimit};
+ghost use Rattle.octets.specs.Number.{range};
+ghost use Rattle.settings.specs.Settings.{blockLimit};
 ghost use Rattle.framing.specs.Framing.{channelsOf, sequencesOf, pointerFits};
 ghost use Rattle.framing.specs.AnyNumbers.{framedBy};
 use heads::Refusal;
+use settings::Settings;
 use standing::Standing;
 
 // What a waveform gives: the frame's sequences and what stands after it, or a refusal.
@@ -48,18 +49,10 @@ pub fn pointer_fits(z: i64) -> bool
 
 // The pointer after a frame: its start plus root block length times its sequences.
 fn pointer_after(start: i64, block: u32, sequences: u64) -> i64
-    requires { ⌜ (pointerFits start ≡ true) × (sequences ≤ octetsLimit) ⌝ }
+    requires { ⌜ (pointerFits start ≡ true) × (block ≤ blockLimit) × (sequences < range 4) ⌝ }
     ensures { λ r. ⌜ r ≡ start +ℤ pos (block * sequences) ⌝ }
 {
     start + (block as u64 * sequences) as i64
-}
-
-// A waveform is shorter than so many sequences.
-fn too_short(long: usize, sequences: u64, octets: u64) -> bool
-    requires { ⌜ 0 < octets ⌝ }
-    ensures { λ r. ⌜ r ≡ ltb long (sequences * octets) ⌝ }
-{
-    long as u64 / octets < sequences
 }
 
 // A waveform of `long` octets after `frames` frames, where a sequence takes `octets` octets.
@@ -70,6 +63,9 @@ pub fn frame_of(frames: u32, st: Standing, agree: bool, octets: u64, long: usize
         return Framed::Refused(Refusal::LONG_FILE);
     }
     if Standing::OCTETS < long {
+        return Framed::Refused(Refusal::LONG_FILE);
+    }
+    if Settings::BLOCK_LIMIT < st.root.block {
         return Framed::Refused(Refusal::LONG_FILE);
     }
     if Standing::FRAMES <= frames {
@@ -83,10 +79,6 @@ pub fn frame_of(frames: u32, st: Standing, agree: bool, octets: u64, long: usize
         return Framed::Refused(Refusal::START_RANGE);
     }
     let sequences = sequences_of(st.sequences, long, octets);
-    if too_short(long, sequences, octets) {
-        return Framed::Refused(Refusal::SHORT_WAVEFORM);
-    }
-    let root = st.root;
-    let z = pointer_after(start, root.block, sequences);
+    let z = pointer_after(start, st.root.block, sequences);
     Framed::Taken(sequences as u32, st.with_continued(z))
 }

@@ -220,8 +220,8 @@ module _ (s : List ℕ) (octets : Octets s) where
 
     frames-step : (x : State) (i : Item) (y : State) → Ranged x → ItemStep s x i y → Every GoodFrame (y .frames)
     frames-step x i _ p passes = p .frames
-    frames-step x i _ p (stands y h r) = p .frames
-    frames-step x i _ p (resets y h r) = p .frames
+    frames-step x i _ p (stands y h r q) = p .frames
+    frames-step x i _ p (resets y h r q) = p .frames
     frames-step x i _ p (changes ch g) = p .frames
     frames-step x i _ p (sets channel ch g) = p .frames
     frames-step x i _ p (frames start long n y w f) =

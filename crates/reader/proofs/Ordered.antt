@@ -123,8 +123,8 @@ module _ (s : List ℕ) where
 
   lying-step : (x : State) (c : Cursor) (i : Item) (d : Cursor) (y : State) → Lying s x c → FoundAt (length s) (c .at) i d → Bounded y → ItemStep s x i y → Lying s y d
   lying-step x c i d _ p f b passes = moved s x c d p b (f .later)
-  lying-step x c i d _ p f b (stands y h r) = moved s x c d p b (f .later)
-  lying-step x c i d _ p f b (resets y h r) = moved s x c d p b (f .later)
+  lying-step x c i d _ p f b (stands y h r q) = moved s x c d p b (f .later)
+  lying-step x c i d _ p f b (resets y h r q) = moved s x c d p b (f .later)
   lying-step x c i d _ p f b (changes ch e) = moved s x c d p b (f .later)
   lying-step x c i d _ p f b (sets channel ch e) = moved s x c d p b (f .later)
   lying-step x c i d _ p f b (frames start long n y w t) =

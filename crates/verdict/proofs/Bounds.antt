@@ -1,6 +1,7 @@
 -- What holds at every state that a file's items lead to.
 --     reached-bounded     no more channels are counted and no more frames met than there may be, and each attribute of each record is in its range
 --     frame-channels, octets-some    so a frame there has 1 to 256 channels, and a sequence has octets
+--     root-small, channels-wide      the root block length is small, and samples have octets
 -- Assumes nothing.
 use mathlib.Core.Path.{_≡_, refl, _∙_}
 use mathlib.Core.List.{List, [], _∷_}
@@ -17,16 +18,17 @@ use Rattle.items.specs.declared.Item.{Item}
 use Rattle.items.specs.declared.Cursor.{Cursor}
 use Rattle.settings.specs.declared.Settings.{Settings}
 use Rattle.settings.specs.declared.Change.{Change}
-use Rattle.settings.specs.Settings.{channelLimit, blockLimit, lastDataType, defaultSettings, allApplied}
+use Rattle.settings.specs.Settings.{channelLimit, blockLimit, lastDataType, defaultSettings, zeroSettings, allApplied}
 use Rattle.definitions.specs.Define.{inRange}
-use Rattle.layout.specs.Frame.{blockOctets, sequenceOctets}
+use Rattle.layout.specs.Frame.{blockOctets, sequenceOctets, channelIn}
+use Rattle.there.specs.There.{Wide}
 use Rattle.standing.specs.Standing.{framesLimit}
 use Rattle.framing.specs.Framing.{channelsOf}
 use Rattle.verdict.specs.Verdict.{State, firstState, oneChanged, frameChannels}
 use Rattle.verdict.specs.Reached.{Reached}
 use Rattle.verdict.proofs.Keeps.{reached-keeps}
 use Rattle.verdict.proofs.Steps.{ItemStep, passes, stands, resets, changes, sets, frames, meaning-steps}
-use Rattle.verdict.proofs.Every.{Every, every-take}
+use Rattle.verdict.proofs.Every.{Every, every-at, every-take}
 use Rattle.verdict.proofs.Tables.{EachAttribute, Table, table-step, table-first}
 
 -- ---- a record in its ranges
@@ -71,8 +73,8 @@ module _ (s : List ℕ) where
   numbers-step : (x : State) (i : Item) (y : State) → Bounded x → ItemStep s x i y → (y .standing .counted ≤ channelLimit) × (length (y .channels) ≡ channelLimit) × (length (y .frames) ≤ framesLimit)
   unfolding allApplied oneChanged
   numbers-step x i _ b passes = (b .counted, b .full, b .few)
-  numbers-step x i _ b (stands y h r) = (rw h (b .counted), b .full, b .few)
-  numbers-step x i _ b (resets y h r) = (h, length-replicate channelLimit (y .root), b .few)
+  numbers-step x i _ b (stands y h r q) = (rw h (b .counted), b .full, b .few)
+  numbers-step x i _ b (resets y h r q) = (h, length-replicate channelLimit (y .root), b .few)
   numbers-step x i _ b (changes ch e) = (b .counted, length-map (x .channels) _ ∙ b .full, b .few)
   numbers-step x i _ b (sets channel ch e) = (b .counted, length-set (x .channels) channel _ ∙ b .full, b .few)
   numbers-step x i _ b (frames start long n y w t) = (rw (t .after) (b .counted), b .full, rw length-append (omega (arith, t .few)))
@@ -101,6 +103,19 @@ module _ (x : State) (b : Bounded x) where
       let k = channels-between (x .standing .counted) (b .counted) in
       let e : length (frameChannels x) ≡ channelsOf (x .standing .counted) = length-take (channelsOf (x .standing .counted)) (x .channels) ∙ omega (arith, b .full) in
       (omega arith, omega arith)
+
+  -- The root block length is in its range.
+  pub root-small : x .standing .root .block ≤ blockLimit
+  root-small =
+      let n = x .standing .root .block in
+      leb-true n blockLimit (both-split (leb 1 n) (leb n blockLimit) (b .ranged .root .block) .1)
+
+  -- A channel's samples have octets.
+  pub channels-wide : Wide (frameChannels x)
+  channels-wide c h =
+      let ranged = every-take (EachAttribute InRange) (channelsOf (x .standing .counted)) (x .channels) (b .ranged .table) in
+      let n = channelIn c (frameChannels x) .datatype in
+      width-some n (leb-true n lastDataType (every-at (EachAttribute InRange) (frameChannels x) ranged zeroSettings c h .datatype))
 
   pub octets-some : 0 < sequenceOctets (frameChannels x)
   octets-some =

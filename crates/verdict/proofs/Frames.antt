@@ -1,7 +1,7 @@
 -- Laws of a frame where the file's items lead: what a reader computes of it is document 01's rule.
 --     frame-carried      what its waveform gives
 --     count-few, counts-there, groups-small    its channels are few, and their groups take little
---     taken-small, taken-root                  what is known of one that is taken
+--     taken-long, taken-small, taken-root      what is known of one that is taken
 -- Assumes nothing.
 use mathlib.Core.Path.{_≡_, refl, sym, ap, _∙_}
 use mathlib.Core.List.{List}
@@ -22,14 +22,14 @@ use Rattle.effects.specs.declared.Effect.{Effect}
 use Rattle.framing.specs.declared.Framed.{Framed}
 use Rattle.framing.specs.declared.Framed.the-variants.{Taken}
 use Rattle.standing.specs.Standing.{octetsLimit}
-use Rattle.effects.specs.Effects.{effectOf}
+use Rattle.effects.specs.Effects.{valueAt, effectOf}
 use Rattle.framing.specs.Framing.{channelsOf, framedAs}
 use Rattle.framing.specs.AnyNumbers.{framedBy}
 use Rattle.framing.proofs.Framings.{framed-same}
 use Rattle.verdict.specs.Verdict.{State, state, withFrame, carried}
 use Rattle.verdict.specs.Reached.{Reached}
-use Rattle.verdict.proofs.Steps.{TakenBy, taken-found, waveform-found, waveform-short}
-use Rattle.verdict.proofs.Bounds.{Bounded, reached-bounded, channels-between, octets-some}
+use Rattle.verdict.proofs.Steps.{TakenBy, taken-found, waveform-found, waveform-short, waveform-long}
+use Rattle.verdict.proofs.Bounds.{Bounded, reached-bounded, channels-between, root-small, octets-some}
 
 -- What is known of a frame where the file's items lead: l is the layout of its channels.
 module _ {s : List ℕ} {table : List Settings} {c : Cursor} {st : Standing} {met : List Frame} (long : length s ≤ octetsLimit) (reached : Reached s (state st table met) c)
@@ -49,7 +49,7 @@ module _ {s : List ℕ} {table : List Settings} {c : Cursor} {st : Standing} {me
 
   -- A file's frame, of which `frame_of` answers document 01's rule.
   framed-here : (i : Item) (start len : ℕ) → Effect.Frame start len ≡ effectOf s st i → framedBy frames st (l .agree) (l .octets) len ≡ framedAs frames st (l .agree) (l .octets) len
-  framed-here i start len a = framed-same frames st (l .agree) (l .octets) len octets-here (omega (arith, waveform-short s (waveform-found s st i a refl)))
+  framed-here i start len a = framed-same frames st (l .agree) (l .octets) len octets-here (omega (arith, waveform-short s (waveform-found s st i a refl))) (root-small framed-state bounded)
 
   -- What the frame's waveform gives, as the pass computes it.
   pub frame-carried : (i : Item) (start len : ℕ) {r f : Framed} → Effect.Frame start len ≡ effectOf s st i → r ≡ framedBy frames st (l .agree) (l .octets) len → r ≡ f → carried s framed-state (effectOf s st i) ≡ withFrame s framed-state start len f
@@ -74,8 +74,12 @@ module _ {s : List ℕ} {table : List Settings} {c : Cursor} {st : Standing} {me
     taken : TakenBy frames st (l .agree) (l .octets) len sequences x
     taken = taken-found frames st (l .agree) (l .octets) len (er ∙ framed-here i start len ee) fr
 
-    pub taken-small : sequences * l .octets ≤ octetsLimit
-    taken-small = omega (arith, taken .fits, waveform-short s (waveform-found s st i ee refl))
+    -- Its waveform is as long as it says, and so it is small.
+    pub taken-long : length (valueAt s start len) ≡ len
+    taken-long = waveform-long s (waveform-found s st i ee refl)
+
+    pub taken-small : len ≤ octetsLimit
+    taken-small = omega (arith, waveform-short s (waveform-found s st i ee refl))
 
     pub taken-root : x .root ≡ st .root
     taken-root = ap (λ (y : Standing). y .root) (taken .after)

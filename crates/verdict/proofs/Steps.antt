@@ -1,6 +1,7 @@
 -- What an item may do to what stands between two items, as one list of cases.
 --     defined-gives    a definition goes back to what stands, or has a value in its range
---     effect-asks, waveform-found    what an item may ask for, and that a frame's waveform is an item's value
+--     number-first     the number of the first octets is one of their width
+--     effect-asks, waveform-found, waveform-long    what an item may ask for, and that a frame's waveform is an item's value
 --     framed-gives, taken-found    what a waveform that is taken tells
 --     meaning-steps, meaning-refused    what an item that is not refused does, and the number of one that is
 --     step-grown       the frames met stay the first ones
@@ -8,13 +9,15 @@
 use mathlib.Core.Path.{_≡_, refl, subst, sym, _∙_}
 use mathlib.Core.List.{List, [], _∷_, _++_, append-nil}
 use mathlib.Core.Bool.{Bool, true, not}
-use Prim.Native.Nat.{ℕ, _*_, _≤_, _<_}
+use Prim.Native.Nat.{ℕ, _≤_, _<_}
+use native.Mathlib.Nat.{lt-of-lt-of-le, min-eq-left, min-le-right}
 use native.Mathlib.Omega.{arith}
 use borrow.Author.Tests.{ltb-false, leb-false, eqb-false, not-false}
 use lib.Dec.{ltb, leb, eqb}
 use lib.IntN.{ℤ}
-use lib.ListN.{length, getD, take, replicate, length-take, length-drop}
-use Rattle.octets.specs.Number.{numberOf}
+use lib.ListN.{length, getD, take, drop, replicate, length-take, length-drop}
+use Rattle.octets.specs.Number.{Octets, range, numberOf}
+use Rattle.octets.proofs.Laws.{take-octets, drop-octets, take-length-le, cap, number-below}
 use Rattle.octets.proofs.Pick.{pick-cases}
 use Rattle.items.specs.declared.Item.{Item}
 use Rattle.items.specs.declared.Item.the-variants.{Plain}
@@ -74,12 +77,23 @@ pub record Waveform (s : List ℕ) (i : Item) (start long : ℕ) : Type 0 where
   pub item : i ≡ Plain place tag start len
   pub counts : long ≡ length (valueAt s start len)
 
+-- The number of the first octets is one of their width.
+pub number-first : (little : Bool) (v : List ℕ) → Octets v → (n : ℕ) → numberOf little (take n v) < range n
+number-first little v octets n = lt-of-lt-of-le (number-below little (take n v) (take-octets n v octets)) (cap (length (take n v)) n (take-length-le n v))
+
+-- A number of four octets, where the file's numbers are octets.
+abbrev pub Small : List ℕ → ℕ → Type 0
+Small s n = Octets s → n < range 4
+
+value-small : (s : List ℕ) (little : Bool) (start len : ℕ) → Small s (numberOf little (take 4 (valueAt s start len)))
+value-small s little start len octets = number-first little (valueAt s start len) (take-octets len (drop start s) (drop-octets start s octets)) 4
+
 -- What an item may ask for.
 abbrev Asks : List ℕ → Standing → Item → Effect → Type 0
 Asks s st i Effect.Pass = Unit {0}
 Asks s st i (Effect.Order little) = Unit {0}
 Asks s st i (Effect.Count n) = n ≤ channelLimit
-Asks s st i (Effect.Sequences n) = Unit {0}
+Asks s st i (Effect.Sequences n) = Small s n
 Asks s st i (Effect.Start z) = Unit {0}
 Asks s st i (Effect.All c) = DefinedChange s defaultSettings c
 Asks s st i (Effect.One channel c) = DefinedChange s (st .root) c
@@ -113,12 +127,13 @@ module _ (s : List ℕ) (st : Standing) where
       (λ _. pick-cases (Asks s st i) (eqb n 0) (λ _. omega arith)
       (λ _. pick-cases (Asks s st i) (ltb channelLimit n) (λ _. omega arith) (λ h. ltb-false channelLimit n h))))
 
-  sequences-asks : (i : Item) (little : Bool) (v : List ℕ) → Asks s st i (sequencesEffect little v)
+  sequences-asks : (i : Item) (little : Bool) (start len : ℕ) → Asks s st i (sequencesEffect little (valueAt s start len))
   unfolding sequencesEffect
-  sequences-asks i little v =
+  sequences-asks i little start len =
+      let v = valueAt s start len in
       pick-cases (Asks s st i) (ltb 4 (length v)) (λ _. omega arith)
-      (λ _. pick-cases (Asks s st i) (eqb (length v) 0) (λ _. tt)
-      (λ _. pick-cases (Asks s st i) (eqb (numberOf little (take 4 v)) 0) (λ _. omega arith) (λ _. tt)))
+      (λ _. pick-cases (Asks s st i) (eqb (length v) 0) (λ _ o. omega arith)
+      (λ _. pick-cases (Asks s st i) (eqb (numberOf little (take 4 v)) 0) (λ _. omega arith) (λ _. value-small s little start len)))
 
   start-asks : (i : Item) (little : Bool) (continued : ℤ) (v : List ℕ) → Asks s st i (startEffect little continued v)
   unfolding startEffect
@@ -143,7 +158,7 @@ module _ (s : List ℕ) (st : Standing) where
       let v = valueAt s start len in
       pick-cases (Asks s st i) (eqb tag 0x01) (λ _. order-asks i v)
       (λ _. pick-cases (Asks s st i) (eqb tag 0x05) (λ _. count-asks i (st .little) v)
-      (λ _. pick-cases (Asks s st i) (eqb tag 0x06) (λ _. sequences-asks i (st .little) v)
+      (λ _. pick-cases (Asks s st i) (eqb tag 0x06) (λ _. sequences-asks i (st .little) start len)
       (λ _. pick-cases (Asks s st i) (eqb tag 0x07) (λ _. start-asks i (st .little) (st .continued) v)
       (λ _. pick-cases (Asks s st i) (eqb tag 0x0E) (λ _. compressed-asks i v)
       (λ _. pick-cases (Asks s st i) (eqb tag 0x1E)
@@ -176,6 +191,14 @@ waveform-found s st i p q = subst (Asks s st i) (sym p ∙ q) (effect-asks s st 
 pub waveform-short : (s : List ℕ) {i : Item} {start long : ℕ} → Waveform s i start long → long ≤ length s
 waveform-short s {start = start} w = rw (w .counts) (value-short s start (w .len))
 
+-- The octets of a waveform are all in the file.
+value-whole : (s : List ℕ) (start len : ℕ) {long : ℕ} → long ≡ length (valueAt s start len) → length (valueAt s start long) ≡ long
+value-whole s start len e =
+    simp (length-take, length-drop) (min-eq-left (omega (arith, e, length-take len (drop start s), length-drop start s, min-le-right len (length (drop start s)))))
+
+pub waveform-long : (s : List ℕ) {i : Item} {start long : ℕ} → Waveform s i start long → length (valueAt s start long) ≡ long
+waveform-long s {start = start} w = value-whole s start (w .len) (w .counts)
+
 -- ---- frames
 
 -- What a waveform that is taken tells.
@@ -183,7 +206,7 @@ pub record TakenBy (frames : ℕ) (st : Standing) (agree : Bool) (octets long n 
   pub few : frames < framesLimit
   pub agrees : agree ≡ true
   pub pointer : pointerFits (st .start) ≡ true
-  pub fits : n * octets ≤ long
+  pub sequences : n ≡ sequencesOf (st .sequences) long octets
   pub after : y ≡ withContinued (pointerAfter st n) st
 
 abbrev FramedGives : ℕ → Standing → Bool → ℕ → ℕ → Framed → Type 0
@@ -193,19 +216,17 @@ FramedGives frames st agree octets long (Framed.Refused k) = k < longFile
 framed-gives : (frames : ℕ) (st : Standing) (agree : Bool) (octets long : ℕ) → FramedGives frames st agree octets long (framedAs frames st agree octets long)
 unfolding framedAs
 framed-gives frames st agree octets long =
-    let n = sequencesOf (st .sequences) long octets in
     let P : Framed → Type 0 = FramedGives frames st agree octets long in
     pick-cases P (leb framesLimit frames) (λ _. omega arith)
     (λ k. pick-cases P (not agree) (λ _. omega arith)
     (λ a. pick-cases P (not (pointerFits (st .start))) (λ _. omega arith)
-    (λ p. pick-cases P (ltb long (n * octets)) (λ _. omega arith)
-    (λ t. record {
+    (λ p. record {
       few = leb-false framesLimit frames k;
       agrees = not-false agree a;
       pointer = not-false (pointerFits (st .start)) p;
-      fits = ltb-false long (n * octets) t;
+      sequences = refl;
       after = refl;
-    }))))
+    })))
 
 pub taken-found : (frames : ℕ) (st : Standing) (agree : Bool) (octets long : ℕ) {r : Framed} {n : ℕ} {y : Standing} → r ≡ framedAs frames st agree octets long → r ≡ Framed.Taken n y → TakenBy frames st agree octets long n y
 taken-found frames st agree octets long p q = subst (FramedGives frames st agree octets long) (sym p ∙ q) (framed-gives frames st agree octets long)
@@ -215,8 +236,9 @@ taken-found frames st agree octets long p q = subst (FramedGives frames st agree
 -- What an item may do.
 pub data ItemStep (s : List ℕ) (x : State) (i : Item) : State → Type 0 where
   passes : ItemStep s x i x
-  stands : (y : Standing) → y .counted ≡ x .standing .counted → y .root ≡ x .standing .root → ItemStep s x i (state y (x .channels) (x .frames))
-  resets : (y : Standing) → y .counted ≤ channelLimit → y .root ≡ x .standing .root
+  stands : (y : Standing) → y .counted ≡ x .standing .counted → y .root ≡ x .standing .root → (Small s (x .standing .sequences) → Small s (y .sequences))
+      → ItemStep s x i (state y (x .channels) (x .frames))
+  resets : (y : Standing) → y .counted ≤ channelLimit → y .root ≡ x .standing .root → y .sequences ≡ x .standing .sequences
       → ItemStep s x i (state y (replicate channelLimit (y .root)) (x .frames))
   changes : (c : Change) → DefinedChange s defaultSettings c
       → ItemStep s x i (state (withRoot (applied c (x .standing .root)) (x .standing)) (allApplied c (x .channels)) (x .frames))
@@ -229,8 +251,8 @@ pub data ItemStep (s : List ℕ) (x : State) (i : Item) : State → Type 0 where
 -- The frames met stay the first ones.
 pub step-grown : (s : List ℕ) (x : State) (i : Item) (y : State) → ItemStep s x i y → (rest : List Frame) × (y .frames ≡ x .frames ++ rest)
 step-grown s x i _ passes = ([], sym (append-nil (x .frames)))
-step-grown s x i _ (stands y h r) = ([], sym (append-nil (x .frames)))
-step-grown s x i _ (resets y h r) = ([], sym (append-nil (x .frames)))
+step-grown s x i _ (stands y h r q) = ([], sym (append-nil (x .frames)))
+step-grown s x i _ (resets y h r q) = ([], sym (append-nil (x .frames)))
 step-grown s x i _ (changes c d) = ([], sym (append-nil (x .frames)))
 step-grown s x i _ (sets channel c d) = ([], sym (append-nil (x .frames)))
 step-grown s x i _ (frames start long n y w t) = (frameAt s x start long n ∷ [], refl)
@@ -250,10 +272,10 @@ frame-steps s x i start long (Framed.Refused k) w f = f
 carried-steps : (s : List ℕ) (x : State) (i : Item) (e : Effect) → Asks s (x .standing) i e → Steps s x i (carried s x e)
 unfolding carried
 carried-steps s x i Effect.Pass a = passes
-carried-steps s x i (Effect.Order little) a = stands (withOrder little (x .standing)) refl refl
-carried-steps s x i (Effect.Count n) a = resets (withCount n (x .standing)) a refl
-carried-steps s x i (Effect.Sequences n) a = stands (withSequences n (x .standing)) refl refl
-carried-steps s x i (Effect.Start z) a = stands (withStart z (x .standing)) refl refl
+carried-steps s x i (Effect.Order little) a = stands (withOrder little (x .standing)) refl refl (λ f. f)
+carried-steps s x i (Effect.Count n) a = resets (withCount n (x .standing)) a refl refl
+carried-steps s x i (Effect.Sequences n) a = stands (withSequences n (x .standing)) refl refl (λ f. a)
+carried-steps s x i (Effect.Start z) a = stands (withStart z (x .standing)) refl refl (λ f. f)
 carried-steps s x i (Effect.All c) a = changes c a
 carried-steps s x i (Effect.One channel c) a = sets channel c a
 carried-steps s x i (Effect.Frame start long) a =

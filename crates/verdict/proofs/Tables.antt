@@ -70,8 +70,8 @@ module _ (P : Change → Type 0) where
     pub table-step : (x : State) (i : Item) (y : State) → Table x → ItemStep s x i y → Table y
     unfolding allApplied oneChanged
     table-step x i _ t passes = t
-    table-step x i _ t (stands y h r) = record { root = rw r (t .root); table = t .table }
-    table-step x i _ t (resets y h r) = record { root = rw r (t .root); table = every-replicate (EachAttribute P) channelLimit (y .root) (rw r (t .root)) }
+    table-step x i _ t (stands y h r q) = record { root = rw r (t .root); table = t .table }
+    table-step x i _ t (resets y h r q) = record { root = rw r (t .root); table = every-replicate (EachAttribute P) channelLimit (y .root) (rw r (t .root)) }
     table-step x i _ t (changes ch g) =
         let p = definition-each defaultSettings ch default g in
         record {

@@ -2,7 +2,9 @@
 use Prim.Native.Nat.{ℕ, _+_, _*_, _≤_, _<_, _^_, _-_}
 use mathlib.Core.Path.{_≡_, ap, ap₂, _∙_}
 use native.Mathlib.Omega.{arith}
-use native.Mathlib.Nat.{mul-le-mul}
+use native.Mathlib.Nat.{mul-le-mul-right}
+use Rattle.octets.specs.Number.{range}
+use Rattle.settings.specs.Settings.{blockLimit}
 use lib.IntN.{ℤ, pos, _+ℤ_}
 use mir.Syntax.{w64}
 use mir.Val.{SFits, toZ, ofZ}
@@ -11,15 +13,11 @@ use Rattle.framing.proofs.Framings.{pointer-small, sum-small}
 use Rattle.framing.proofs.pointer_after.Statement.{statement}
 use Rattle.framing.proofs.pointer_after.Tie as tie
 
-product : (b n : ℕ) → b < 2 ^ 32 → n < 2 ^ 31 → b * n + 2 ^ 31 ≤ 2 ^ 63
-product b n h l =
-    let p : b ≤ 2 ^ 32 - 1 = omega arith in
-    let q : n ≤ 2 ^ 31 - 1 = omega arith in
-    let m : b * n ≤ (2 ^ 32 - 1) * (2 ^ 31 - 1) = mul-le-mul p q in
-    omega arith
+product : (b n : ℕ) → b ≤ blockLimit → n < range 4 → b * n + 2 ^ 31 ≤ 2 ^ 63
+product b n h l = omega (arith, mul-le-mul-right n h)
 
 room : (c : tie.Start) → c .args .block * c .args .sequences + 2 ^ 31 ≤ 2 ^ 63
-room c = product (c .args .block) (c .args .sequences) (c .fits .block .fits) (omega (arith, c .pre .1))
+room c = product (c .args .block) (c .args .sequences) (c .pre .1) (c .pre .2)
 
 sum : (c : tie.Start) → toZ w64 (ofZ w64 (c .args .start)) +ℤ toZ w64 (c .args .block * c .args .sequences) ≡ c .args .start +ℤ pos (c .args .block * c .args .sequences)
 sum c = ap₂ _+ℤ_ (toZ-ofZ (c .fits .start)) (toZ-pos w64 (omega (arith, room c)))
