@@ -7,7 +7,7 @@ use mathlib.Core.Path.{_≡_, sym, ap, subst, _∙_}
 use mathlib.Core.List.{List}
 use Prim.Native.Nat.{ℕ, _+_, _-_, _*_, _^_, _≤_, _<_, min}
 use native.Mathlib.Omega.{arith}
-use lib.ListN.{length, replicate, getD-replicate}
+use lib.ListN.{length, take, replicate, getD-replicate}
 use Rattle.items.specs.declared.Item.{Item}
 use Rattle.items.specs.declared.Cursor.{Cursor}
 use Rattle.items.specs.declared.Within.the-variants.{Root}
@@ -24,6 +24,8 @@ use Rattle.standing.specs.declared.Standing.{Standing}
 use Rattle.standing.specs.Standing.{octetsLimit, firstStanding, withRoot}
 use Rattle.effects.specs.declared.Effect.{Effect}
 use Rattle.effects.specs.Effects.{standingAfter}
+use Rattle.there.specs.There.{thereOctets}
+use Rattle.framing.specs.Framing.{channelsOf}
 use Rattle.framing.specs.declared.Framed.{Framed}
 use Rattle.framing.specs.declared.Framed.the-variants.{Taken}
 use Rattle.stretch.specs.declared.Stretch.{Stretch}
@@ -77,7 +79,8 @@ bare-more {channel = channel} {x = x} {i = i} {l = l} p m h g =
 -- A frame is taken, all of whose channels have the same.
 pub bare-taken : {s : List ℕ} {q : Asked} {c : Cursor} {st : Standing} {m : Met} {i : Item} {d : Cursor} {start len sequences : ℕ} {l : Layout} {r : Framed} {x : Standing} {m' : Met}
     → Framing s q (replicate channelLimit (st .root)) c st m i d start len l r → r ≡ Taken sequences x
-    → (m' ≡ metWith q st sequences start l (st .root) m) × (frameSize sequences (l .groups) (sequences * l .octets) < 2 ^ 32)
+    → {there : ℕ} → there ≡ thereOctets (take (channelsOf (st .counted)) (replicate channelLimit (st .root))) sequences len
+    → (m' ≡ metWith q st sequences start len l there (st .root) m) × (frameSize sequences (l .groups) there < 2 ^ 32)
     → Bare s q d x m'
-bare-taken {q = q} {st = st} f g em =
-    bare-on (framing-taken f g (sym (getD-replicate channelLimit (min (q .channel) (channelLimit - 1)) (st .root) zeroSettings (omega arith))) em)
+bare-taken {q = q} {st = st} f g et em =
+    bare-on (framing-taken f g et (sym (getD-replicate channelLimit (min (q .channel) (channelLimit - 1)) (st .root) zeroSettings (omega arith))) em)

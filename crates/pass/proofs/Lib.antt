@@ -3,3 +3,4 @@ pub mod Turns
 pub mod Stretches
 pub mod Bare
 pub mod Records
+pub mod Cut

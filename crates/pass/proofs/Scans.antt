@@ -46,7 +46,8 @@ use Rattle.pass.specs.declared.Met.{Met}
 use Rattle.verdict.specs.Reached.{Reached, begin, behind}
 use Rattle.pass.specs.Passing.{Scanning, noneMet, metScan, viewMet, metWith}
 use Rattle.verdict.proofs.Keeps.{interpret-refuses, reached-verdict}
-use Rattle.verdict.proofs.Frames.{frame-carried, count-few, counts-there}
+use Rattle.there.specs.There.{thereOctets, octetsThere}
+use Rattle.verdict.proofs.Frames.{taken-long, frame-carried, count-few, counts-there}
 use Rattle.verdict.proofs.Bounds.{Bounded, reached-bounded}
 use Rattle.view.specs.View.{viewOf}
 use Rattle.pass.specs.Scan.{zeroFrame, foundIn, sizeOf, sizes, refusedScan, scannedIn, scanOf}
@@ -161,18 +162,21 @@ module _ {s : List ℕ} {q : Asked} {table : List Settings} {c : Cursor} {st : S
   pub scanning-frame : {d : Cursor} (v : Settings)
       → nextOf s c ≡ FoundItem i d
       → pick (ltb (q .channel) (channelsOf (st .counted))) v defaultSettings ≡ pick (ltb (q .channel) (channelsOf (st .counted))) (getD table (min (q .channel) (channelLimit - 1)) zeroSettings) defaultSettings
-      → frameSize sequences (l .groups) (sequences * l .octets) < 2 ^ 32
-      → Scanning s q table d x (metWith q st sequences start l v m)
-  unfolding withFrame layoutOf viewOf sizeOf
-  scanning-frame v en ev small =
+      → {there : ℕ} → there ≡ thereOctets (take (channelsOf (st .counted)) table) sequences len
+      → frameSize sequences (l .groups) there < 2 ^ 32
+      → Scanning s q table d x (metWith q st sequences start len l there v m)
+  unfolding withFrame layoutOf viewOf sizeOf octetsThere
+  scanning-frame v en ev et small =
       let count = channelsOf (st .counted) in
       let few = count-few (p .long) (p .reached) (p .count) (q .channel) l el in
       let all = counts-there (p .long) (p .reached) (p .count) (q .channel) l el in
       let g = frameAt s (scanned-state p) start len sequences in
       let seen = ev ∙ channel-seen (q .channel) count table few (bounds p .full) in
-      let vw : viewMet (q .channel) st sequences start l v ≡ viewOf (q .channel) g =
-      λ k. record { start = st .start; channels = sym all k; sequences = sequences; little = st .little; place = start; octets = el k .octets; below = el k .below; settings = seen k } in
-      let sz : frameSize sequences (l .groups) (sequences * l .octets) ≡ sizeOf g = λ k. frameSize sequences (el k .groups) (sequences * el k .octets) in
+      let whole = sym (taken-long (p .long) (p .reached) (p .count) (q .channel) l el i ee er fr) in
+      let vw : viewMet (q .channel) st sequences start len l v ≡ viewOf (q .channel) g =
+      λ k. record { start = st .start; channels = sym all k; sequences = sequences; little = st .little; place = start; long = whole k; octets = el k .octets; below = el k .below; settings = seen k } in
+      let there = et ∙ ap (thereOctets (take count table) sequences) whole in
+      let sz : frameSize sequences (l .groups) _ ≡ sizeOf g = λ k. frameSize sequences (el k .groups) (there k) in
       record {
         long = p .long;
         met = p .met ++ (g ∷ []);

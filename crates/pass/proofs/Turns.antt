@@ -11,6 +11,7 @@ use types.Run.{OneOf, miss}
 use mir.Val.{hasKey}
 use denote.Enum.Declared.{tagOf}
 use lib.Dec.{T, ltb}
+use native.Mathlib.Omega.{arith}
 use lib.ListN.{length, getD, take, replicate}
 use Rattle.octets.specs.Pick.{pick}
 use Rattle.items.specs.declared.Item.{Item}
@@ -38,6 +39,9 @@ use Rattle.verdict.specs.Verdict.{State, state, goes, withFrame, carried, place
 use Rattle.verdict.specs.Reached.{behind}
 use Rattle.pass.specs.Passing.{Scanning, metWith, Room}
 use Rattle.pass.specs.Scan.{refusedScan, scanOf}
+use Rattle.layout.specs.Frame.{sequenceOctets}
+use Rattle.there.specs.There.{thereOctets}
+use Rattle.there.proofs.Places.{there-le}
 use Rattle.verdict.proofs.Frames.{frame-carried, groups-small, taken-small, taken-root}
 use Rattle.pass.proofs.Scans.{scanning-on, scanning-few, scanning-frame, scanned-refuses}
 
@@ -129,23 +133,27 @@ module _ {s : List ℕ} {q : Asked} {table : List Settings} {c : Cursor} {st : S
   unfolding withFrame
   framing-refused {n = n} g = scanned-refuses scanning n (placeAt i) refl (f .turn .found) refl (frame-carried (scanning .long) (scanning .reached) (scanning .count) (q .channel) l (f .laid) i start len (f .turn .asks) (f .gives) g)
 
-  module _ {sequences : ℕ} {x : Standing} (g : r ≡ Taken sequences x) where
-    pub framing-room : Room sequences l m
+  pub framing-octets : l .octets ≡ sequenceOctets (take (channelsOf (st .counted)) table)
+  unfolding layoutOf
+  framing-octets = ap (λ (y : Layout). y .octets) (f .laid)
+
+  module _ {sequences : ℕ} {x : Standing} (g : r ≡ Taken sequences x) {there : ℕ} (et : there ≡ thereOctets (take (channelsOf (st .counted)) table) sequences len) where
+    pub framing-room : Room l there m
     framing-room =
         record {
           few = scanning-few scanning;
           size = scanning .room;
           groups = groups-small (scanning .long) (scanning .reached) (scanning .count) (q .channel) l (f .laid);
-          waveform = taken-small (scanning .long) (scanning .reached) (scanning .count) (q .channel) l (f .laid) i (f .turn .asks) (f .gives) g;
+          waveform = omega (arith, et, there-le (take (channelsOf (st .counted)) table) sequences len, taken-small (scanning .long) (scanning .reached) (scanning .count) (q .channel) l (f .laid) i (f .turn .asks) (f .gives) g);
         }
 
     -- The frame is taken, and the pass keeps what it wants of it.
     pub framing-taken : {v : Settings} {m' : Met}
         → v ≡ getD table (min (q .channel) (channelLimit - 1)) zeroSettings
-        → (m' ≡ metWith q st sequences start l v m) × (frameSize sequences (l .groups) (sequences * l .octets) < 2 ^ 32)
+        → (m' ≡ metWith q st sequences start len l there v m) × (frameSize sequences (l .groups) there < 2 ^ 32)
         → (x .root ≡ st .root) × Scanning s q table d x m'
     framing-taken {v = v} ev em =
         let seen = ap (λ (y : Settings). pick (ltb (q .channel) (channelsOf (st .counted))) y defaultSettings) ev in (
           taken-root (scanning .long) (scanning .reached) (scanning .count) (q .channel) l (f .laid) i (f .turn .asks) (f .gives) g,
-          rw (em .0) (scanning-frame scanning l (f .laid) i (f .turn .asks) (f .gives) g v (f .turn .found) seen (em .1)),
+          rw (em .0) (scanning-frame scanning l (f .laid) i (f .turn .asks) (f .gives) g v (f .turn .found) seen et (em .1)),
         )

@@ -47,33 +47,34 @@ abbrev pub metScan : Met → Scan
 metScan m = record { checked = Checked.Frames (m .frames); found = m .found; size = m .size }
 
 -- What is kept of a frame, where c are the settings of the channel that is asked for if the frame has it.
-abbrev pub viewMet : ℕ → Standing → ℕ → ℕ → Layout → Settings → View
-viewMet channel st sequences start l c =
+abbrev pub viewMet : ℕ → Standing → ℕ → ℕ → ℕ → Layout → Settings → View
+viewMet channel st sequences start len l c =
     record {
       start = st .start;
       channels = channelsOf (st .counted);
       sequences = sequences;
       little = st .little;
       place = start;
+      long = len;
       octets = l .octets;
       below = l .below;
       settings = pick (ltb channel (channelsOf (st .counted))) c defaultSettings;
     }
 
--- A frame more is counted without loss: what its groups and its waveform take is small, and so is what the frames before it take.
-pub record Room (sequences : ℕ) (l : Layout) (m : Met) : Type 0 where
+-- A frame more is counted without loss: what its groups and its samples there take is small, and so is what the frames before it take.
+pub record Room (l : Layout) (there : ℕ) (m : Met) : Type 0 where
   pub few : m .frames ≤ framesLimit
   pub size : m .size ≤ m .frames * 2 ^ 32
   pub groups : l .groups ≤ channelLimit * 64
-  pub waveform : sequences * l .octets ≤ octetsLimit
+  pub waveform : there ≤ octetsLimit
 
--- One frame more is met.
-abbrev pub metWith : Asked → Standing → ℕ → ℕ → Layout → Settings → Met → Met
-metWith q st sequences start l c m =
+-- One frame more is met, whose samples there take so many octets.
+abbrev pub metWith : Asked → Standing → ℕ → ℕ → ℕ → Layout → ℕ → Settings → Met → Met
+metWith q st sequences start len l there c m =
     record {
       frames = m .frames + 1;
-      found = pick (eqb (m .frames) (q .frame)) (Found.Frame (viewMet (q .channel) st sequences start l c)) (m .found);
-      size = m .size + frameSize sequences (l .groups) (sequences * l .octets);
+      found = pick (eqb (m .frames) (q .frame)) (Found.Frame (viewMet (q .channel) st sequences start len l c)) (m .found);
+      size = m .size + frameSize sequences (l .groups) there;
     }
 
 -- The channel of a group that takes effect here; for every other item the number of records, which is no channel.

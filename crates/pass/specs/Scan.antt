@@ -8,7 +8,8 @@ use lib.IntN.{pos}
 use lib.ListN.{length, getD}
 use Rattle.octets.specs.Pick.{pick}
 use Rattle.heads.specs.declared.Refusal.{Refusal}
-use Rattle.layout.specs.Frame.{Frame, octetsSampled}
+use Rattle.layout.specs.Frame.{Frame}
+use Rattle.there.specs.There.{octetsThere}
 use Rattle.sizes.specs.Size.{frameSize}
 use Rattle.layout.specs.Measure.{groupsSize}
 use Rattle.pass.specs.declared.Asked.{Asked}
@@ -29,7 +30,7 @@ foundIn q fs = pick (ltb (q .frame) (length fs)) (Found.Frame (viewOf (q .channe
 
 -- How many octets a frame takes in the canonical file.
 unfoldable pub sizeOf : Frame → ℕ
-sizeOf f = frameSize (f .sequences) (groupsSize 0 (f .channels)) (octetsSampled f)
+sizeOf f = frameSize (f .sequences) (groupsSize 0 (f .channels)) (octetsThere f)
 
 -- How many octets frames take there, without the file's first three.
 unfoldable pub sizes : List Frame → ℕ

@@ -13,7 +13,10 @@ ghost use Rattle.items.specs.Walk.{cursor, refusal};
 ghost use Rattle.settings.specs.Settings.{defaultSettings, channelLimit};
 ghost use Rattle.stretch.specs.Stretch.{stretchOf};
 ghost use Rattle.sizes.specs.Size.{frameSize};
+ghost use Rattle.layout.specs.Frame.{sequenceOctets};
 ghost use Rattle.layout.specs.Measure.{layoutOf};
+ghost use Rattle.there.specs.There.{thereOctets};
+ghost use Rattle.dated.specs.Dated.{settledIn};
 ghost use Rattle.standing.specs.Standing.{octetsLimit};
 ghost use Rattle.framing.specs.Framing.{channelsOf};
 ghost use Rattle.verdict.specs.Verdict.{placeAt};
@@ -82,8 +85,16 @@ fn seen(there: bool, s: Settings) -> Settings
 }
 
 // What is kept of the frame that is asked for.
-fn view_of(channel: u32, st: Standing, sequences: u32, start: usize, l: Layout, c: Settings) -> View
-    ensures { λ r. ⌜ r ≡ viewMet channel st sequences start l c ⌝ }
+fn view_of(
+    channel: u32,
+    st: Standing,
+    sequences: u32,
+    start: usize,
+    len: usize,
+    l: Layout,
+    c: Settings,
+) -> View
+    ensures { λ r. ⌜ r ≡ viewMet channel st sequences start len l c ⌝ }
 {
     let channels = framing::channels_of(st.counted);
     View {
@@ -92,6 +103,7 @@ fn view_of(channel: u32, st: Standing, sequences: u32, start: usize, l: Layout, 
         sequences,
         little: st.little,
         place: start,
+        long: len,
         octets: l.octets,
         below: l.below,
         settings: seen(channel < channels, c),
@@ -128,26 +140,27 @@ impl Met {
         }
     }
 
-    // One frame more; `c` are the settings of the channel that is asked for, where the frame has it.
+    // One frame more, whose samples there take `there` octets; `c` are the settings of the channel that is asked for, where the frame has it.
     fn with_frame(
         self,
         asked: Asked,
         st: Standing,
         sequences: u32,
         start: usize,
+        len: usize,
         l: Layout,
+        there: u64,
         c: Settings,
     ) -> Met
-        requires { ⌜ Room sequences l self ⌝ }
-        ensures { λ r. ⌜ (r ≡ metWith asked st sequences start l c self) × (frameSize sequences (l .groups) (sequences * l .octets) < 2 ^ 32) ⌝ }
+        requires { ⌜ Room l there self ⌝ }
+        ensures { λ r. ⌜ (r ≡ metWith asked st sequences start len l there c self) × (frameSize sequences (l .groups) there < 2 ^ 32) ⌝ }
     {
-        let waveform = sequences as u64 * l.octets;
-        let size = self.size + sizes::frame_size(sequences, l.groups as u32, waveform as u32);
+        let size = self.size + sizes::frame_size(sequences, l.groups as u32, there as u32);
         let frames = self.frames + 1;
         if self.frames == asked.frame {
             return Met {
                 frames,
-                found: Found::Frame(view_of(asked.channel, st, sequences, start, l, c)),
+                found: Found::Frame(view_of(asked.channel, st, sequences, start, len, l, c)),
                 size,
             };
         }
@@ -251,6 +264,50 @@ fn root_layout(st: Standing, channel: u32) -> Layout
     l
 }
 
+// The octets of the samples there, of a frame whose channels all hold the root settings. In a waveform that ends before its sequences do only the octets of the
+// sample that is cut off are no sample's.
+fn root_there(st: Standing, sequences: u32, octets: u64, len: usize) -> u64
+    requires { ⌜ octets ≡ sequenceOctets (take (channelsOf (st .counted)) (replicate channelLimit (st .root))) ⌝ }
+    ensures { λ r. ⌜ r ≡ thereOctets (take (channelsOf (st .counted)) (replicate channelLimit (st .root))) sequences len ⌝ }
+{
+    if sizes::holds(len as u64, sequences, octets) {
+        return sequences as u64 * octets;
+    }
+    let w = values::width(st.root.datatype) as u64;
+    len as u64 - len as u64 % w
+}
+
+// The same of a frame whose n channels hold what records say: the channel is looked for whose block is cut off.
+fn channels_there(
+    root: Settings,
+    dates: Dates,
+    table: [Dated; Settings::CHANNELS],
+    n: usize,
+    sequences: u32,
+    octets: u64,
+    len: usize,
+) -> u64
+    requires { ⌜ (n ≤ channelLimit) × (octets ≡ sequenceOctets (take n (settledIn root dates table))) ⌝ }
+    ensures { λ r. ⌜ r ≡ thereOctets (take n (settledIn root dates table)) sequences len ⌝ }
+{
+    if sizes::holds(len as u64, sequences, octets) {
+        return sequences as u64 * octets;
+    }
+    let mut left = len as u64 % octets;
+    let mut i = 0usize;
+    while i < n {
+        let c = dated::settle(root, dates, table[i]);
+        let w = values::width(c.datatype) as u64;
+        let block = c.block as u64 * w;
+        if left < block {
+            return len as u64 - left % w;
+        }
+        left -= block;
+        i += 1;
+    }
+    len as u64 - left
+}
+
 // The pass from the first definition in a group on, where all channels hold the root settings.
 fn scan_channels(s: &[u8], asked: Asked, from: Cursor, standing: Standing, before: Met) -> Scan
     requires { ⌜ Scanning (now s) asked (replicate channelLimit (standing .root)) from standing before ⌝ }
@@ -314,7 +371,25 @@ fn scan_channels(s: &[u8], asked: Asked, from: Cursor, standing: Standing, befor
                             Framed::Taken(sequences, after) => {
                                 let k = index(asked.channel);
                                 let seen = dated::settle(root, dates, table[k]);
-                                met = met.with_frame(asked, st, sequences, start, l, seen);
+                                let there = channels_there(
+                                    root,
+                                    dates,
+                                    table,
+                                    n,
+                                    sequences,
+                                    l.octets,
+                                    len,
+                                );
+                                met = met.with_frame(
+                                    asked,
+                                    st,
+                                    sequences,
+                                    start,
+                                    len,
+                                    l,
+                                    there,
+                                    seen,
+                                );
                                 st = after;
                             }
                         }
@@ -374,7 +449,17 @@ fn scan_root(s: &[u8], asked: Asked) -> Scan
                                 return refused_item(number, item);
                             }
                             Framed::Taken(sequences, after) => {
-                                met = met.with_frame(asked, st, sequences, start, l, st.root);
+                                let there = root_there(st, sequences, l.octets, len);
+                                met = met.with_frame(
+                                    asked,
+                                    st,
+                                    sequences,
+                                    start,
+                                    len,
+                                    l,
+                                    there,
+                                    st.root,
+                                );
                                 st = after;
                                 c = next.renewed();
                             }

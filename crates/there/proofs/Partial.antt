@@ -1,13 +1,14 @@
 -- What the octets of the samples there leave.
 --     partial-sum      the octets of samples that end in the first octets of a sequence, and those of a sample that is cut off
 --     there-cut        the octets of the samples there, of a waveform that ends before the sequences do
---     partial-even     what is left of samples of one width
+--     cut-some         such sequences have octets
+--     partial-even, there-even    the same of samples of one width
 --     Cutting, cutting-first, cutting-block, cutting-end, cutting-past    the loop over channels that finds what is left
 -- Assumes nothing.
 use Prim.Native.Nat.{ℕ, suc, _+_, _-_, _*_, _/_, _%_, _≤_, _<_}
 use mathlib.Core.Path.{_≡_, refl, sym, _∙_, ap}
 use mathlib.Core.List.{List, [], _∷_}
-use native.Mathlib.Nat.{div-add-mod', zero-mod, min-eq-right, add-mul-mod-self-right}
+use native.Mathlib.Nat.{add-zero, mul-assoc, div-add-mod', mod-lt, zero-mod, min-eq-right, add-mul-mod-self-right}
 use native.Mathlib.Numerals.{add-one}
 use native.Mathlib.Decide.{decLt}
 use native.Mathlib.Omega.{arith}
@@ -16,7 +17,9 @@ use lib.ListN.{length, getD, drop, drop-of-length-le}
 use lib.Seq.{drop-cons}
 use Rattle.settings.specs.declared.Settings.{Settings}
 use Rattle.layout.specs.Frame.{widthIn, blockOctets, sequenceOctets}
-use Rattle.laid.specs.Turned.{Even}
+use Rattle.layout.proofs.Rows.{cells-some}
+use Rattle.laid.specs.Turned.{sequenceSamples, Even}
+use Rattle.laid.proofs.Turned.{octets-even}
 use Rattle.there.specs.There.{partOctets, thereOctets, partialOctets}
 use Rattle.there.proofs.Places.{part-block, part-some, part-le, there-min}
 
@@ -47,6 +50,10 @@ module _ (cs : List Settings) (S long : ℕ) where
       let k : long / G * G + partOctets cs (long % G) ≤ S * G = omega (arith, part-le cs (long % G), div-add-mod' long G) in
       there-min cs S long ∙ min-eq-right k ∙ omega (arith, div-add-mod' long G)
 
+  -- A sequence that the waveform cannot hold has octets.
+  pub cut-some : long < S * G → 0 < G
+  cut-some h = cells-some S G long h
+
 -- ---- one width
 
 -- Whole samples less change nothing of what is left.
@@ -71,6 +78,20 @@ partial-even w (c ∷ cs) f x h = by (decLt x (blockOctets c)) (partial-even w c
     by (no a) r =
         let h : blockOctets c ≤ x = omega arith in
         partial-block c cs x h ∙ r ∙ ap (λ (t : ℕ). (x - t) % w) block ∙ less-rest w (c .block) x (omega (arith, block))
+
+-- What is left of whole sequences has the same rest.
+rest-even : (w k long : ℕ) → long % (k * w) % w ≡ long % w
+rest-even w k long =
+    let q = long / (k * w) in
+    let e : long % (k * w) + q * k * w ≡ long = omega (arith, mul-assoc q k w, div-add-mod' long (k * w)) in
+    sym (add-mul-mod-self-right (long % (k * w)) (q * k) w) ∙ ap (λ (t : ℕ). t % w) e
+
+pub there-even : (w : ℕ) (cs : List Settings) (S long : ℕ) → Even w cs → long < S * sequenceOctets cs → long - long % w ≡ thereOctets cs S long
+there-even w cs S long f h =
+    let x = long % sequenceOctets cs in
+    let low : x ≤ sequenceOctets cs = omega (arith, mod-lt long (cut-some cs S long h)) in
+    let rest : partialOctets cs x ≡ long % w = partial-even w cs f x low ∙ rw (octets-even w cs f) (rest-even w (sequenceSamples cs) long) in
+    sym (there-cut cs S long h ∙ ap (λ (t : ℕ). long - t) rest)
 
 -- ---- the loop over channels
 

@@ -1,11 +1,11 @@
 -- Each turn is a law of the pass over the records: the items up to the cursor behind the item lead to what stands then.
-use mathlib.Core.Path.{refl, sym, ap, _∙_}
+use mathlib.Core.Path.{_≡_, refl, sym, ap, _∙_}
 use mathlib.Core.List.{List, [], _∷_}
 use mathlib.Core.Logic.{inl}
 use native.Mathlib.Omega.{arith}
 use borrow.Author.Needs.{needs}
 use Prim.Native.Nat.{ℕ, _-_}
-use lib.ListN.{length}
+use lib.ListN.{length, take}
 use Rattle.items.proofs.Walks.{found-as}
 use Rattle.items.specs.declared.Cursor.{Cursor}
 use Rattle.items.specs.declared.Item.{Item}
@@ -14,10 +14,12 @@ use Rattle.stretch.specs.Stretch.{stretchOf}
 use Rattle.dated.specs.Dated.{settledIn}
 use Rattle.effects.specs.Effects.{effectOf}
 use Rattle.layout.proofs.Laws.{Summing, summing-none, summed-up}
+use Rattle.framing.specs.Framing.{channelsOf}
+use Rattle.there.specs.There.{thereOctets}
 use Rattle.pass.specs.declared.Asked.{Asked}
 use Rattle.verdict.proofs.Bounds.{channels-between}
 use Rattle.pass.proofs.Scans.{scanning-counted, scanned-end, scanned-fault}
-use Rattle.pass.proofs.Turns.{Facing, facing-later, facing-nothing, facing-stands, facing-refused, Framing, facing-framing, framing-refused, framing-room, framing-taken}
+use Rattle.pass.proofs.Turns.{Facing, facing-later, facing-nothing, facing-stands, facing-refused, Framing, facing-framing, framing-refused, framing-octets, framing-room, framing-taken}
 use Rattle.pass.proofs.Stretches.{GroupOpened, opened-group, opened-nothing, opened-counted, group-entered, stretch-on}
 use Rattle.pass.proofs.Records.{Passing, passing-from, passing-at, passing-on, passing-count, passing-all, passing-one, passing-outside, passing-group, settled-more, settled-seen, stands-full}
 use Rattle.pass.proofs.scan_channels.Statement.{statement}
@@ -104,6 +106,15 @@ framing : (c : Given)
 framing c =
     let at-count = at-sum c .before .before in
     facing-framing (turn (known c)) (at-frame c .effect3 .given .1) (summed-up (at-sum c .loop2 .inv) _ (at-count .channels-of .ensures) (c .before .loop2-test .left)) (c .frame-of .ensures)
+
+-- The octets of its samples there, as they are found with the count of its channels.
+there : (c : Given) (octets sequences long : ℕ)
+    → let l = at-loop (behind (known c)) .loop in
+    octets ≡ thereOctets (take (at-sum c .before .before .channels-of .result) (settledIn (l .st .root) (l .dates) (l .table))) sequences long
+    → octets ≡ thereOctets (take (channelsOf (l .st .counted)) (settledIn (l .st .root) (l .dates) (l .table))) sequences long
+there c octets sequences long e =
+    let l = at-loop (behind (known c)) .loop in
+    e ∙ ap (λ (n : ℕ). thereOctets (take n (settledIn (l .st .root) (l .dates) (l .table))) sequences long) (at-sum c .before .before .channels-of .ensures)
 
 -- ---- the needs
 
@@ -373,26 +384,24 @@ array-copy-out-settle-4 c = search needs
 settle-requires-4 : tie.Need-settle-requires-4 Inv-loop2 μ-loop2 Inv-loop μ-loop
 settle-requires-4 c κs = search needs
 
+channels-there-requires : tie.Need-channels-there-requires Inv-loop2 μ-loop2 Inv-loop μ-loop
+channels-there-requires c κs =
+    let given = c .before .before .before .before .before .before in
+    (at-sum given .loop2 .inv .few, rw (at-sum given .before .before .channels-of .ensures) (framing-octets (framing given)))
+
 with-frame-requires : tie.Need-with-frame-requires Inv-loop2 μ-loop2 Inv-loop μ-loop
 with-frame-requires c κs =
-    let at-before = c .before .before .before in
-    let at-taken = c .before .before .before .before in
-    framing-room (framing (at-taken .before .before)) (at-taken .sequences .given .1)
+    let given = c .before .before .before .before .before .before .before in
+    framing-room (framing given) (c .before .before .before .before .before .sequences .given .1) (there given _ _ _ (c .channels-there .ensures))
 
 loop-less-6 : tie.Need-loop-less-6 Inv-loop2 μ-loop2 Inv-loop μ-loop
-loop-less-6 c =
-    let at-before = c .before .before .before .before .before .before in
-    let given = c .before .before .before .before .before .before .before in
-    omega (arith, facing-later (framing given .turn))
+loop-less-6 c = omega (arith, facing-later (framing (c .before .before .before .before .before .before .before .before) .turn))
 
 loop-again-6 : tie.Need-loop-again-6 Inv-loop2 μ-loop2 Inv-loop μ-loop
 loop-again-6 c =
-    let at-index = c .before .before .before in
-    let at-before = at-index .before in
-    let at-taken = c .before .before .before .before .before in
-    let given = at-taken .before .before in
+    let given = c .before .before .before .before .before .before .before .before in
     let p = passing (known given) in
-    passing-on p (turn (known given)) (framing-taken (framing given) (at-taken .sequences .given .1) (settled-seen p (at-index .index .ensures) (c .before .settle4 .ensures)) (c .with-frame .ensures))
+    passing-on p (turn (known given)) (framing-taken (framing given) (c .before .before .before .before .before .before .sequences .given .1) (there given _ _ _ (c .before .channels-there .ensures)) (settled-seen p (c .before .before .before .before .index .ensures) (c .before .before .settle4 .ensures)) (c .with-frame .ensures))
 
 enum-known-effect-4 : tie.Need-enum-known-effect-4 Inv-loop2 μ-loop2 Inv-loop μ-loop
 enum-known-effect-4 c = search needs
@@ -492,6 +501,7 @@ scan-channels-spec =
     mul-settle-4
     array-copy-out-settle-4
     settle-requires-4
+    channels-there-requires
     with-frame-requires
     loop-less-6
     loop-again-6

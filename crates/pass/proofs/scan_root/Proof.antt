@@ -11,7 +11,7 @@ use Rattle.items.specs.Walk.{cursor}
 use Rattle.settings.specs.Settings.{channelLimit}
 use Rattle.effects.specs.Effects.{standingAfter}
 use Rattle.pass.proofs.Scans.{scanning-counted, scanned-end, scanned-fault}
-use Rattle.pass.proofs.Turns.{Facing, facing-later, facing-stands, facing-refused, facing-framing, framing-refused, framing-room}
+use Rattle.pass.proofs.Turns.{Facing, facing-later, facing-stands, facing-refused, Framing, facing-framing, framing-refused, framing-octets, framing-room}
 use Rattle.pass.proofs.Stretches.{begins-root}
 use Rattle.pass.proofs.Bare.{Bare, bare-first, bare-on, bare-at, bare-all, bare-root, bare-taken}
 use Rattle.pass.proofs.scan_root.Statement.{statement}
@@ -35,6 +35,19 @@ turn c =
     let at-item = c .before .before in
     let at-next = at-item .before .before in
     record { before = at-next .before .before .before .loop .inv; found = sym (at-next .next-item .ensures) ∙ at-item .item .given .1; asks = c .item-effect .ensures }
+
+-- A waveform is met, and what it gives is known.
+framed : (c : tie.After-frame-of Inv-loop μ-loop)
+    → let at-layout = c .before in
+    let at-effect = at-layout .before .before in
+    let at-item = at-effect .before .before .before .before in
+    let at-loop = at-item .before .before .before .before .before in
+    let at-start = at-loop .before .before .before .before .before in
+    Framing (at-start .args .s .now) (at-start .args .asked) (replicate channelLimit (at-loop .loop .st .root)) (at-loop .loop .c) (at-loop .loop .st) (at-loop .loop .met) (at-item .item .given .0 .0) (at-item .item .given .0 .1 .0) (at-effect .effect .given .0 .0) (at-effect .effect .given .0 .1 .0) (at-layout .root-layout .result) (c .frame-of .result)
+framed c =
+    let at-layout = c .before in
+    let at-effect = at-layout .before .before in
+    facing-framing (turn (at-effect .before .before)) (at-effect .effect .given .1) (at-layout .root-layout .ensures) (c .frame-of .ensures)
 
 -- ---- the needs
 
@@ -154,38 +167,27 @@ refused-item-requires c κs = search needs
 returns-4 : tie.Need-returns-4 Inv-loop μ-loop
 returns-4 c =
     let at-number = c .before .before in
-    let at-frame = at-number .before .before in
-    let at-layout = at-frame .before in
-    let at-effect = at-layout .before .before in
-    c .refused-item .ensures ∙ framing-refused (facing-framing (turn (at-effect .before .before)) (at-effect .effect .given .1) (at-layout .root-layout .ensures) (at-frame .frame-of .ensures)) (at-number .number .given .1)
+    c .refused-item .ensures ∙ framing-refused (framed (at-number .before .before)) (at-number .number .given .1)
 
 enum-known-sequences : tie.Need-enum-known-sequences Inv-loop μ-loop
 enum-known-sequences c = search needs
 
+root-there-requires : tie.Need-root-there-requires Inv-loop μ-loop
+root-there-requires c κs = framing-octets (framed (c .before .before .before))
+
 with-frame-requires : tie.Need-with-frame-requires Inv-loop μ-loop
 with-frame-requires c κs =
-    let at-taken = c .before in
-    let at-frame = at-taken .before .before in
-    let at-layout = at-frame .before in
-    let at-effect = at-layout .before .before in
-    framing-room (facing-framing (turn (at-effect .before .before)) (at-effect .effect .given .1) (at-layout .root-layout .ensures) (at-frame .frame-of .ensures)) (at-taken .sequences .given .1)
+    framing-room (framed (c .before .before .before .before)) (c .before .before .sequences .given .1) (c .root-there .ensures)
 
 renewed-requires-2 : tie.Need-renewed-requires-2 Inv-loop μ-loop
 renewed-requires-2 c κs = search needs
 
 loop-less-3 : tie.Need-loop-less-3 Inv-loop μ-loop
-loop-less-3 c =
-    let at-frame = c .before .before .before .before .before in
-    omega (arith, facing-later (turn (at-frame .before .before .before .before .before)), ap (λ (d : Cursor). d .at) (c .renewed2 .ensures))
+loop-less-3 c = omega (arith, facing-later (framed (c .before .before .before .before .before .before) .turn), ap (λ (d : Cursor). d .at) (c .renewed2 .ensures))
 
 loop-again-3 : tie.Need-loop-again-3 Inv-loop μ-loop
 loop-again-3 c =
-    let at-taken = c .before .before .before in
-    let at-frame = at-taken .before .before in
-    let at-layout = at-frame .before in
-    let at-effect = at-layout .before .before in
-    let framed = facing-framing (turn (at-effect .before .before)) (at-effect .effect .given .1) (at-layout .root-layout .ensures) (at-frame .frame-of .ensures) in
-    bare-at (c .renewed2 .ensures) (bare-taken framed (at-taken .sequences .given .1) (c .before .with-frame .ensures))
+    bare-at (c .renewed2 .ensures) (bare-taken (framed (c .before .before .before .before .before .before)) (c .before .before .before .before .sequences .given .1) (c .before .before .root-there .ensures) (c .before .with-frame .ensures))
 
 enum-known-effect-2 : tie.Need-enum-known-effect-2 Inv-loop μ-loop
 enum-known-effect-2 c = search needs
@@ -252,6 +254,7 @@ scan-root-spec =
     refused-item-requires
     returns-4
     enum-known-sequences
+    root-there-requires
     with-frame-requires
     renewed-requires-2
     loop-less-3

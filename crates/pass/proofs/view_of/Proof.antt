@@ -30,6 +30,7 @@ returns c =
       sequences = a .sequences;
       little = a .st .little;
       place = a .start;
+      long = a .len;
       octets = a .l .octets;
       below = a .l .below;
       settings = (c .before .seen .ensures ∙ ap (λ (m : ℕ). pick (ltb (a .channel) m) (a .c) defaultSettings) n) k;

@@ -10,9 +10,6 @@ use borrow.Author.Needs.{needs}
 use Rattle.pass.proofs.Met.with_frame.Statement.{statement}
 use Rattle.pass.proofs.Met.with_frame.Tie as tie
 
-mul-waveform : tie.Need-mul-waveform
-mul-waveform c = search needs
-
 cast-frame-size : tie.Need-cast-frame-size
 cast-frame-size c = search needs
 
@@ -34,34 +31,33 @@ view-of-requires c κs = search needs
 returns : tie.Need-returns
 returns c =
     let at-size = c .before .before .before .before .before .before in
-    let at-start = at-size .before .before .before in
+    let at-start = at-size .before .before in
     let a = at-start .args in (
       λ k. record {
         frames = a .self .frames + 1;
         found = (ap Found.Frame (c .view-of .ensures) ∙ kept-this _ (a .self .found) (c .before .if1 .taken)) k;
         size = a .self .size + at-size .frame-size .ensures .0 k;
       },
-      frame-few (a .sequences) (a .l .groups) (a .sequences * a .l .octets) (at-start .pre .groups) (omega (arith, at-start .pre .waveform)),
+      frame-few (a .sequences) (a .l .groups) (a .there) (at-start .pre .groups) (omega (arith, at-start .pre .waveform)),
     )
 
 returns-2 : tie.Need-returns-2
 returns-2 c =
     let at-size = c .before .before .before .before .before in
-    let at-start = at-size .before .before .before in
+    let at-start = at-size .before .before in
     let a = at-start .args in (
       λ k. record {
         frames = a .self .frames + 1;
-        found = kept-before (Found.Frame (viewMet (a .asked .channel) (a .st) (a .sequences) (a .start) (a .l) (a .c))) (a .self .found) (c .if1 .left) k;
+        found = kept-before (Found.Frame (viewMet (a .asked .channel) (a .st) (a .sequences) (a .start) (a .len) (a .l) (a .c))) (a .self .found) (c .if1 .left) k;
         size = a .self .size + at-size .frame-size .ensures .0 k;
       },
-      frame-few (a .sequences) (a .l .groups) (a .sequences * a .l .octets) (at-start .pre .groups) (omega (arith, at-start .pre .waveform)),
+      frame-few (a .sequences) (a .l .groups) (a .there) (at-start .pre .groups) (omega (arith, at-start .pre .waveform)),
     )
 
 pub with-frame-spec : {M : Type 1} → statement M
 with-frame-spec =
     tie.close
     (tie.spec
-    mul-waveform
     cast-frame-size
     cast-frame-size-2
     frame-size-requires
