@@ -658,8 +658,9 @@ impl Draft {
         }
     }
 
-    /// A few channels with types and short blocks of their own.
+    /// Either byte order, and a few channels with types and short blocks of their own.
     fn mix_channels(&mut self) {
+        self.set_byte_order();
         let count = self.random.between(2, 4);
         self.set_count(Some(count));
         for channel in 0..count as usize {

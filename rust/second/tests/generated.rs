@@ -378,7 +378,7 @@ fn cut_frames_are_made_often() {
             );
             note(
                 "cut between sequences",
-                octets > 0 && octets % met.sequence_octets == 0 && partial == 0,
+                octets > 0 && octets.is_multiple_of(met.sequence_octets) && partial == 0,
             );
             note("cut inside a sample", partial > 0);
             // The octets of the partial sample and what comes next, as its null.
