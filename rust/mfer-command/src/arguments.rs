@@ -11,10 +11,9 @@ mfer: checks medical waveform files (MFER), shows what they hold and makes them
       and the offset of the item that earned it; the file's name goes before it
       where there are several
   mfer show FILE [--frame F] [--settings]
-      frames and channels with their settings, or those of frame F alone. Where
-      samples of a channel are lacking, as in a recording that was cut off, they
-      are 'T of D': T are there of D that are declared.
-      --settings: as the text that mfer make takes
+      frames and channels with their settings, or those of frame F alone. Of
+      samples 'T of D' says that D are declared and T are there, as in a
+      recording that was cut off. --settings: as the text that mfer make takes
   mfer samples FILE --frame F --channel C [--csv]
       the raw values of a channel in a frame, one a line: whole numbers, status
       bits as 0x and four digits, 'null', and 'not-a-number' with its bits;
@@ -24,8 +23,8 @@ mfer: checks medical waveform files (MFER), shows what they hold and makes them
   mfer samples FILE --raw [--frame F]
       all samples of all frames, or of frame F, in file order: sequence after
       sequence, and in each the block of each channel; --all: the values, one a
-      line, and behind a frame's a line 'no data: K samples' where K of the frame
-      are not there; --raw: big-endian octets, and that on standard error
+      line, with a line 'no data: K samples' behind a frame of which K are not
+      there; --raw: big-endian octets, with that line on standard error
   mfer canonical IN OUT
       writes the canonical form of IN to OUT; OUT is replaced when all is
       written, so a failure leaves it as it was
