@@ -12,6 +12,14 @@
  * MFER file is refused. A file has frames, a frame has channels, a channel in a frame has samples;
  * all three count from 0. A sample's place is the offset of its first octet in the file.
  *
+ * A frame declares how many sequences it has, and so how many samples each channel has: sequences times
+ * block. Its waveform may be too short for them; a recorder whose battery runs out leaves such a file. A
+ * sample is there where all its octets lie in its own frame's waveform. Those there are the first ones
+ * in file order, and so the first ones of each channel: mfer_samples_there says how many. A declared
+ * sample that is not there is MFER_NO_DATA; it has no bits and no place. The declared number can be near
+ * 2 to the 52 in a file of a few octets, so loops go over the samples there and not over those declared.
+ * A waveform that says it is longer than the rest of the file is no such one: MFER_PAST_END.
+ *
  * A file is made frame by frame: MFER_HEAD, then 1 to MFER_MAX_FRAMES frames that mfer_make_frame
  * made, at most MFER_MAX_OCTETS octets in all.
  *
@@ -59,17 +67,18 @@
  *
  * A walk over a whole file goes through its items twice, once in mfer_walk_open and once in all calls
  * of mfer_walk_next together, each of which goes from one frame to the next. It looks at each channel
- * of each frame once. mfer_walk_channel, mfer_walk_samples, mfer_walk_frame and mfer_walk_values go
- * through no items: the first takes the same short time in any file, and the others the time to copy
- * the samples that they read; mfer_walk_frame looks at each channel of the frame for this.
+ * of each frame once. mfer_walk_channel, mfer_walk_samples_there, mfer_walk_samples, mfer_walk_frame and
+ * mfer_walk_values go through no items: the first two take the same short time in any file, and the
+ * others the time to copy the samples that they read; mfer_walk_frame looks at each channel of the frame
+ * for this.
  *
  * Every other function goes through all items of the file, whatever it asks for: the time grows with
  * the number of items and not with the length of the waveforms, which are stepped over.
- * mfer_canonical goes through them twice and copies the samples. So these functions are for single
- * questions: a loop that asks them for every channel of every frame goes through the file as often as
- * there are channels in all its frames, a million times where there are 4,096 frames of 256 channels.
- * Walk instead. To read many samples of one channel, ask mfer_samples or mfer_values once, not
- * mfer_sample many times.
+ * mfer_canonical goes through them twice and copies the samples there. Samples that are declared and not
+ * there cost nothing. These functions are for single questions: a loop that asks them for every channel
+ * of every frame goes through the file as often as there are channels in all its frames, a million times
+ * where there are 4,096 frames of 256 channels. Walk instead. To read many samples of one channel, ask
+ * mfer_samples or mfer_values once, not mfer_sample many times.
  *
  * mfer_make_frame looks at each channel's settings and copies the samples.
  *
@@ -84,7 +93,8 @@
  *
  * EXAMPLES
  *
- * Prints every sample of a file, frame after frame and channel after channel:
+ * Prints every sample there of a file, frame after frame and channel after channel, and how many are not
+ * there:
  *
  *     #include <inttypes.h>
  *     #include <stdio.h>
@@ -95,7 +105,7 @@
  *                               uint32_t channel)
  *     {
  *         int64_t numbers[MFER_NUMBERS], wholes[1000];
- *         uint64_t defined[2], below, first = 0, count, place, i;
+ *         uint64_t defined[2], below, declared, first = 0, count, place, i;
  *         uint8_t kinds[1000];
  *         if (mfer_walk_channel(walk, channel, numbers, defined, &below, &place) != MFER_OK)
  *             return;
@@ -110,6 +120,9 @@
  *                     printf("%s\n", mfer_kind_name(kinds[i]));
  *             first += count;
  *         }
+ *         declared = (uint64_t)(numbers[MFER_NUMBER_SEQUENCES] * numbers[MFER_NUMBER_BLOCK]);
+ *         if (first < declared)
+ *             printf("no data: %" PRIu64 " samples\n", declared - first);
  *     }
  *
  *     int print_file(const uint8_t *file, size_t file_len)
@@ -132,7 +145,8 @@
  *         return 1;
  *     }
  *
- * Behind the last frame mfer_walk_next answers MFER_NO_FRAME; a refused file has another number.
+ * Behind the last frame mfer_walk_next answers MFER_NO_FRAME; a refused file has another number. Behind the
+ * last sample there mfer_walk_values counts 0 or answers MFER_NO_SAMPLE.
  *
  * Makes a file of two frames with one channel: lead II, 500 Hz, steps of 5 microvolts, 8000h for no
  * value. The buffer has room for MFER_HEAD at least:
@@ -190,8 +204,11 @@ extern "C" {
  * Refusals: MFER_REFUSALS(X) is X(constant, number, words) for each. The words are those of documents
  * 01 and 02; document 01's table of attributes has the lengths and values of each tag. Where several
  * apply to a file, 15 comes first; then the first refused item in file order decides, and within an
- * item the order 1, 5, channel number (4 or 3 as met), 2, 3, 9, 8, 6, 7; at a waveform 11, 12, 13,
- * 14. Where several apply to a frame that is to be made, the order is 24, 25, 23.
+ * item the order 1, 5, channel number (4 or 3 as met), 2, 3, 9, 8, 6, 7; at a waveform 11, 12, 13. Where
+ * several apply to a frame that is to be made, the order is 24, 25, 23.
+ *
+ * 14 is retired: no function gives it any more, and no other refusal takes its number. A waveform that is
+ * too short for its sequences is accepted, and lacks samples.
  */
 #define MFER_REFUSALS(X) \
     X(MFER_CONTEXT_TAG, 1, "context tag other than 3Fh") \
@@ -207,7 +224,7 @@ extern "C" {
     X(MFER_MANY_FRAMES, 11, "a frame after 4,096 frames") \
     X(MFER_SAMPLE_WIDTH, 12, "a channel below the count whose defined offset or null hasn't its sample width") \
     X(MFER_START_RANGE, 13, "start pointer outside signed 32 bits") \
-    X(MFER_SHORT_WAVEFORM, 14, "waveform shorter than sequences times G (the octets of a sequence)") \
+    X(MFER_SHORT_WAVEFORM, 14, "retired, no longer given: waveform shorter than sequences times G (the octets of a sequence)") \
     X(MFER_LONG_FILE, 15, "file above 2,147,483,647 octets") \
     X(MFER_NO_FRAME, 20, "no such frame") \
     X(MFER_NO_CHANNEL, 21, "no such channel") \
@@ -252,7 +269,7 @@ uint32_t mfer_check(const uint8_t *file, size_t file_len, uint64_t *frames, uint
 /* Where each attribute is in `numbers`. */
 #define MFER_NUMBER_START 0               /* the frame's start pointer, signed 32 bits */
 #define MFER_NUMBER_CHANNELS 1            /* channels of the frame, 1 to 256 */
-#define MFER_NUMBER_SEQUENCES 2           /* sequences of the frame, 0 to 4,294,967,295 */
+#define MFER_NUMBER_SEQUENCES 2           /* declared sequences of the frame, 0 to 4,294,967,295 */
 #define MFER_NUMBER_BLOCK 3               /* samples of the channel in one sequence, 1 to 1,048,576 */
 #define MFER_NUMBER_CLASS 4               /* waveform class, 0 to 65,535 */
 #define MFER_NUMBER_LEAD 5                /* lead code, 0 to 65,535 */
@@ -281,7 +298,8 @@ uint32_t mfer_check(const uint8_t *file, size_t file_len, uint64_t *frames, uint
 /*
  * The attributes of a channel in a frame.
  *
- * numbers  as the list above has them; the channel has sequences times block samples
+ * numbers  as the list above has them; sequences times block samples of the channel are declared, of which
+ *          mfer_samples_there says how many are there
  * bits     the offset's bits (0 where none is defined), then the null bits (0 where there are none)
  *
  * Refusals: 1 to 15, MFER_NO_FRAME, MFER_NO_CHANNEL.
@@ -297,6 +315,7 @@ uint32_t mfer_attributes(const uint8_t *file, size_t file_len, uint32_t frame, u
     X(MFER_DOUBLE, 3, "double")           /* IEEE 754, 64 bits, of type 8; infinities are among them */ \
     X(MFER_NOT_NUMBER, 4, "not-a-number") /* a single or double that is no number */ \
     X(MFER_NULL, 5, "null")               /* the sample's bits are the null bits, whatever its type */ \
+    X(MFER_NO_DATA, 6, "no data")         /* the sample is declared and not there: it has no bits */ \
     /* end */
 
 enum { MFER_KINDS(MFER_CONSTANT) };
@@ -314,29 +333,43 @@ static inline const char *mfer_kind_name(uint32_t kind)
 #undef MFER_CASE
 
 /*
+ * How many samples of a channel in a frame are there: they are those below *count. All that are declared
+ * are there where *count is sequences times block; it is never more.
+ *
+ * *count   how many, at most MFER_MAX_OCTETS
+ *
+ * Refusals: 1 to 15, MFER_NO_FRAME, MFER_NO_CHANNEL.
+ */
+uint32_t mfer_samples_there(const uint8_t *file, size_t file_len, uint32_t frame, uint32_t channel,
+                            uint64_t *count, uint64_t *place);
+
+/*
  * The place and value of a sample. Values are raw: neither offset nor resolution is applied.
  *
  * *place   the sample's place (at a refusal, the refusal's)
- * *kind    one of the kinds above
+ * *kind    one of the kinds above; MFER_NO_DATA for a declared sample that is not there, and then 0 is
+ *          in all other outputs
  * *whole   the number, where *kind is MFER_WHOLE; else 0
  * *bits    the sample's bits, highest octet first: those of a file with the octets 01 02 are 0102
  *          in big-endian order and 0201 in little-endian order; zeros are above them
  *
- * Refusals: 1 to 15, MFER_NO_FRAME, MFER_NO_CHANNEL, MFER_NO_SAMPLE.
+ * Refusals: 1 to 15, MFER_NO_FRAME, MFER_NO_CHANNEL, and MFER_NO_SAMPLE where `number` is not below the
+ * declared number of samples, sequences times block.
  */
 uint32_t mfer_sample(const uint8_t *file, size_t file_len, uint32_t frame, uint32_t channel,
                      uint64_t number, uint64_t *place, uint32_t *kind, int64_t *whole,
                      uint64_t *bits);
 
 /*
- * The bits of consecutive samples of a channel, from sample `first` on: as many as there are or as
+ * The bits of consecutive samples of a channel, from sample `first` on: as many as are there or as
  * fit in the buffer of `out_len` numbers at `out`. The bits are those of mfer_sample; they carry no
  * sign up and nulls are not marked. What is past *count in the buffer keeps what it held.
  *
- * *count   how many were written; with an answer 0 only where out_len is 0
+ * *count   how many were written; with an answer 0 only where out_len is 0, or where sample `first` is
+ *          declared and not there
  *
- * Refusals: 1 to 15, MFER_NO_FRAME, MFER_NO_CHANNEL, and MFER_NO_SAMPLE where there is no sample
- * `first`.
+ * Refusals: 1 to 15, MFER_NO_FRAME, MFER_NO_CHANNEL, and MFER_NO_SAMPLE where no sample `first` is
+ * declared.
  */
 uint32_t mfer_samples(const uint8_t *file, size_t file_len, uint32_t frame, uint32_t channel,
                       uint64_t first, uint64_t *out, size_t out_len, uint64_t *count,
@@ -345,14 +378,15 @@ uint32_t mfer_samples(const uint8_t *file, size_t file_len, uint32_t frame, uint
 /*
  * The values of consecutive samples of a channel, from sample `first` on, each as mfer_sample tells
  * it: its kind (MFER_WHOLE and so on) in the buffer of `kinds_len` octets at `kinds`, and its number
- * where it is whole, else 0, in the buffer of `wholes_len` numbers at `wholes`. As many as there are
- * or as fit in the shorter buffer. What is past *count in a buffer keeps what it held. The bits of a
- * value that is no whole number are told by mfer_samples.
+ * where it is whole, else 0, in the buffer of `wholes_len` numbers at `wholes`. As many as are there
+ * or as fit in the shorter buffer, so MFER_NO_DATA is not among the kinds. What is past *count in a buffer
+ * keeps what it held. The bits of a value that is no whole number are told by mfer_samples.
  *
- * *count   how many were written to each buffer; with an answer 0 only where kinds_len or wholes_len is 0
+ * *count   how many were written to each buffer; with an answer 0 only where kinds_len or wholes_len is 0,
+ *          or where sample `first` is declared and not there
  *
- * Refusals: 1 to 15, MFER_NO_FRAME, MFER_NO_CHANNEL, and MFER_NO_SAMPLE where there is no sample
- * `first`.
+ * Refusals: 1 to 15, MFER_NO_FRAME, MFER_NO_CHANNEL, and MFER_NO_SAMPLE where no sample `first` is
+ * declared.
  */
 uint32_t mfer_values(const uint8_t *file, size_t file_len, uint32_t frame, uint32_t channel,
                      uint64_t first, uint8_t *kinds, size_t kinds_len, int64_t *wholes,
@@ -362,15 +396,15 @@ uint32_t mfer_values(const uint8_t *file, size_t file_len, uint32_t frame, uint3
  * A walk: the frames of a file one after another, each with its channels and samples.
  *
  * mfer_walk_open checks the file and begins the walk, mfer_walk_next goes to the next frame,
- * mfer_walk_channel, mfer_walk_samples and mfer_walk_values tell of a channel of the frame that the
- * walk is at, and mfer_walk_frame of all of them. The walk is kept in an array of the caller's,
- * `uint64_t walk[MFER_WALK]`, 33,280 octets: nothing has to be set in it before it is opened, and
- * nothing freed afterwards. It holds numbers and no pointers. A copy of it is a walk of its own that
+ * mfer_walk_channel, mfer_walk_samples_there, mfer_walk_samples and mfer_walk_values tell of a channel of
+ * the frame that the walk is at, and mfer_walk_frame of all of them. The walk is kept in an array of the
+ * caller's, `uint64_t walk[MFER_WALK]`, 33,280 octets: nothing has to be set in it before it is opened,
+ * and nothing freed afterwards. It holds numbers and no pointers. A copy of it is a walk of its own that
  * goes on from the same frame, and it may be opened again, for the same file or another.
  *
- * What is told of an opened file is what mfer_attributes, mfer_samples and mfer_values tell of it,
- * frame by frame. For this the file must have the same octets in every call as in mfer_walk_open; it
- * may have moved to another address.
+ * What is told of an opened file is what mfer_attributes, mfer_samples_there, mfer_samples and
+ * mfer_values tell of it, frame by frame. For this the file must have the same octets in every call as in
+ * mfer_walk_open; it may have moved to another address.
  *
  * Whatever is in the array and whatever file is handed in, each call ends, and nothing outside the
  * file and the arrays is read or written. But where the array is no opened walk, or the file another,
@@ -381,10 +415,10 @@ uint32_t mfer_values(const uint8_t *file, size_t file_len, uint32_t frame, uint3
 
 /* Where each number of a frame is in `frame`. */
 #define MFER_FRAME_CHANNELS 0  /* channels of the frame, 1 to 256 */
-#define MFER_FRAME_SEQUENCES 1 /* sequences of the frame, 0 to 4,294,967,295 */
+#define MFER_FRAME_SEQUENCES 1 /* declared sequences of the frame, 0 to 4,294,967,295 */
 #define MFER_FRAME_LITTLE 2    /* 1 where its samples are little-endian, 0 where they are big-endian */
 #define MFER_FRAME_PLACE 3     /* the place of its waveform: the offset of its first octet */
-#define MFER_FRAME_LENGTH 4    /* octets of its waveform, those past the last sequence among them */
+#define MFER_FRAME_LENGTH 4    /* octets of its waveform, which may be longer or shorter than its sequences */
 #define MFER_FRAME_OCTETS 5    /* octets of a sequence, over all channels */
 #define MFER_FRAME_NUMBERS 6   /* how many there are */
 
@@ -421,7 +455,8 @@ uint32_t mfer_walk_next(const uint8_t *file, size_t file_len, uint64_t walk[MFER
  *
  *     frame[MFER_FRAME_PLACE] + n / block * frame[MFER_FRAME_OCTETS] + below + n % block * width
  *
- * in the file, where block is numbers[MFER_NUMBER_BLOCK] and width is numbers[MFER_NUMBER_WIDTH].
+ * in the file, where block is numbers[MFER_NUMBER_BLOCK] and width is numbers[MFER_NUMBER_WIDTH], and the
+ * sample is there.
  *
  * Refusals: MFER_NO_FRAME where the walk is at no frame: ahead of the first, or behind the last;
  * MFER_NO_CHANNEL.
@@ -431,12 +466,21 @@ uint32_t mfer_walk_channel(const uint64_t walk[MFER_WALK], uint32_t channel,
                            uint64_t *place);
 
 /*
+ * How many samples of a channel in the frame that the walk is at are there: *count is as in
+ * mfer_samples_there.
+ *
+ * Refusals: as in mfer_walk_channel.
+ */
+uint32_t mfer_walk_samples_there(const uint64_t walk[MFER_WALK], uint32_t channel, uint64_t *count,
+                                 uint64_t *place);
+
+/*
  * The bits of consecutive samples of a channel in the frame that the walk is at, from sample `first`
  * on: `out` and *count are as in mfer_samples.
  *
- * Refusals: MFER_NO_FRAME where the walk is at no frame; MFER_NO_CHANNEL; MFER_NO_SAMPLE where there
- * is no sample `first`; and after these MFER_NO_FRAME where the channel's samples do not lie in this
- * file, which then is not the one that was opened.
+ * Refusals: MFER_NO_FRAME where the walk is at no frame; MFER_NO_CHANNEL; MFER_NO_SAMPLE where no
+ * sample `first` is declared; and after these MFER_NO_FRAME where the channel's samples do not lie in
+ * this file, which then is not the one that was opened.
  */
 uint32_t mfer_walk_samples(const uint8_t *file, size_t file_len, const uint64_t walk[MFER_WALK],
                            uint32_t channel, uint64_t first, uint64_t *out, size_t out_len,
@@ -444,17 +488,17 @@ uint32_t mfer_walk_samples(const uint8_t *file, size_t file_len, const uint64_t 
 
 /*
  * The bits of the samples of the frame that the walk is at: those of channel 0, then those of channel
- * 1, and so on, each channel's in their order, at the front of `out`, as many as there are or as fit.
+ * 1, and so on, each channel's in their order, at the front of `out`, as many as are there or as fit.
  * The rest of `out`, and at a refusal all of it, keeps what it held.
  *
- * A channel has as many samples as the frame has sequences, times the channel's block length. Over all
- * channels they are at most frame[MFER_FRAME_LENGTH], so a buffer of that many always holds them; in a
- * shorter one that is full, their sum tells whether there are more.
+ * mfer_walk_samples_there tells how many are of each channel. Over all channels they are at most
+ * frame[MFER_FRAME_LENGTH], so a buffer of that many always holds them; in a shorter one that is full,
+ * their sum tells whether there are more.
  *
  * This is the fastest way to read a file whole: one call a frame.
  *
- * *count   how many were written; with an answer 0 only where out_len is 0 or the frame has no
- *          sequences
+ * *count   how many were written; with an answer 0 only where out_len is 0 or no sample of the frame is
+ *          there
  *
  * Refusals: MFER_NO_FRAME where the walk is at no frame, and where the samples of any channel, also of
  * one that `out` has no room for, do not lie in this file, which then is not the one that was opened.
@@ -485,8 +529,9 @@ uint32_t mfer_canonical_length(const uint8_t *file, size_t file_len, uint64_t *l
 
 /*
  * Writes the canonical file, which has the same recording in one fixed form: big-endian, every
- * setting in its channel's group, every length in its shortest form. It stands at the start of the
- * buffer of `out_len` octets at `out`; what is past it keeps what it held.
+ * setting in its channel's group, every length in its shortest form. It has the samples there and the
+ * declared sequences, so the same samples are there in it. It stands at the start of the buffer of
+ * `out_len` octets at `out`; what is past it keeps what it held.
  *
  * *written  the canonical file's length; 0 for a file without frames
  *
@@ -520,7 +565,8 @@ uint32_t mfer_canonical(const uint8_t *file, size_t file_len, uint8_t *out, size
  *            channel 0, then that of channel 1, and so on; each sample with its highest octet first
  * *written   the frame's length, at most MFER_MAKE_ROOM(channels, samples_len)
  *
- * What mfer_attributes or mfer_walk_channel told of a channel can be handed back as it is. In a row
+ * What mfer_attributes or mfer_walk_channel told of a channel can be handed back as it is, but a frame is
+ * made of all its samples: of one whose samples are not all there, hand over fewer sequences. In a row
  * start, channels, sequences and width are not looked at: the first three are parameters here, and the
  * type says the width. A null width of 0 says that there are no null bits, and those of the row are not
  * looked at; any other number says that there are.

@@ -49,6 +49,14 @@ static const uint8_t P2_CANONICAL[113] = {
 static const uint8_t P4[] = {0x05, 0x01, 0x02, 0x3F, 0x00, 0x03, 0x0A, 0x01,
                              0x03, 0x0A, 0x01, 0x05, 0x1E, 0x02, 0x07, 0x08};
 
+/* Document 01's P9 as document 02 has it: two sequences are declared, and 5 is there. */
+static const uint8_t P9[] = {0x06, 0x01, 0x02, 0x1E, 0x02, 0x00, 0x05};
+
+/* 256 channels with blocks of 1,048,576 and 4,294,967,295 sequences are declared; two samples of the first
+   channel are there. */
+static const uint8_t DECLARED[] = {0x05, 2,    1,    0,    0x04, 3,    0x10, 0, 0, 0x06, 4,
+                                   0xFF, 0xFF, 0xFF, 0xFF, 0x1E, 4,    0,    1, 0, 2};
+
 /* Two frames, the settings ahead of the first; octets past the samples of both. */
 static const uint8_t LASTING[] = {0x01, 1, 1,    0x05, 1,    2,    0x06, 1,    1,    0x08, 1,    7,
                                   0x0D, 2, 1,    0,    0x3F, 1,    7,    0x0A, 1,    1,    0x12, 2,
@@ -125,6 +133,10 @@ static void expect_refusal(const uint8_t *file, size_t file_len, uint32_t frame,
         for (i = 0; i < SIZE(numbers); i++)
             EXPECT(numbers[i] == 0);
         EXPECT(bits[0] == 0 && bits[1] == 0);
+
+        place_out = UNSET;
+        EXPECT(mfer_samples_there(file, file_len, frame, channel, &count, &place_out) == refusal);
+        EXPECT(place_out == place && count == 0);
     }
 
     place_out = UNSET;
@@ -208,6 +220,8 @@ static void check_good_files(void)
     expect_check(p3, sizeof p3, MFER_OK, 1, 0);
     expect_check(FLOATS, sizeof FLOATS, MFER_OK, 2, 0);
     expect_check(P2_CANONICAL, sizeof P2_CANONICAL, MFER_OK, 1, 0);
+    expect_check(P9, sizeof P9, MFER_OK, 1, 0);
+    expect_check(DECLARED, sizeof DECLARED, MFER_OK, 1, 0);
 }
 
 static void empty_and_null(void)
@@ -225,7 +239,7 @@ static void empty_and_null(void)
     EXPECT(written == 0 && place == 0 && out == 0xA5);
 }
 
-/* One file for each refusal of the check, but for 15. */
+/* One file for each refusal of the check, but for 11 and 15, and for 14, which is retired. */
 static void check_refusals(void)
 {
     static const struct {
@@ -246,7 +260,7 @@ static void check_refusals(void)
         {MFER_UNENDED_GROUP, 0, 3, {0x3F, 0x00, 0x80}},
         {MFER_SAMPLE_WIDTH, 3, 7, {0x0D, 0x01, 0x01, 0x1E, 0x02, 0x00, 0x05}},
         {MFER_START_RANGE, 10, 12, {0x07, 4, 0x7F, 0xFF, 0xFF, 0xFF, 0x1E, 2, 0, 5, 0x1E, 0}},
-        {MFER_SHORT_WAVEFORM, 3, 7, {0x06, 0x01, 0x02, 0x1E, 0x02, 0x00, 0x05}},
+        {MFER_PAST_END, 3, 6, {0x06, 0x01, 0x02, 0x1E, 0x02, 0x00}},
     };
     size_t i;
     for (i = 0; i < SIZE(files); i++) {
@@ -317,6 +331,9 @@ static void huge_indexes(void)
     expect_refusal(P2, sizeof P2, 0, 1, (uint64_t)1 << 32, MFER_NO_SAMPLE, 0);
     expect_refusal(P2, sizeof P2, 0, 1, (uint64_t)1 << 63, MFER_NO_SAMPLE, 0);
     expect_refusal(P2, sizeof P2, 0, 0, UINT64_MAX, MFER_NO_SAMPLE, 0);
+    expect_refusal(P9, sizeof P9, 0, 0, 2, MFER_NO_SAMPLE, 0);
+    expect_refusal(P9, sizeof P9, 0, 0, UINT64_MAX, MFER_NO_SAMPLE, 0);
+    expect_refusal(DECLARED, sizeof DECLARED, 0, 255, (uint64_t)UINT32_MAX << 20, MFER_NO_SAMPLE, 0);
 }
 
 static void attributes(void)
@@ -414,6 +431,74 @@ static void values_in_bulk(void)
     EXPECT(count == 0 && place == 0);
 }
 
+/* A sample is declared and not there: by its number, in buffers and in none. */
+static void expect_no_data(const uint8_t *file, size_t file_len, uint32_t frame, uint32_t channel,
+                           uint64_t number)
+{
+    uint64_t count = UNSET, place = UNSET, out[3];
+    uint8_t kinds[VALUES];
+    int64_t wholes[VALUES];
+    size_t i;
+
+    expect_sample(file, file_len, frame, channel, number, 0, MFER_NO_DATA, 0, 0);
+    memset(out, 0xA5, sizeof out);
+    EXPECT(mfer_samples(file, file_len, frame, channel, number, out, SIZE(out), &count, &place) == MFER_OK);
+    EXPECT(count == 0 && place == 0);
+    for (i = 0; i < SIZE(out); i++)
+        EXPECT(out[i] == UNSET);
+    unset_values(kinds, wholes);
+    count = place = UNSET;
+    EXPECT(mfer_values(file, file_len, frame, channel, number, kinds, VALUES, wholes, VALUES, &count,
+                       &place) == MFER_OK);
+    EXPECT(count == 0 && place == 0);
+    expect_unset_values(kinds, wholes);
+    count = place = UNSET;
+    EXPECT(mfer_samples(file, file_len, frame, channel, number, NULL, 0, &count, &place) == MFER_OK);
+    EXPECT(count == 0 && place == 0);
+    count = place = UNSET;
+    EXPECT(mfer_values(file, file_len, frame, channel, number, NULL, 0, NULL, 0, &count, &place) == MFER_OK);
+    EXPECT(count == 0 && place == 0);
+}
+
+static uint64_t samples_there(const uint8_t *file, size_t file_len, uint32_t frame, uint32_t channel)
+{
+    uint64_t count = UNSET, place = UNSET;
+    EXPECT(mfer_samples_there(file, file_len, frame, channel, &count, &place) == MFER_OK);
+    EXPECT(place == 0);
+    return count;
+}
+
+/* What is there is read, and what is not there is told. */
+static void samples_not_there(void)
+{
+    const uint64_t declared = (uint64_t)UINT32_MAX << 20;
+    uint64_t out[4], count = UNSET, place = UNSET;
+    uint8_t kinds[4];
+    int64_t wholes[4];
+
+    EXPECT(samples_there(P2, sizeof P2, 0, 0) == 2 && samples_there(P2, sizeof P2, 0, 1) == 1);
+    EXPECT(samples_there(FLOATS, sizeof FLOATS, 0, 0) == 3);
+    EXPECT(samples_there(P9, sizeof P9, 0, 0) == 1);
+    expect_sample(P9, sizeof P9, 0, 0, 0, 5, MFER_WHOLE, 5, 5);
+    expect_no_data(P9, sizeof P9, 0, 0, 1);
+    memset(out, 0xA5, sizeof out);
+    EXPECT(mfer_samples(P9, sizeof P9, 0, 0, 0, out, SIZE(out), &count, &place) == MFER_OK);
+    EXPECT(count == 1 && place == 0 && out[0] == 5 && out[1] == UNSET);
+
+    EXPECT(samples_there(DECLARED, sizeof DECLARED, 0, 0) == 2);
+    EXPECT(samples_there(DECLARED, sizeof DECLARED, 0, 1) == 0);
+    EXPECT(samples_there(DECLARED, sizeof DECLARED, 0, 255) == 0);
+    memset(kinds, 0xA5, sizeof kinds);
+    memset(wholes, 0xA5, sizeof wholes);
+    EXPECT(mfer_values(DECLARED, sizeof DECLARED, 0, 0, 1, kinds, 4, wholes, 4, &count, &place) == MFER_OK);
+    EXPECT(count == 1 && kinds[0] == MFER_WHOLE && wholes[0] == 2);
+    EXPECT(kinds[1] == 0xA5 && (uint64_t)wholes[1] == UNSET);
+    expect_no_data(DECLARED, sizeof DECLARED, 0, 0, 2);
+    expect_no_data(DECLARED, sizeof DECLARED, 0, 0, declared - 1);
+    expect_no_data(DECLARED, sizeof DECLARED, 0, 255, 0);
+    expect_no_data(DECLARED, sizeof DECLARED, 0, 255, declared - 1);
+}
+
 /* The walk is behind the last frame. */
 static void expect_walk_end(const uint8_t *file, size_t file_len, uint64_t *walk)
 {
@@ -481,6 +566,10 @@ static void expect_walk_lacks(const uint8_t *file, size_t file_len, const uint64
         for (i = 0; i < SIZE(numbers); i++)
             EXPECT(numbers[i] == 0);
         EXPECT(bits[0] == 0 && bits[1] == 0 && below == 0 && place == 0);
+
+        place = UNSET;
+        EXPECT(mfer_walk_samples_there(walk, channel, &count, &place) == refusal);
+        EXPECT(count == 0 && place == 0);
     }
 
     place = UNSET;
@@ -518,9 +607,10 @@ static uint64_t bits_of(const uint8_t *octets, uint64_t width, int little)
     return bits;
 }
 
-/* The values of a channel by the walk are what mfer_values tells, in pieces of 7, up to the refusal. */
+/* The values of a channel by the walk are what mfer_values tells, in pieces of 7, up to the last sample
+   there. */
 static void same_values(const uint8_t *file, size_t file_len, const uint64_t *walk, uint32_t number,
-                        uint32_t channel, uint64_t samples)
+                        uint32_t channel, uint64_t samples, uint32_t behind)
 {
     uint8_t kinds[7], kinds_asked[7];
     int64_t wholes[7], wholes_asked[7];
@@ -542,7 +632,7 @@ static void same_values(const uint8_t *file, size_t file_len, const uint64_t *wa
         EXPECT(memcmp(wholes, wholes_asked, sizeof wholes) == 0);
         first += count;
     } while (refusal == MFER_OK && count > 0);
-    EXPECT(refusal == MFER_NO_SAMPLE && first == samples);
+    EXPECT(refusal == behind && first == samples);
     if (samples > 0) {
         EXPECT(mfer_walk_values(file, file_len, walk, channel, 0, NULL, 0, NULL, 0, &count, &place) ==
                MFER_OK);
@@ -550,14 +640,15 @@ static void same_values(const uint8_t *file, size_t file_len, const uint64_t *wa
     }
 }
 
-/* A channel by the walk is what mfer_attributes, mfer_sample, mfer_samples and mfer_values tell. */
+/* A channel by the walk is what mfer_attributes, mfer_samples_there, mfer_sample, mfer_samples and mfer_values
+   tell. Behind the last sample there is MFER_OK where more are declared, else MFER_NO_SAMPLE. */
 static void same_channel(const uint8_t *file, size_t file_len, const uint64_t *walk, uint32_t number,
                          const uint64_t *frame, uint32_t channel)
 {
     int64_t numbers[MFER_NUMBERS], numbers_asked[MFER_NUMBERS], whole;
-    uint64_t bits[2], bits_asked[2], below = UNSET, place = UNSET, samples, i;
+    uint64_t bits[2], bits_asked[2], below = UNSET, place = UNSET, declared, samples, i;
     uint64_t out[7], out_asked[7], count = UNSET, count_asked, first;
-    uint32_t kind, refusal;
+    uint32_t kind, refusal, behind;
 
     EXPECT(mfer_walk_channel(walk, channel, numbers, bits, &below, &place) == MFER_OK);
     EXPECT(place == 0);
@@ -566,15 +657,26 @@ static void same_channel(const uint8_t *file, size_t file_len, const uint64_t *w
     EXPECT(memcmp(numbers, numbers_asked, sizeof numbers) == 0);
     EXPECT(memcmp(bits, bits_asked, sizeof bits) == 0);
 
-    samples = (uint64_t)(numbers[MFER_NUMBER_SEQUENCES] * numbers[MFER_NUMBER_BLOCK]);
+    declared = (uint64_t)(numbers[MFER_NUMBER_SEQUENCES] * numbers[MFER_NUMBER_BLOCK]);
+    samples = samples_there(file, file_len, number, channel);
+    place = UNSET;
+    EXPECT(mfer_walk_samples_there(walk, channel, &count, &place) == MFER_OK);
+    EXPECT(count == samples && place == 0 && samples <= declared);
+    behind = samples < declared ? MFER_OK : MFER_NO_SAMPLE;
     for (i = 0; i < samples; i++) {
-        uint64_t there = place_of(frame, numbers, below, i);
+        uint64_t at = place_of(frame, numbers, below, i), width = (uint64_t)numbers[MFER_NUMBER_WIDTH];
         EXPECT(mfer_sample(file, file_len, number, channel, i, &place, &kind, &whole, bits_asked) ==
                MFER_OK);
-        EXPECT(place == there);
+        EXPECT(place == at && kind <= MFER_NULL);
+        EXPECT(at + width <= frame[MFER_FRAME_PLACE] + frame[MFER_FRAME_LENGTH]);
+        EXPECT(bits_asked[0] == bits_of(file + at, width, frame[MFER_FRAME_LITTLE] == 1));
+    }
+    if (samples < declared) {
+        expect_no_data(file, file_len, number, channel, samples);
+        expect_no_data(file, file_len, number, channel, declared - 1);
     }
 
-    /* In pieces of 7, up to the refusal. */
+    /* In pieces of 7, up to the last sample there. */
     first = 0;
     do {
         place = UNSET;
@@ -587,9 +689,9 @@ static void same_channel(const uint8_t *file, size_t file_len, const uint64_t *w
         EXPECT(count == count_asked && memcmp(out, out_asked, sizeof out) == 0);
         first += count;
     } while (refusal == MFER_OK && count > 0);
-    EXPECT(refusal == MFER_NO_SAMPLE && first == samples);
-    same_values(file, file_len, walk, number, channel, samples);
-    expect_walk_lacks(file, file_len, walk, channel, samples, MFER_NO_SAMPLE);
+    EXPECT(refusal == behind && first == samples);
+    same_values(file, file_len, walk, number, channel, samples, behind);
+    expect_walk_lacks(file, file_len, walk, channel, declared, MFER_NO_SAMPLE);
     expect_walk_lacks(file, file_len, walk, channel, UINT64_MAX, MFER_NO_SAMPLE);
     if (samples > 0) {
         EXPECT(mfer_walk_samples(file, file_len, walk, channel, 0, NULL, 0, &count, &place) == MFER_OK);
@@ -668,7 +770,6 @@ static void same_by_walk(const uint8_t *file, size_t file_len)
         EXPECT(frame[MFER_FRAME_SEQUENCES] == (uint64_t)numbers[MFER_NUMBER_SEQUENCES]);
         EXPECT(frame[MFER_FRAME_LITTLE] <= 1);
         EXPECT(frame[MFER_FRAME_PLACE] + frame[MFER_FRAME_LENGTH] <= file_len);
-        EXPECT(frame[MFER_FRAME_SEQUENCES] * frame[MFER_FRAME_OCTETS] <= frame[MFER_FRAME_LENGTH]);
         for (channel = 0; channel < frame[MFER_FRAME_CHANNELS]; channel++)
             same_channel(file, file_len, walk, number, frame, channel);
         same_frame(file, file_len, walk, number, frame);
@@ -719,8 +820,57 @@ static void walk_tells_the_same(void)
     same_by_walk(FLOATS, sizeof FLOATS);
     same_by_walk(LASTING, sizeof LASTING);
     same_by_walk(BLOCKS, sizeof BLOCKS);
+    same_by_walk(P9, sizeof P9);
+    same_by_walk(DECLARED, sizeof DECLARED);
     same_by_walk(file, length);
     free(file);
+}
+
+/*
+ * Blocks of 2, 1 and 3 samples of 2, 1 and 4 octets, two sequences of 17 octets, and null bits that are 0 in
+ * the last channel: the waveform ends after each octet, a frame of one octet comes behind it. The memory of
+ * the file and of what is written ends with them.
+ */
+static void waveforms_cut_after_each_octet(void)
+{
+    static const uint8_t head[] = {0x01, 1,    0,    0x05, 1, 3,    0x06, 1, 2, 0x3F, 0,    3,    0x04, 1, 2,
+                                   0x3F, 1,    3,    0x0A, 1, 3,    0x3F, 2, 12, 0x04, 1,   3,    0x0A, 1, 6,
+                                   0x12, 4,    0,    0,    0, 0,    0x1E};
+    static const uint8_t behind[] = {0x05, 0, 0x06, 0, 0x0A, 1, 3, 0x1E, 1, 99};
+    static const uint64_t starts[] = {0, 2, 4, 5, 9, 13}, widths[] = {2, 2, 1, 4, 4, 4};
+    static const uint32_t channels[] = {0, 0, 1, 2, 2, 2};
+    size_t length, little, i;
+    for (length = 0; length <= 40; length++)
+        for (little = 0; little < 2; little++) {
+            const size_t file_len = sizeof head + 1 + length + sizeof behind;
+            uint8_t *file = (uint8_t *)malloc(file_len), *out;
+            uint64_t there[3] = {0, 0, 0}, canonical_len, written, place, again_len;
+            memcpy(file, head, sizeof head);
+            file[2] = (uint8_t)little;
+            file[sizeof head] = (uint8_t)length;
+            for (i = 0; i < length; i++)
+                file[sizeof head + 1 + i] = (uint8_t)(i < 25 ? i + 1 : 0);
+            memcpy(file + sizeof head + 1 + length, behind, sizeof behind);
+            for (i = 0; i < 12; i++)
+                there[channels[i % 6]] += i / 6 * 17 + starts[i % 6] + widths[i % 6] <= length;
+            expect_check(file, file_len, MFER_OK, 2, 0);
+            for (i = 0; i < 3; i++)
+                EXPECT(samples_there(file, file_len, 0, (uint32_t)i) == there[i]);
+            EXPECT(samples_there(file, file_len, 1, 0) == 1);
+            same_by_walk(file, file_len);
+
+            EXPECT(mfer_canonical_length(file, file_len, &canonical_len, &place) == MFER_OK);
+            out = (uint8_t *)malloc((size_t)canonical_len);
+            EXPECT(mfer_canonical(file, file_len, out, (size_t)canonical_len, &written, &place) == MFER_OK);
+            EXPECT(written == canonical_len);
+            for (i = 0; i < 3; i++)
+                EXPECT(samples_there(out, (size_t)written, 0, (uint32_t)i) == there[i]);
+            EXPECT(mfer_canonical_length(out, (size_t)written, &again_len, &place) == MFER_OK);
+            EXPECT(again_len == written);
+            same_by_walk(out, (size_t)written);
+            free(out);
+            free(file);
+        }
 }
 
 static void walk_numbers(void)
@@ -781,13 +931,46 @@ static void walk_values(void)
     EXPECT(count == 0 && place == 0 && wholes[0] == -1);
 }
 
+/* Of samples that are declared and not there a walk writes nothing, and of no such sample it says so. */
+static void walk_to_samples_not_there(void)
+{
+    const uint64_t declared = (uint64_t)UINT32_MAX << 20;
+    const uint64_t firsts[] = {2, 3, declared / 2, declared - 1};
+    uint64_t walk[MFER_WALK], frames, frame[MFER_FRAME_NUMBERS], place, count, out[3];
+    int64_t start, wholes[VALUES];
+    uint8_t kinds[VALUES];
+    size_t i, j;
+
+    EXPECT(mfer_walk_open(DECLARED, sizeof DECLARED, walk, &frames, &place) == MFER_OK && frames == 1);
+    EXPECT(mfer_walk_next(DECLARED, sizeof DECLARED, walk, &start, frame, &place) == MFER_OK);
+    EXPECT(frame[MFER_FRAME_SEQUENCES] == UINT32_MAX && frame[MFER_FRAME_LENGTH] == 4);
+    EXPECT(frame[MFER_FRAME_OCTETS] == (uint64_t)1 << 29);
+    for (i = 0; i < SIZE(firsts); i++) {
+        memset(out, 0xA5, sizeof out);
+        count = place = UNSET;
+        EXPECT(mfer_walk_samples(DECLARED, sizeof DECLARED, walk, 0, firsts[i], out, SIZE(out), &count,
+                                 &place) == MFER_OK);
+        EXPECT(count == 0 && place == 0);
+        for (j = 0; j < SIZE(out); j++)
+            EXPECT(out[j] == UNSET);
+        unset_values(kinds, wholes);
+        count = place = UNSET;
+        EXPECT(mfer_walk_values(DECLARED, sizeof DECLARED, walk, 0, firsts[i], kinds, VALUES, wholes, VALUES,
+                                &count, &place) == MFER_OK);
+        EXPECT(count == 0 && place == 0);
+        expect_unset_values(kinds, wholes);
+    }
+    expect_walk_lacks(DECLARED, sizeof DECLARED, walk, 0, declared, MFER_NO_SAMPLE);
+    expect_walk_lacks(DECLARED, sizeof DECLARED, walk, 255, declared, MFER_NO_SAMPLE);
+}
+
 /* Channel after channel, each sample with its bits, and a frame of no sequences. */
 static void walk_frame(void)
 {
     static const uint64_t blocks[] = {0, 1, 6, 7, 2, 8, 3, 4, 5, 9, 10, 11};
     static const uint64_t one[] = {0xFF, 0x80}, little[] = {1, 2, 0xFFFF};
     static const uint64_t singles[] = {0x80000000u, 0x7FC00001u, 0x3F800000u};
-    static const uint64_t doubles[] = {0xFFF0000000000000u};
+    static const uint64_t doubles[] = {0xFFF0000000000000u}, cut[] = {5}, declared[] = {1, 2};
     uint64_t walk[MFER_WALK], frames, frame[MFER_FRAME_NUMBERS], place;
     int64_t start;
     size_t room;
@@ -811,6 +994,15 @@ static void walk_frame(void)
     expect_frame(FLOATS, sizeof FLOATS, walk, singles, SIZE(singles), 4);
     EXPECT(mfer_walk_next(FLOATS, sizeof FLOATS, walk, &start, frame, &place) == MFER_OK);
     expect_frame(FLOATS, sizeof FLOATS, walk, doubles, SIZE(doubles), 4);
+
+    EXPECT(mfer_walk_open(P9, sizeof P9, walk, &frames, &place) == MFER_OK);
+    EXPECT(mfer_walk_next(P9, sizeof P9, walk, &start, frame, &place) == MFER_OK);
+    for (room = 0; room < 3; room++)
+        expect_frame(P9, sizeof P9, walk, cut, SIZE(cut), room);
+    EXPECT(mfer_walk_open(DECLARED, sizeof DECLARED, walk, &frames, &place) == MFER_OK);
+    EXPECT(mfer_walk_next(DECLARED, sizeof DECLARED, walk, &start, frame, &place) == MFER_OK);
+    for (room = 0; room < 5; room++)
+        expect_frame(DECLARED, sizeof DECLARED, walk, declared, SIZE(declared), room);
 }
 
 /* As many frames as there may be, of as many channels. */
@@ -957,6 +1149,9 @@ static void expect_safe(const uint8_t *file, size_t file_len, const uint64_t *wa
     EXPECT(known == MFER_OK || known == MFER_NO_FRAME || known == MFER_NO_CHANNEL);
     EXPECT(place == 0);
     place = UNSET;
+    EXPECT(mfer_walk_samples_there(walk, channel, &count, &place) == known && place == 0);
+    EXPECT(known == MFER_OK || count == 0);
+    place = UNSET;
     memset(out, 0xA5, room * sizeof *out);
     refusal = mfer_walk_samples(file, file_len, walk, channel, first, out, room, &count, &place);
     EXPECT(place == 0 && count <= room);
@@ -980,14 +1175,14 @@ static void expect_safe(const uint8_t *file, size_t file_len, const uint64_t *wa
 
 /*
  * All samples by the walk's questions for each channel, channel after channel: as many as fit in a buffer
- * with this room, or the refusal. Of a channel without samples they do not tell whether it is refused;
+ * with this room, or the refusal. Of a channel with no sample there they do not tell whether it is refused;
  * then *certain is 0.
  */
 static uint32_t channel_by_channel(const uint8_t *file, size_t file_len, const uint64_t *walk,
                                    uint64_t *out, size_t room, size_t *samples, int *certain)
 {
     int64_t numbers[MFER_NUMBERS];
-    uint64_t bits[2], below, place, count;
+    uint64_t bits[2], below, place, there, count;
     uint32_t channel = 0, refusal;
 
     *samples = 0;
@@ -1000,7 +1195,8 @@ static uint32_t channel_by_channel(const uint8_t *file, size_t file_len, const u
                                     &count, &place);
         if (refusal == MFER_NO_FRAME)
             return MFER_NO_FRAME;
-        if (refusal == MFER_NO_SAMPLE)
+        EXPECT(mfer_walk_samples_there(walk, channel, &there, &place) == MFER_OK);
+        if (there == 0)
             *certain = 0;
         *samples += (size_t)count;
         channel++;
@@ -1117,6 +1313,7 @@ static void canonical_length(void)
     expect_canonical_length(P2, sizeof P2, MFER_OK, sizeof P2_CANONICAL, 0);
     expect_canonical_length(P2_CANONICAL, sizeof P2_CANONICAL, MFER_OK, sizeof P2_CANONICAL, 0);
     expect_canonical_length(P6, sizeof P6, MFER_CHANNEL_NUMBER, 0, 3);
+    expect_canonical_length(P9, sizeof P9, MFER_OK, 67, 0);
     EXPECT(mfer_canonical_length(FLOATS, sizeof FLOATS, &length, &place) == MFER_OK);
     EXPECT(length <= sizeof out);
     EXPECT(mfer_canonical(FLOATS, sizeof FLOATS, out, (size_t)length, &written, &place) == MFER_OK);
@@ -1201,6 +1398,29 @@ static void expect_made(const struct making *m, const uint8_t *expected, size_t 
     expect_make_refusal(m, length - 1, MFER_NO_ROOM);
     expect_make_refusal(m, 0, MFER_NO_ROOM);
     EXPECT(make(m, NULL, 0, &written) == MFER_NO_ROOM);
+}
+
+/* The canonical file has the declared sequences and the samples there; without one it has 1E 00. */
+static void canonical_of_cut_files(void)
+{
+    static const uint8_t none[] = {0x06, 1, 2, 0x1E, 1, 9};
+    static const uint8_t sequences[] = {0x06, 4, 0, 0, 0, 2}, one[] = {0x1E, 2, 0, 5}, empty[] = {0x1E, 0};
+    uint8_t out[80], again[80];
+    uint64_t written = UNSET, place = UNSET;
+
+    EXPECT(mfer_canonical(P9, sizeof P9, out, sizeof out, &written, &place) == MFER_OK);
+    EXPECT(written == 67 && memcmp(out + 9, sequences, sizeof sequences) == 0);
+    EXPECT(memcmp(out + 63, one, sizeof one) == 0);
+    EXPECT(mfer_canonical(out, 67, again, 67, &written, &place) == MFER_OK);
+    EXPECT(written == 67 && memcmp(again, out, 67) == 0);
+    expect_no_data(out, 67, 0, 0, 1);
+    expect_canonical_refusal(P9, sizeof P9, 66, MFER_NO_ROOM, 0);
+
+    EXPECT(mfer_canonical(none, sizeof none, out, sizeof out, &written, &place) == MFER_OK);
+    EXPECT(written == 65 && memcmp(out + 9, sequences, sizeof sequences) == 0);
+    EXPECT(memcmp(out + 63, empty, sizeof empty) == 0);
+    expect_no_data(out, 65, 0, 0, 0);
+    expect_no_data(out, 65, 0, 0, 1);
 }
 
 /* Rows of channels, which a test may change. */
@@ -1473,6 +1693,24 @@ static void make_again(const uint8_t *file, size_t file_len)
     free(out);
 }
 
+/* What was read of a frame whose samples are not all there cannot be handed back: of fewer sequences a frame
+   is made. */
+static void make_what_was_cut(void)
+{
+    static const uint8_t samples[] = {0, 5};
+    int64_t numbers[MFER_NUMBERS];
+    uint64_t bits[2], place, written;
+    uint8_t out[MFER_MAKE_ROOM(1, sizeof samples)];
+    struct making m = {0, 0, 1, NULL, MFER_NUMBERS, NULL, 2, samples, sizeof samples};
+    m.numbers = numbers;
+    m.bits = bits;
+    EXPECT(mfer_attributes(P9, sizeof P9, 0, 0, numbers, bits, &place) == MFER_OK);
+    m.sequences = (uint64_t)numbers[MFER_NUMBER_SEQUENCES];
+    expect_make_refusal(&m, sizeof out, MFER_SAMPLES_LENGTH);
+    m.sequences = samples_there(P9, sizeof P9, 0, 0);
+    EXPECT(make(&m, out, sizeof out, &written) == MFER_OK);
+}
+
 static void make_what_was_read(void)
 {
     static const uint8_t p3[] = {0x1E, 0x00};
@@ -1565,17 +1803,19 @@ static void words_of_refusals(void)
     EXPECT(same(mfer_words(UINT32_MAX), "unknown refusal"));
     EXPECT(same(mfer_words(8), "channel number not below the channel count"));
     EXPECT(same(mfer_words(MFER_NO_FRAME), "no such frame"));
+    EXPECT(strncmp(mfer_words(14), "retired, no longer given: ", 26) == 0);
 #undef EXPECTED
 }
 
 static void names_of_kinds(void)
 {
-    static const char *const names[] = {"whole", "status", "single", "double", "not-a-number", "null"};
+    static const char *const names[] = {"whole", "status", "single", "double", "not-a-number", "null", "no data"};
     uint32_t i;
     for (i = 0; i < 1000; i++)
         EXPECT(same(mfer_kind_name(i), i < SIZE(names) ? names[i] : "unknown kind"));
     EXPECT(same(mfer_kind_name(UINT32_MAX), "unknown kind"));
     EXPECT(same(mfer_kind_name(MFER_NULL), "null"));
+    EXPECT(same(mfer_kind_name(MFER_NO_DATA), "no data"));
 }
 
 static void version(void)
@@ -1614,9 +1854,12 @@ int main(int argc, char **argv)
     run("one_sample", one_sample);
     run("samples_in_bulk", samples_in_bulk);
     run("values_in_bulk", values_in_bulk);
+    run("samples_not_there", samples_not_there);
     run("walk_tells_the_same", walk_tells_the_same);
+    run("waveforms_cut_after_each_octet", waveforms_cut_after_each_octet);
     run("walk_numbers", walk_numbers);
     run("walk_values", walk_values);
+    run("walk_to_samples_not_there", walk_to_samples_not_there);
     run("walk_frame", walk_frame);
     run("walk_over_the_most_frames", walk_over_the_most_frames);
     run("walk_copied", walk_copied);
@@ -1625,6 +1868,7 @@ int main(int argc, char **argv)
     run("walk_with_one_word_changed", walk_with_one_word_changed);
     run("canonical_length", canonical_length);
     run("canonical", canonical);
+    run("canonical_of_cut_files", canonical_of_cut_files);
     run("make_p2", make_p2);
     run("make_numbers", make_numbers);
     run("make_frame_numbers", make_frame_numbers);
@@ -1632,6 +1876,7 @@ int main(int argc, char **argv)
     run("make_bits", make_bits);
     run("make_samples", make_samples);
     run("make_what_was_read", make_what_was_read);
+    run("make_what_was_cut", make_what_was_cut);
     run("made_files", made_files);
     run("words_of_refusals", words_of_refusals);
     run("names_of_kinds", names_of_kinds);

@@ -85,6 +85,7 @@ start() {
     printf '01 01 00 05 04 00 00 %s 06 %s 07 04 00 00 00 00' "$1" "$2"
 }
 once="04 00 00 00 01"
+twice="04 00 00 00 02"
 
 hex P1 "" ""
 canonical="01 01 00 05 04 00 00 00 02 06 04 00 00 00 01 07 04 00 00 00 00 \
@@ -99,10 +100,12 @@ hex P5 "3F 00 03 0A 01 03 1E 02 00 09" "$(start "00 01" "$once") $(words 00 01) 
 refuse P6 "05 01 02 3F 02 00" "refused 8 at 3"
 refuse P7 "0A 80" "refused 2 at 0"
 refuse P8 "3F 00 80" "refused 10 at 0"
-refuse P9 "06 01 02 1E 02 00 05" "refused 14 at 3"
+hex P9 "06 01 02 1E 02 00 05" "$(start "00 01" "$twice") $(words 00 01) 1E 02 00 05"
 refuse P10 "0D 01 01 1E 02 00 05" "refused 12 at 3"
 hex P11 "05 02 01 00 3F 81 7F 03 0A 01 03" ""
 hex "one surplus octet" "1E 03 00 01 02" "$(start "00 01" "$once") $(words 00 01) 1E 02 00 01"
+hex "half a sample" "06 01 02 1E 01 09" "$(start "00 01" "$twice") $(words 00 01) 1E 00"
+hex "a sample and a half, little-endian" "01 01 01 06 01 02 1E 03 05 00 09" "$(start "00 01" "$twice") $(words 00 01) 1E 02 00 05"
 
 hex "every attribute, little-endian" "01 01 01 05 01 01 07 02 FE FF 08 01 07 09 02 34 12 0A 01 02 0B 03 01 FD 05 0C 04 02 01 10 00 \
 0D 04 78 56 34 12 12 04 FF FF FF FF 1E 04 04 03 02 01" "01 01 00 05 04 00 00 00 01 06 04 00 00 00 01 07 04 FF FF FF FE \

@@ -85,6 +85,25 @@ pub fn eight_channels() -> Vec<u8> {
     file
 }
 
+/// Two frames of twelve channels of two octets with blocks of one, each declared to have half the octets of a
+/// big frame. The second ends in its middle, one octet into a sample.
+pub fn cut_off(order: Order) -> Vec<u8> {
+    let sequences = WAVEFORM / 2 / 24;
+    let mut file = vec![0x01, 1, 0, 0x05, 1, 12, 0x06, 4];
+    file.extend((sequences as u32).to_be_bytes());
+    file.extend([0x01, 1, (order == Order::Little).into()]);
+    waveform(&mut file, 24 * sequences);
+    waveform(&mut file, 24 * (sequences / 2) + 2 * 7 + 1);
+    file
+}
+
+/// Four octets of a frame that declares as many sequences of as many channels as there may be.
+pub fn declared() -> Vec<u8> {
+    let mut file = vec![0x05, 2, 1, 0, 0x06, 4, 0xFF, 0xFF, 0xFF, 0xFF];
+    waveform(&mut file, 4);
+    file
+}
+
 /// Items that are stepped over, of a few octets each.
 pub fn unknown_items(count: usize) -> Vec<u8> {
     let items: [&[u8]; 4] = [

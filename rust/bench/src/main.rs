@@ -129,6 +129,8 @@ fn run(course: &mut Course) {
     values(course);
     long_make(course);
     short_makes(course);
+    cut_off(course);
+    declared(course);
 }
 
 fn checks(course: &mut Course) {
@@ -273,21 +275,7 @@ fn short_canonicals(course: &mut Course) {
             SHORT_OF_TWELVE,
         ),
     ] {
-        let Some(row) = course.row(what, Against::Second, Some(bar)) else {
-            continue;
-        };
-        let file = files::set_once(channels, 1);
-        let written = mfer::File::new(&file).canonical_vec();
-        let length = written.expect("an accepted file").len();
-        course.with_buffers(
-            row,
-            || vec![0; length],
-            |out| {
-                let filled = ffi::canonical(black_box(&file), out);
-                assert_eq!((filled.number, filled.count), (0, length as u64));
-            },
-            |out| assert_eq!(writer::canonical(black_box(&file), out), Ok(length)),
-        );
+        canonical(course, what, Some(bar), || files::set_once(channels, 1));
     }
 }
 
@@ -490,6 +478,95 @@ fn short_makes(course: &mut Course) {
         || vec![0; frames.len()],
         |out| _ = each_frame(out, proved),
         |out| _ = each_frame(out, other),
+    );
+}
+
+/// A recording that was cut off in the middle of its last frame.
+fn cut_off(course: &mut Course) {
+    for (what, order) in [
+        ("canonical: cut off, big-endian", Order::Big),
+        ("canonical: cut off, little-endian", Order::Little),
+    ] {
+        let build = || files::cut_off(order);
+        canonical(course, what, Some(SECOND), build);
+    }
+    let what = "bulk: one of 12 channels, cut off";
+    bulk(course, what, Some(SECOND), (1, 7), || {
+        files::cut_off(Order::Big)
+    });
+}
+
+/// A frame of four octets in which far more samples are declared than there are.
+fn declared(course: &mut Course) {
+    check(
+        course,
+        "check: 4 octets, 2^40 samples declared",
+        None,
+        files::declared,
+    );
+    canonical(
+        course,
+        "canonical: 4 octets, 2^40 samples declared",
+        None,
+        files::declared,
+    );
+    bulk(
+        course,
+        "bulk: 4 octets, 2^40 samples declared",
+        None,
+        (0, 1),
+        files::declared,
+    );
+}
+
+/// The canonical file of an accepted one beside the second program's.
+fn canonical(
+    course: &mut Course,
+    what: &'static str,
+    bar: Option<f64>,
+    build: impl Fn() -> Vec<u8>,
+) {
+    let Some(row) = course.row(what, Against::Second, bar) else {
+        return;
+    };
+    let file = build();
+    let written = mfer::File::new(&file).canonical_vec();
+    let length = written.expect("an accepted file").len();
+    course.with_buffers(
+        row,
+        || vec![0; length],
+        |out| {
+            let filled = ffi::canonical(black_box(&file), out);
+            assert_eq!((filled.number, filled.count), (0, length as u64));
+        },
+        |out| assert_eq!(writer::canonical(black_box(&file), out), Ok(length)),
+    );
+}
+
+/// The samples there of a channel in a frame beside the second program's; some declared ones are not.
+fn bulk(
+    course: &mut Course,
+    what: &'static str,
+    bar: Option<f64>,
+    (frame, channel): (u32, u32),
+    build: impl Fn() -> Vec<u8>,
+) {
+    let Some(row) = course.row(what, Against::Second, bar) else {
+        return;
+    };
+    let file = build();
+    let there = reader::there(&file, frame, channel).expect("an accepted file");
+    course.with_buffers(
+        row,
+        || vec![0; there as usize + 1],
+        |out| {
+            let filled = ffi::samples(black_box(&file), frame, channel, 0, out);
+            assert_eq!(filled.count, there);
+        },
+        |out| {
+            let filled = reader::samples(black_box(&file), frame, channel, 0, out);
+            assert_eq!(filled, Ok(there as usize));
+        },
     );
 }
 

@@ -1,7 +1,9 @@
 //! The frames that both makers are asked for, and what has to be read of them.
 
-use crate::questions::{ask, expected_check, expected_count, rewrites_itself, same, Agreed};
-use crate::questions::{BEFORE_FRAMES, OCTET};
+use crate::questions::{
+    ask, expected_check, expected_count, expected_there, rewrites_itself, same,
+};
+use crate::questions::{Agreed, BEFORE_FRAMES, OCTET};
 use crate::run::{Case, Outcome};
 use mfer::ffi::{self, Described, Filled, Seen, Stepped, Walk};
 use second::inputs::{good_input, Input};
@@ -127,6 +129,9 @@ fn ask_read_back(file: &[u8], walk: &mut Walk, input: &Input, end: usize) -> Agr
         let question = || format!("channel {channel}");
         let seen = ffi::walk_channel(walk, channel);
         same(question, seen, Seen { described, below })?;
+        let there = ffi::walk_samples_there(walk, channel);
+        let all = input.sequences * numbers[number::BLOCK] as u64;
+        same(question, there, expected_there(&Ok(all)))?;
         below += (numbers[number::BLOCK] * numbers[number::WIDTH]) as u64;
     }
     let length = input.samples.len();

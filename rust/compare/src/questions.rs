@@ -3,12 +3,13 @@
 use crate::run::{Case, Outcome};
 use mfer::ffi::{self, Checked, Described, Filled, Sampled, Seen, Stepped, Walk};
 use second::inputs::in_file_order;
-use second::maker::number;
+use second::maker::{number, Numbers, Pair};
 use second::reader::{self, Attributes, Met, Refusal, Series, Value};
 use second::shrink::{hex, shrink};
 use second::writer;
 use std::collections::BTreeSet;
 use std::fmt::Debug;
+use std::ops::Range;
 
 /// What buffers hold before a question.
 pub(crate) const OCTET: u8 = 0xA5;
@@ -37,8 +38,15 @@ impl Case for Vec<u8> {
     }
 
     fn outcome(&self) -> Outcome {
-        match reader::check(self) {
+        let mut cut_off = false;
+        let checked = reader::frames(self, |_, channels| {
+            cut_off |= channels
+                .iter()
+                .any(|series| series.there() < series.samples());
+        });
+        match checked {
             Ok(0) => Outcome::WithoutFrames,
+            Ok(_) if cut_off => Outcome::CutOff,
             Ok(_) => Outcome::WithFrames,
             Err(refusal) => Outcome::Refused(refusal.number),
         }
@@ -103,7 +111,7 @@ fn numbers(count: u64) -> Vec<u64> {
     numbers
 }
 
-/// Attributes and samples of one channel.
+/// Attributes, the number of samples there, and samples of one channel.
 fn ask_channel(file: &[u8], frame: u32, channel: u32) -> Agreed {
     let read = reader::attributes(file, frame, channel);
     same(
@@ -111,7 +119,13 @@ fn ask_channel(file: &[u8], frame: u32, channel: u32) -> Agreed {
         ffi::attributes(file, frame, channel),
         expected_attributes(&read),
     )?;
-    let Ok(read) = read else {
+    let there = reader::there(file, frame, channel);
+    same(
+        || format!("samples there of frame {frame}, channel {channel}"),
+        ffi::samples_there(file, frame, channel),
+        expected_there(&there),
+    )?;
+    let (Ok(read), Ok(there)) = (read, there) else {
         ask_sample(file, frame, channel, 0)?;
         ask_sample(file, frame, channel, u64::MAX)?;
         ask_samples(file, frame, channel, 0, 0)?;
@@ -123,6 +137,7 @@ fn ask_channel(file: &[u8], frame: u32, channel: u32) -> Agreed {
     let count = block * u64::from(read.sequences);
     let mut asked = numbers(count);
     asked.extend([block - 1, block, 1 << 32, u64::MAX]);
+    asked.extend([there.saturating_sub(1), there, there + 1]);
     for number in asked {
         ask_sample(file, frame, channel, number)?;
     }
@@ -132,6 +147,10 @@ fn ask_channel(file: &[u8], frame: u32, channel: u32) -> Agreed {
         (1, 3),
         (block, count.min(BULK) + 3),
         (count / 2, block.min(BULK)),
+        (there.saturating_sub(1), 3),
+        (there, 2),
+        (there, 0),
+        (there + 1, 2),
         (count.saturating_sub(1), 2),
         (count, 2),
         (u64::MAX, 1),
@@ -149,9 +168,10 @@ fn ask_channel(file: &[u8], frame: u32, channel: u32) -> Agreed {
 fn ask_sample(file: &[u8], frame: u32, channel: u32, number: u64) -> Agreed {
     let sampled = reader::sample(file, frame, channel, number);
     let mut bits = [0];
-    if sampled.is_ok() {
+    if let Ok((_, value)) = sampled {
         let count = reader::samples(file, frame, channel, number, &mut bits);
-        same(|| "the second program's bits".into(), count, Ok(1))?;
+        let there = usize::from(value != Value::NoData);
+        same(|| "the second program's bits".into(), count, Ok(there))?;
     }
     same(
         || format!("sample {number} of frame {frame}, channel {channel}"),
@@ -256,6 +276,8 @@ fn ask_no_channel(file: &[u8], walk: &Walk, channel: u32, refusal: Refusal) -> A
     let question = || format!("channel {channel} by the walk");
     let expected = expected_channel(Err(refusal));
     same(question, ffi::walk_channel(walk, channel), expected)?;
+    let there = ffi::walk_samples_there(walk, channel);
+    same(question, there, expected_there(&Err(refusal)))?;
     let mut bits = [PATTERN];
     let answer = ffi::walk_samples(file, walk, channel, 0, &mut bits);
     same(question, answer, expected_count(&Err(refusal)))?;
@@ -289,9 +311,11 @@ fn ask_frame(file: &[u8], walk: &mut Walk, number: u32, met: Met, channels: &[Se
         let question = || format!("frame {number}, channel {channel} by the walk");
         let seen = ffi::walk_channel(walk, channel);
         same(question, seen, expected_channel(Ok(series)))?;
+        let there = ffi::walk_samples_there(walk, channel);
+        same(question, there, expected_there(&Ok(series.there())))?;
         ask_series(file, walk, channel, series, question)?;
     }
-    let count = channels.iter().map(Series::samples).sum::<u64>() as usize;
+    let count = channels.iter().map(Series::there).sum::<u64>() as usize;
     let rooms = [0, 1, count / 2, count.saturating_sub(1), count, count + 3];
     for room in BTreeSet::from(rooms) {
         let question = || format!("all samples of frame {number}, room for {room}");
@@ -321,7 +345,8 @@ fn same_frame(
     same(&question, proved, expected)
 }
 
-/// All samples of a channel by the walk, as bits and as values: three, then as many as are read in one go, to the end.
+/// All samples of a channel by the walk, as bits and as values: three, then as many as are read in one go, to
+/// the last one there; then from samples that are not there.
 fn ask_series(
     file: &[u8],
     walk: &Walk,
@@ -329,26 +354,47 @@ fn ask_series(
     series: &Series,
     question: impl Fn() -> String,
 ) -> Agreed {
+    let ask = |first, room| ask_piece(file, walk, channel, series, first, room, &question);
     let (mut first, mut room) = (0, 3);
-    loop {
-        let (mut proved, mut second) = (vec![PATTERN; room], vec![PATTERN; room]);
-        let answer = ffi::walk_samples(file, walk, channel, first, &mut proved);
-        let expected = series.read(first, &mut second);
-        let question = || format!("samples from {first}, {}", question());
-        same(question, answer, expected_count(&expected))?;
-        same(question, proved, second)?;
-        same_values(
-            || format!("values, {}", question()),
-            [room, room + 1],
-            |kinds, wholes| ffi::walk_values(file, walk, channel, first, kinds, wholes),
-            |values| series.values(first, values),
-        )?;
-        let Ok(count) = expected else {
-            return Ok(());
-        };
+    while let Some(count @ 1..) = ask(first, room)? {
         first += count as u64;
         room = BULK as usize;
     }
+    same(&question, first, series.there())?;
+    let declared = series.samples();
+    for first in [first, first + 1, declared / 2, declared.saturating_sub(1)] {
+        ask(first, 0)?;
+        ask(first, 2)?;
+    }
+    for first in [declared, u64::MAX] {
+        same(&question, ask(first, 2)?, None)?;
+    }
+    Ok(())
+}
+
+/// Samples of a channel by the walk from `first` on, as bits and as values: how many, if they are not refused.
+fn ask_piece(
+    file: &[u8],
+    walk: &Walk,
+    channel: u32,
+    series: &Series,
+    first: u64,
+    room: usize,
+    question: impl Fn() -> String,
+) -> Result<Option<usize>, String> {
+    let (mut proved, mut second) = (vec![PATTERN; room], vec![PATTERN; room]);
+    let answer = ffi::walk_samples(file, walk, channel, first, &mut proved);
+    let expected = series.read(first, &mut second);
+    let question = || format!("samples from {first}, {}", question());
+    same(question, answer, expected_count(&expected))?;
+    same(question, proved, second)?;
+    same_values(
+        || format!("values, {}", question()),
+        [room, room + 1],
+        |kinds, wholes| ffi::walk_values(file, walk, channel, first, kinds, wholes),
+        |values| series.values(first, values),
+    )?;
+    Ok(expected.ok())
 }
 
 /// The canonical file's length, and the file in buffers that are too short, exact and longer.
@@ -364,7 +410,7 @@ fn ask_canonical(file: &[u8], frames: u32) -> Agreed {
             let expected = expected_check(&Ok(frames));
             same(|| "check of the canonical file".into(), written, expected)?;
             rewrites_itself(&canonical)?;
-            ask_made_again(file, &canonical)?;
+            ask_recording(file, &canonical)?;
             canonical.len()
         }
         Err(_) => 70,
@@ -389,47 +435,112 @@ pub(crate) fn rewrites_itself(canonical: &[u8]) -> Agreed {
     same(question, &again[..], canonical)
 }
 
-/// The canonical file once more, each frame made from what a walk tells of it.
-fn ask_made_again(file: &[u8], canonical: &[u8]) -> Agreed {
-    let mut out = vec![OCTET; canonical.len()];
+/// The canonical file has the recording of the file, frame by frame of two walks, and is made again of it.
+fn ask_recording(file: &[u8], canonical: &[u8]) -> Agreed {
     let mut at = canonical.len().min(BEFORE_FRAMES.len());
-    out[..at].copy_from_slice(&BEFORE_FRAMES[..at]);
-    let mut walk = [PATTERN; ffi::WALK];
+    same(
+        || "canonical, ahead of the frames".into(),
+        &canonical[..at],
+        &BEFORE_FRAMES[..at],
+    )?;
+    let (mut walk, mut written) = ([PATTERN; ffi::WALK], [PATTERN; ffi::WALK]);
     ffi::walk_open(file, &mut walk);
-    loop {
-        let stepped = ffi::walk_next(file, &mut walk);
-        if stepped.number != 0 {
-            break;
-        }
-        let answer = made_again(file, &walk, &stepped, &mut out[at..]);
-        let question = || "a frame made again".into();
-        same(question, (answer.number, answer.place), (0, 0))?;
-        at += answer.count as usize;
+    ffi::walk_open(canonical, &mut written);
+    while let Some((told, _)) = Told::next(file, &mut walk) {
+        let question = || "a frame of the canonical file".into();
+        let (again, waveform) = Told::next(canonical, &mut written).ok_or_else(question)?;
+        same(question, &again, &told)?;
+        ask_made_again(
+            &told,
+            &canonical[at..waveform.end],
+            &canonical[waveform.clone()],
+        )?;
+        at = waveform.end;
     }
-    same(|| "canonical, made again".into(), &out[..], canonical)
+    let question = || "the last frame of the canonical file".into();
+    same(question, at, canonical.len())?;
+    let behind = ffi::walk_next(canonical, &mut written).number;
+    same(question, behind, Refusal::NO_FRAME.into())
 }
 
-/// Makes the frame that a walk is at from its channels' rows and its samples.
-fn made_again(file: &[u8], walk: &Walk, stepped: &Stepped, out: &mut [u8]) -> Filled {
-    let [channels, sequences, ..] = stepped.frame;
-    let (mut numbers, mut bits, mut count) = (Vec::new(), Vec::new(), 0);
-    for channel in 0..channels as u32 {
-        let seen = ffi::walk_channel(walk, channel).described;
-        count += seen.numbers[number::BLOCK] as u64 * sequences;
-        numbers.push(seen.numbers);
-        bits.push(seen.bits);
+/// What a walk tells of a frame.
+#[derive(PartialEq, Debug)]
+struct Told {
+    start: i64,
+    sequences: u64,
+    numbers: Vec<Numbers>,
+    bits: Vec<Pair>,
+    /// How many samples of each channel are there, and those of all channels.
+    there: Vec<u64>,
+    samples: Vec<u64>,
+}
+
+impl Told {
+    /// The next frame of a walk, and where its waveform is.
+    fn next(file: &[u8], walk: &mut Walk) -> Option<(Told, Range<usize>)> {
+        let stepped = ffi::walk_next(file, walk);
+        let [channels, sequences, _, place, length, _] = stepped.frame;
+        let channels = 0..channels as u32;
+        let seen = channels
+            .clone()
+            .map(|channel| ffi::walk_channel(walk, channel).described);
+        let (numbers, bits) = seen.map(|seen| (seen.numbers, seen.bits)).unzip();
+        let mut samples = vec![PATTERN; length as usize];
+        let count = ffi::walk_frame(file, walk, &mut samples).count;
+        samples.truncate(count as usize);
+        let told = Told {
+            start: stepped.start,
+            sequences,
+            numbers,
+            bits,
+            there: channels
+                .map(|channel| ffi::walk_samples_there(walk, channel).count)
+                .collect(),
+            samples,
+        };
+        let waveform = place as usize..(place + length) as usize;
+        (stepped.number == 0).then_some((told, waveform))
     }
-    let mut samples = vec![PATTERN; count as usize];
-    ffi::walk_frame(file, walk, &mut samples);
-    ffi::make_frame(
-        stepped.start,
-        sequences,
-        channels,
-        numbers.as_flattened(),
-        bits.as_flattened(),
-        &in_file_order(sequences, &numbers, &samples),
-        out,
-    )
+
+    fn is_whole(&self) -> bool {
+        let mut channels = self.numbers.iter().zip(&self.there);
+        channels.all(|(numbers, there)| numbers[number::BLOCK] as u64 * self.sequences == *there)
+    }
+}
+
+/// The frame of the canonical file is made of what is told of it, if all samples are there; else no frame is
+/// made.
+fn ask_made_again(told: &Told, frame: &[u8], waveform: &[u8]) -> Agreed {
+    let mut out = vec![OCTET; frame.len()];
+    let whole = told.is_whole();
+    let samples = match whole {
+        true => in_file_order(told.sequences, &told.numbers, &told.samples),
+        false => waveform.to_vec(),
+    };
+    let answer = ffi::make_frame(
+        told.start,
+        told.sequences,
+        told.numbers.len() as u64,
+        told.numbers.as_flattened(),
+        told.bits.as_flattened(),
+        &samples,
+        &mut out,
+    );
+    let question = || "a frame made again".into();
+    match whole {
+        true => {
+            same(question, answer, expected_count(&Ok(frame.len())))?;
+            same(question, &out[..], frame)
+        }
+        false => {
+            let refusal = Refusal {
+                number: Refusal::SAMPLES_LENGTH,
+                place: 0,
+            };
+            same(question, answer, expected_count(&Err(refusal)))?;
+            same(question, out, vec![OCTET; frame.len()])
+        }
+    }
 }
 
 /// The second program's canonical file, in a buffer of its length.
@@ -469,6 +580,10 @@ pub(crate) fn expected_count(answer: &Result<usize, Refusal>) -> Filled {
     }
 }
 
+pub(crate) fn expected_there(answer: &Result<u64, Refusal>) -> Filled {
+    expected_count(&answer.map(|count| count as usize))
+}
+
 fn expected_attributes(answer: &Result<Attributes, Refusal>) -> Described {
     match answer {
         Ok(read) => {
@@ -505,6 +620,7 @@ fn told(value: &Value) -> (u8, i64) {
         Value::Double(_) => (3, 0),
         Value::NotNumber(_) => (4, 0),
         Value::Null => (5, 0),
+        Value::NoData => (6, 0),
     }
 }
 

@@ -37,8 +37,10 @@ pub trait Case: Sized {
 pub enum Outcome {
     /// A file was accepted that has no frames.
     WithoutFrames,
-    /// A file was accepted that has frames.
+    /// A file was accepted that has frames and all their samples.
     WithFrames,
+    /// A file was accepted whose samples are not all there.
+    CutOff,
     /// A frame was made, or a file of frames.
     Made,
     /// It was refused with this number.
@@ -51,6 +53,7 @@ pub struct Tally {
     name: &'static str,
     pub without_frames: u64,
     pub with_frames: u64,
+    pub cut_off: u64,
     pub made: u64,
     /// Refused cases by number.
     pub refused: [u64; 26],
@@ -68,6 +71,7 @@ impl Tally {
         *match outcome {
             Outcome::WithoutFrames => &mut self.without_frames,
             Outcome::WithFrames => &mut self.with_frames,
+            Outcome::CutOff => &mut self.cut_off,
             Outcome::Made => &mut self.made,
             Outcome::Refused(number) => &mut self.refused[usize::from(number)],
         } += 1;
@@ -76,6 +80,7 @@ impl Tally {
     fn add(&mut self, other: &Tally) {
         self.without_frames += other.without_frames;
         self.with_frames += other.with_frames;
+        self.cut_off += other.cut_off;
         self.made += other.made;
         for (count, more) in self.refused.iter_mut().zip(other.refused) {
             *count += more;
@@ -85,7 +90,7 @@ impl Tally {
     /// All cases.
     pub fn cases(&self) -> u64 {
         let refused: u64 = self.refused.iter().sum();
-        self.without_frames + self.with_frames + self.made + refused
+        self.without_frames + self.with_frames + self.cut_off + self.made + refused
     }
 }
 
@@ -93,6 +98,7 @@ impl fmt::Display for Tally {
     fn fmt(&self, f: &mut fmt::Formatter<'_>) -> fmt::Result {
         let counts = [
             (self.with_frames, "with frames"),
+            (self.cut_off, "cut off"),
             (self.without_frames, "without frames"),
             (self.made, "made"),
         ];

@@ -2,10 +2,11 @@
 //! program's tests say of them is not said again.
 
 use compare::{all_same, difference, make, Case, Joined};
-use mfer::{ffi, File, Refusal};
+use mfer::{ffi, File, Refusal, Value};
 use second::inputs::Input;
 use second::papers::{octets, P3};
 use std::env;
+use std::time::{Duration, Instant};
 
 fn check(octets: &[u8]) -> Result<u32, (u32, u64)> {
     let answer = File::new(octets).check();
@@ -59,14 +60,70 @@ fn sequences_4294967295() {
     // One octet a sequence, and at the other end 2^31 octets a sequence: the sum is below 2^63.
     let small = "06 04 FF FF FF FF 0A 01 03 1E 01 00";
     let large = "05 02 01 00 04 03 10 00 00 0A 01 08 06 04 FF FF FF FF 1E 01 00";
-    assert_eq!(check(&octets(small)), Err((14, 9)));
-    assert_eq!(check(&octets(large)), Err((14, 18)));
-    same_on(&[small, large, "06 04 00 00 00 00 1E 00", "06 04 FF FF FF FF"]);
-    assert_eq!(check(&octets("06 04 FF FF FF FF")), Ok(0));
     // 2^31 sequences of two octets are 2^32, which is no 0.
     let wrapped = "06 04 80 00 00 00 1E 01 00";
-    assert_eq!(check(&octets(wrapped)), Err((14, 6)));
-    same_on(&[wrapped]);
+    for (file, there) in [(small, 1), (large, 0), (wrapped, 0)] {
+        let octets = octets(file);
+        assert_eq!(check(&octets), Ok(1));
+        assert_eq!(File::new(&octets).samples_there(0, 0), Ok(there));
+    }
+    same_on(&[
+        small,
+        large,
+        wrapped,
+        "06 04 00 00 00 00 1E 00",
+        "06 04 FF FF FF FF",
+    ]);
+    assert_eq!(check(&octets("06 04 FF FF FF FF")), Ok(0));
+}
+
+/// Four octets of a waveform that declares 4,294,967,295 sequences of 256 channels, with blocks of one and with
+/// the longest: what is asked of it costs what its octets cost.
+#[test]
+fn far_more_declared_than_there() {
+    let short = "05 02 01 00 06 04 FF FF FF FF 1E 04 00 01 00 02";
+    let long = "05 02 01 00 04 03 10 00 00 0A 01 08 06 04 FF FF FF FF 1E 04 00 01 00 02";
+    let octet = "05 02 01 00 04 03 10 00 00 0A 01 03 06 04 FF FF FF FF 1E 04 00 01 00 02";
+    same_on(&[short, long, octet]);
+    let started = Instant::now();
+    for file in [short, long, octet].map(octets) {
+        for _ in 0..200 {
+            asked_at_once(&file);
+        }
+    }
+    let took = started.elapsed();
+    assert!(took < Duration::from_secs(10), "{took:?}");
+}
+
+/// Every question on a file of one frame and 256 channels.
+fn asked_at_once(octets: &[u8]) {
+    let file = File::new(octets);
+    assert_eq!(file.check(), Ok(1));
+    let canonical = file.canonical_vec().unwrap();
+    assert!(canonical.len() < 20_000);
+    assert_eq!(File::new(&canonical).canonical_vec(), Ok(canonical.clone()));
+    let declared = file.attributes(0, 255).unwrap().samples();
+    assert_eq!(file.samples_there(0, 255), Ok(0));
+    let mut bits = [9; 8];
+    assert_eq!(file.samples(0, 255, declared - 1, &mut bits), Ok(0));
+    assert_eq!(bits, [9; 8]);
+    let refusal = file.samples(0, 255, declared, &mut bits).unwrap_err();
+    assert_eq!(refusal.number, Refusal::NO_SAMPLE);
+    assert_eq!(
+        file.sample(0, 255, declared - 1).unwrap().value,
+        Value::NoData
+    );
+    let frame = file.frame(0).unwrap();
+    let there = frame.sample_count().unwrap();
+    assert!(there <= 4);
+    assert_eq!(frame.samples(&mut bits), Ok(there));
+    let channels = frame.channels().map(|channel| channel.unwrap());
+    assert_eq!(
+        channels
+            .map(|channel| channel.values().count())
+            .sum::<usize>(),
+        there
+    );
 }
 
 #[test]

@@ -11,24 +11,27 @@ mfer: checks medical waveform files (MFER), shows what they hold and makes them
       and the offset of the item that earned it; the file's name goes before it
       where there are several
   mfer show FILE [--frame F] [--settings]
-      frames and channels with their settings, or those of frame F alone;
-      --settings: as the text that mfer make takes
+      frames and channels with their settings, or those of frame F alone. Of
+      samples 'T of D' says that D are declared and T are there, as in a
+      recording that was cut off. --settings: as the text that mfer make takes
   mfer samples FILE --frame F --channel C [--csv]
       the raw values of a channel in a frame, one a line: whole numbers, status
       bits as 0x and four digits, 'null', and 'not-a-number' with its bits;
-      --csv: number,value
+      --csv: number,value. Where K samples are declared and not there, a last
+      line 'no data: K samples' says so
   mfer samples FILE --all [--frame F]
   mfer samples FILE --raw [--frame F]
       all samples of all frames, or of frame F, in file order: sequence after
       sequence, and in each the block of each channel; --all: the values, one a
-      line; --raw: big-endian octets
+      line, with a line 'no data: K samples' behind a frame of which K are not
+      there; --raw: big-endian octets, with that line on standard error
   mfer canonical IN OUT
       writes the canonical form of IN to OUT; OUT is replaced when all is
       written, so a failure leaves it as it was
   mfer make SETTINGS SAMPLES OUT [--raw]
       writes the file of the frames that SETTINGS describes to OUT, as canonical
       does. SAMPLES has the samples of all frames in file order, as values one a
-      line; --raw: as big-endian octets
+      line; --raw: as big-endian octets. A frame is made of all its samples
   mfer --help
   mfer --version
 

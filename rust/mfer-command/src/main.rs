@@ -6,6 +6,7 @@ mod arguments;
 mod canonical;
 mod failure;
 mod input;
+mod lacking;
 mod lines;
 mod make;
 mod names;

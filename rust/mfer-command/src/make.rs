@@ -51,7 +51,12 @@ fn lengths(described: &Described, found: usize) -> String {
         true => format!("expected a multiple of {octets} octets, found {found}"),
         false => {
             let sequences = described.settings.sequences;
-            format!("expected {sequences} times {octets} octets, found {found}")
+            // A file whose samples are not all there can be taken apart, but is not made again so.
+            let hint = match u128::from(sequences) * u128::from(octets) > found as u128 {
+                true => "; a frame is made of all its samples: take fewer sequences",
+                false => "",
+            };
+            format!("expected {sequences} times {octets} octets, found {found}{hint}")
         }
     }
 }

@@ -3,10 +3,11 @@
 
 use crate::failure::Failure;
 use crate::input::{chosen, read, shown};
+use crate::lacking;
 use crate::progress::Progress;
 use crate::settings::{self, SETTINGS};
 use crate::table;
-use mfer::{Attributes, ChannelSettings, File, Frame, Refusal};
+use mfer::{Attributes, Channel, ChannelSettings, File, Frame, Refusal};
 use std::ffi::OsStr;
 use std::io::Write;
 
@@ -34,11 +35,11 @@ pub fn show(name: &OsStr, only: Option<u32>, out: &mut impl Write) -> Result<(),
     writeln!(out, "{}: {length}, {shown_count}", shown(name)).map_err(Failure::output)?;
     let mut progress = Progress::beside_output("showing frames");
     // The last frame whose table was written, and its channels.
-    let mut last: Option<(u32, Vec<Attributes>)> = None;
+    let mut last: Option<(u32, Vec<Read>)> = None;
     for frame in frames {
         let frame = frame.map_err(refused)?;
         progress.step(frame.number().into(), count);
-        let channels = attributes(&frame).map_err(refused)?;
+        let channels = channels(&frame).map_err(refused)?;
         let head = heading(&frame);
         match &last {
             Some((number, written)) if *written == channels => {
@@ -66,23 +67,39 @@ pub fn show_settings(name: &OsStr, only: Option<u32>, out: &mut impl Write) -> R
         let frame = frame.map_err(refused)?;
         progress.step(frame.number().into(), count);
         let settings = frame.settings().map_err(refused)?;
+        let note = note(&frame).map_err(refused)?;
         writer
-            .frame(out, frame.number(), settings)
+            .frame(out, frame.number(), settings, &note)
             .map_err(Failure::output)?;
     }
     Ok(())
 }
 
-/// What a table says of a frame's channels: all attributes but the start pointer.
-fn attributes(frame: &Frame) -> Result<Vec<Attributes>, Refusal> {
-    let attributes = |channel: mfer::Channel| Attributes {
-        start: 0,
-        ..*channel.attributes()
+/// What is said beside the sequences of a frame whose samples are not all there: no such frame is made.
+fn note(frame: &Frame) -> Result<String, Refusal> {
+    let whole = frame.waveform().len() as u64 / frame.sequence_octets();
+    Ok(match lacking::of_frame(frame)? {
+        0 => String::new(),
+        count => format!("  # {whole} whole, {}", lacking::words(count)),
+    })
+}
+
+/// What a table says of a channel: all attributes but the start pointer, and how many samples are there.
+#[derive(PartialEq)]
+struct Read {
+    attributes: Attributes,
+    there: u64,
+}
+
+fn channels(frame: &Frame) -> Result<Vec<Read>, Refusal> {
+    let read = |channel: Channel| Read {
+        attributes: Attributes {
+            start: 0,
+            ..*channel.attributes()
+        },
+        there: channel.samples_there(),
     };
-    frame
-        .channels()
-        .map(|channel| channel.map(attributes))
-        .collect()
+    frame.channels().map(|channel| channel.map(read)).collect()
 }
 
 fn heading(frame: &Frame) -> String {
@@ -92,11 +109,16 @@ fn heading(frame: &Frame) -> String {
     format!("frame {number}: start {start}, {channels}, {sequences}")
 }
 
-fn row((channel, read): (u32, &Attributes)) -> Row {
-    let settings = ChannelSettings::from(read);
+fn row((channel, read): (u32, &Read)) -> Row {
+    let Read { attributes, there } = read;
+    let settings = ChannelSettings::from(attributes);
     let [_, class, lead, data_type, interval, resolution, offset, null] =
         SETTINGS.map(|setting| (setting.write)(&settings));
-    let per_sequence = match read.block {
+    let samples = match attributes.samples() {
+        declared if declared > *there => format!("{there} of {declared}"),
+        declared => declared.to_string(),
+    };
+    let per_sequence = match attributes.block {
         1 => String::new(),
         block => format!(" ({block} a sequence)"),
     };
@@ -105,7 +127,7 @@ fn row((channel, read): (u32, &Attributes)) -> Row {
         class,
         lead,
         data_type,
-        format!("{}{per_sequence}", read.samples()),
+        format!("{samples}{per_sequence}"),
         interval,
         resolution,
         offset,

@@ -2,6 +2,7 @@
 
 use crate::failure::Failure;
 use crate::input::{Input, MOST};
+use crate::lacking;
 use crate::lines::{quoted, Lines};
 use crate::progress::Progress;
 use crate::values;
@@ -108,9 +109,13 @@ fn sample(
     }
     let expected = values::expected(data_type, null);
     let found = quoted(text);
-    let hint = match text.contains(|c: char| c.is_control() || c == char::REPLACEMENT_CHARACTER) {
-        true => "; octets are read with --raw",
-        false => "",
+    let is_octet = |c: char| c.is_control() || c == char::REPLACEMENT_CHARACTER;
+    let hint = match text {
+        _ if text.contains(is_octet) => "; octets are read with --raw",
+        _ if lacking::is_said(text) => {
+            "; a frame is made of all its samples: take fewer sequences, and leave this line out"
+        }
+        _ => "",
     };
     let words =
         format!("frame {frame}, channel {channel}: expected {expected}, found {found}{hint}");

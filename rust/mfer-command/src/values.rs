@@ -5,7 +5,8 @@ use std::io::{self, Write};
 use std::num::FpCategory;
 use std::ops::RangeInclusive;
 
-/// Writes a line. Every value of a channel is written so that [`bits`] tells the sample's bits.
+/// Writes a line. Every value of a channel is written so that [`bits`] tells the sample's bits; no data
+/// has none.
 pub fn write(out: &mut impl Write, value: Value) -> io::Result<()> {
     match value {
         Value::Whole(whole) => writeln!(out, "{whole}"),
@@ -14,7 +15,7 @@ pub fn write(out: &mut impl Write, value: Value) -> io::Result<()> {
         Value::Single(single) => writeln!(out, "{single:?}"),
         Value::Double(double) => writeln!(out, "{double:?}"),
         Value::NotNumber(bits) => writeln!(out, "{} 0x{bits:X}", value.kind()),
-        Value::Null => writeln!(out, "{}", value.kind()),
+        Value::Null | Value::NoData => writeln!(out, "{}", value.kind()),
     }
 }
 

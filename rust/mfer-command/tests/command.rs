@@ -119,6 +119,57 @@ fn show_of_many_frames_is_the_same() {
     assert_eq!(few[..], many[..few.len()]);
 }
 
+/// A recording that was cut off: two channels, the second of one octet with blocks of 2, and two frames of
+/// three sequences. The first has one and three quarters of them.
+const CUT: [u8; 38] = [
+    0x05, 1, 2, 0x06, 1, 3, 0x3F, 1, 6, 0x0A, 1, 3, 0x04, 1, 2, // the settings
+    0x1E, 7, 0, 1, 10, 11, 0, 2, 12, // the first frame
+    0x1E, 12, 0, 3, 13, 14, 0, 4, 15, 16, 0, 5, 17, 18,
+];
+
+/// Four octets of samples where 256 channels with blocks of 1,048,576 and 4,294,967,295 sequences are
+/// declared.
+const DECLARED: [u8; 21] = [
+    0x05, 2, 1, 0, 0x04, 3, 0x10, 0, 0, 0x06, 4, 0xFF, 0xFF, 0xFF, 0xFF, 0x1E, 4, 0, 1, 0, 2,
+];
+
+#[test]
+fn show_says_how_many_samples_are_there() {
+    let (out, error, status) = read(run_on(mfer().args(["show", "-"]), &CUT));
+    let table = "\
+standard input: 38 octets, 2 frames
+frame 0: start 0, 2 channels, 3 sequences
+  channel  class           lead            type             samples                interval  resolution  offset  null
+  0        0 unidentified  0 unidentified  signed 16 bits   2 of 3                 1000 Hz   1e-6 V      0x0000  none
+  1        0 unidentified  0 unidentified  unsigned 8 bits  3 of 6 (2 a sequence)  1000 Hz   1e-6 V      0x00    none
+frame 1: start 3, 2 channels, 3 sequences
+  channel  class           lead            type             samples           interval  resolution  offset  null
+  0        0 unidentified  0 unidentified  signed 16 bits   3                 1000 Hz   1e-6 V      0x0000  none
+  1        0 unidentified  0 unidentified  unsigned 8 bits  6 (2 a sequence)  1000 Hz   1e-6 V      0x00    none
+";
+    assert_eq!((out, error, status), (table.into(), "".into(), 0));
+    let (out, _, status) = read(run_on(mfer().args(["show", "-"]), &DECLARED));
+    assert_eq!((out.lines().count(), status), (3 + 256, 0));
+    assert!(out.contains(" 2 of 4503599626321920 (1048576 a sequence) "));
+    assert_eq!(out.matches(" 0 of 4503599626321920 (").count(), 255);
+}
+
+#[test]
+fn settings_say_how_many_sequences_are_whole() {
+    let sequences = |octets: &[u8]| -> Vec<String> {
+        let show = run_on(mfer().args(["show", "-", "--settings"]), octets);
+        let (out, error, status) = read(show);
+        assert_eq!((error.as_str(), status), ("", 0));
+        let lines = out.lines().filter(|line| line.contains("sequences"));
+        lines.map(String::from).collect()
+    };
+    let cut_off = "  sequences 3  # 1 whole, no data: 4 samples";
+    assert_eq!(sequences(&CUT), [cut_off, "  sequences 3"]);
+    let declared = "  sequences 4294967295  # 0 whole, no data: 1152921504338411518 samples";
+    assert_eq!(sequences(&DECLARED), [declared]);
+    assert_eq!(sequences(&P2), ["  sequences 1"]);
+}
+
 #[test]
 fn show_of_nothing_and_of_a_refused_file() {
     let (out, _, status) = read(run_on(mfer().args(["show", "-"]), &[]));
@@ -178,6 +229,79 @@ fn samples_of_all_channels() {
     let first = [0, 1, 0, 2, 0xFF, 0xFF];
     assert_eq!(raw(&["--frame=0"]).stdout, first);
     assert_eq!(raw(&[]).stdout, [first, [0, 1, 0, 2, 0, 3]].concat());
+}
+
+#[test]
+fn samples_of_a_recording_that_was_cut_off() {
+    for (octets, words, lines) in [
+        (
+            &CUT[..],
+            &["--frame", "0", "--channel", "0"][..],
+            "1\n2\nno data: 1 samples\n",
+        ),
+        (
+            &CUT,
+            &["--frame", "0", "--channel", "1"],
+            "10\n11\n12\nno data: 3 samples\n",
+        ),
+        (
+            &CUT,
+            &["--frame", "0", "--channel", "0", "--csv"],
+            "number,value\n0,1\n1,2\nno data: 1 samples\n",
+        ),
+        (&CUT, &["--frame", "1", "--channel", "0"], "3\n4\n5\n"),
+        (
+            &CUT,
+            &["--all"],
+            "1\n10\n11\n2\n12\nno data: 4 samples\n3\n13\n14\n4\n15\n16\n5\n17\n18\n",
+        ),
+        (
+            &DECLARED,
+            &["--frame", "0", "--channel", "0"],
+            "1\n2\nno data: 4503599626321918 samples\n",
+        ),
+        (
+            &DECLARED,
+            &["--frame", "0", "--channel", "255"],
+            "no data: 4503599626321920 samples\n",
+        ),
+        (
+            &DECLARED,
+            &["--all", "--frame", "0"],
+            "1\n2\nno data: 1152921504338411518 samples\n",
+        ),
+    ] {
+        let answer = samples(octets, words);
+        assert_eq!(answer, (lines.into(), "".into(), 0), "{words:?}");
+    }
+}
+
+/// Octets cannot say what is not there: it is said on standard error.
+#[test]
+fn octets_of_a_recording_that_was_cut_off() {
+    let raw = run_on(mfer().args(["samples", "-", "--raw"]), &CUT);
+    let (first, second) = (&CUT[17..24], &CUT[26..]);
+    assert_eq!(raw.stdout, [first, second].concat());
+    let said = "mfer: standard input: frame 0: no data: 4 samples\n";
+    assert_eq!(String::from_utf8(raw.stderr).unwrap(), said);
+    assert!(raw.status.success());
+    let raw = run_on(mfer().args(["samples", "-", "--raw"]), &DECLARED);
+    assert_eq!(raw.stdout, [0, 1, 0, 2]);
+}
+
+/// The canonical file has the same samples and lacks the same.
+#[test]
+fn canonical_of_a_recording_that_was_cut_off() {
+    for octets in [&CUT[..], &DECLARED] {
+        let canonical = run_on(mfer().args(["canonical", "-", "-"]), octets).stdout;
+        for words in [&["samples", "-", "--all"][..], &["show", "-", "--settings"]] {
+            let [ours, theirs] =
+                [octets, &canonical].map(|octets| read(run_on(mfer().args(words), octets)));
+            assert_eq!((&ours, ours.2), (&theirs, 0));
+        }
+        let again = run_on(mfer().args(["canonical", "-", "-"]), &canonical).stdout;
+        assert_eq!(again, canonical);
+    }
 }
 
 #[test]

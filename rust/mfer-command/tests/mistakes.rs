@@ -338,27 +338,48 @@ fn a_continued_start_out_of_range() {
 fn samples_too_few_and_too_many() {
     let words =
         "refused 25 at 0: sample octets not exactly sequences times G (the octets of a sequence)";
+    let hint = "; a frame is made of all its samples: take fewer sequences";
     let fixed = "frame\nsequences 1\nblock 2\nframe\nsequences 2\n";
     let open = "frame\nsequences 1\nblock 2\nframe\n";
-    for (settings, numbers, place, lengths) in [
-        (fixed, 1, "line 1: frame 0", "1 times 4 octets, found 2"),
-        (fixed, 0, "frame 0", "1 times 4 octets, found 0"),
-        (fixed, 5, "line 5: frame 1", "2 times 4 octets, found 6"),
-        (fixed, 7, "line 7: frame 1", "2 times 4 octets, found 10"),
+    for (settings, numbers, place, lengths, hint) in [
+        (
+            fixed,
+            1,
+            "line 1: frame 0",
+            "1 times 4 octets, found 2",
+            hint,
+        ),
+        (fixed, 0, "frame 0", "1 times 4 octets, found 0", hint),
+        (
+            fixed,
+            5,
+            "line 5: frame 1",
+            "2 times 4 octets, found 6",
+            hint,
+        ),
+        (
+            fixed,
+            7,
+            "line 7: frame 1",
+            "2 times 4 octets, found 10",
+            "",
+        ),
         (
             open,
             3,
             "line 3: frame 1",
             "a multiple of 4 octets, found 2",
+            "",
         ),
         (
             "frame\nsequences 0\n",
             1,
             "line 1: frame 0",
             "0 times 2 octets, found 2",
+            "",
         ),
     ] {
-        let expected = format!("{words}: expected {lengths}");
+        let expected = format!("{words}: expected {lengths}{hint}");
         let answer = samples_fail(settings, "7\n".repeat(numbers), false);
         assert_eq!(answer, (format!("{place}: {expected}"), 1));
         let (_, frame) = place.rsplit_once("frame").unwrap();
@@ -431,6 +452,19 @@ fn lines_of_samples() {
             let answer = samples_fail(&format!("frame\n{setting}\n"), format!("{line}\n"), false);
             assert_eq!(answer, (format!("{words} {}", found(line)), 2));
         }
+    }
+}
+
+/// The line with which `mfer samples` closes is no sample.
+#[test]
+fn samples_that_are_not_there() {
+    let words = "frame 0, channel 0: expected a whole number from -32768 to 32767, found 'no data: 1 \
+                 samples'; a frame is made of all its samples: take fewer sequences, and leave this \
+                 line out";
+    let samples = "5\nno data: 1 samples\n";
+    for settings in ["frame\nsequences 2\n", "frame\nsequences 1\n", "frame\n"] {
+        let answer = samples_fail(settings, samples, false);
+        assert_eq!(answer, (format!("line 2: {words}"), 2));
     }
 }
 

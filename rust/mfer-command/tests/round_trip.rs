@@ -1,10 +1,11 @@
 //! Files taken apart by `mfer show --settings` and `mfer samples`, and made again by `mfer make`:
-//! what is made is the canonical file, octet for octet.
+//! what is made is the canonical file, octet for octet, if all samples of the file are there; else
+//! nothing is made.
 
 mod common;
 
-use common::{mfer, written, Folder};
-use mfer::File;
+use common::{mfer, run, written, Folder};
+use mfer::{File, Frame};
 use second::generator::good_file;
 use second::papers::{octets, BLOCKS, LASTING, LASTING_TYPE, LONG_LENGTHS, NAMED, SCALES, SMALL};
 use std::collections::BTreeSet;
@@ -35,12 +36,30 @@ fn made_again(folder: &Folder, octets: &[u8], frame: Option<u32>) -> [Vec<u8>; 2
     ]
 }
 
-/// Whether a file has frames and a canonical file; that is then what is made again.
+/// Whether all samples of a frame are there.
+fn is_whole(frame: &Frame) -> bool {
+    frame.channels().all(|channel| {
+        let channel = channel.unwrap();
+        channel.samples_there() == channel.attributes().samples()
+    })
+}
+
+/// Whether all samples of an accepted file are there.
+fn whole(file: File) -> bool {
+    let mut frames = file.frames().unwrap();
+    frames.all(|frame| is_whole(&frame.unwrap()))
+}
+
+/// Whether a file has frames, a canonical file and all its samples; the canonical file is then what is made
+/// again.
 fn comes_back(octets: &[u8]) -> bool {
     let file = File::new(octets);
     let (Ok(1..), Ok(canonical)) = (file.check(), file.canonical_vec()) else {
         return false;
     };
+    if !whole(file) {
+        return false;
+    }
     let made = made_again(&Folder::new(), octets, None);
     assert!(made == [canonical.clone(), canonical], "{octets:02X?}");
     true
@@ -52,6 +71,61 @@ fn files_of_the_papers_come_back() {
     let others = [BLOCKS, LASTING, LASTING_TYPE, SCALES];
     let files = named.chain(&others).filter(|hex| comes_back(&octets(hex)));
     assert!(files.count() >= 21);
+}
+
+/// Takes a file apart whose samples are not all there, and tries to make it again: the error of each try
+/// and its status.
+fn tried_again(octets: &[u8]) -> [(String, i32); 2] {
+    let folder = Folder::new();
+    let file = folder.file("file", octets);
+    let apart = |name: &str, word: &str, option: &str| {
+        let output = mfer().args([word, option]).arg(&file).output().unwrap();
+        assert!(output.status.success());
+        folder.file(name, &output.stdout)
+    };
+    let settings = apart("settings", "show", "--settings");
+    [("numbers", "--all", None), ("raw", "--raw", Some("--raw"))].map(|(name, option, raw)| {
+        let samples = apart(name, "samples", option);
+        let out = folder.path("out");
+        let (_, error, status) = run(mfer()
+            .arg("make")
+            .args([&settings, &samples, &out])
+            .args(raw));
+        assert!(!out.exists());
+        (error, status)
+    })
+}
+
+/// A whole frame, and then one and a half of two sequences of two channels.
+#[test]
+fn a_file_that_was_cut_off_does_not_come_back() {
+    let octets = octets("05 01 02 06 01 02 1E 08 00 01 00 02 00 03 00 04 1E 06 00 05 00 06 00 07");
+    assert!(!comes_back(&octets));
+    let [(numbers, by_line), (raw, by_octets)] = tried_again(&octets);
+    assert!(numbers.contains("numbers: line 8: frame 1, channel 1: expected a whole number"));
+    assert!(numbers.contains("found 'no data: 1 samples'; a frame is made of all its samples"));
+    assert!(raw.contains("raw: frame 1: refused 25 at 0: "));
+    assert!(raw.contains("expected 2 times 4 octets, found 6; a frame is made of all its samples"));
+    assert_eq!((by_line, by_octets), (2, 1));
+    // Of its whole sequences a file is made.
+    let [settings, numbers] =
+        [("show", "--settings"), ("samples", "--all")].map(|(word, option)| {
+            let folder = Folder::new();
+            let file = folder.file("file", &octets);
+            String::from_utf8(written(mfer().args([word, option]).arg(&file))).unwrap()
+        });
+    let settings = settings.replace("sequences 2  # 1 whole", "sequences 1  #");
+    let numbers = numbers.replace("7\nno data: 1 samples\n", "");
+    let folder = Folder::new();
+    let settings = folder.file("settings", settings.as_bytes());
+    let numbers = folder.file("numbers", numbers.as_bytes());
+    let made = written(mfer().arg("make").args([settings, numbers]).arg("-"));
+    let frame = File::new(&made).frame(1).unwrap();
+    assert_eq!(
+        (frame.sequences(), frame.start(), is_whole(&frame)),
+        (1, 2, true)
+    );
+    assert_eq!(made[frame.waveform()], [0, 5, 0, 6]);
 }
 
 /// What is met in a file: data types, each with the kinds of value that its samples have.
@@ -75,10 +149,16 @@ fn generated_files_come_back() {
     let mut count = 0;
     let mut types = BTreeSet::new();
     let mut kinds = BTreeSet::new();
-    for octets in (0..FILES)
-        .map(good_file)
-        .filter(|octets| comes_back(octets))
-    {
+    for octets in (0..FILES).map(good_file) {
+        if !whole(File::new(&octets)) {
+            let [(numbers, by_line), (raw, by_octets)] = tried_again(&octets);
+            assert!(numbers.contains("found 'no data: "), "{numbers}");
+            assert!(raw.contains(": refused 25 at 0: "), "{raw}");
+            assert_eq!((by_line, by_octets), (2, 1));
+        }
+        if !comes_back(&octets) {
+            continue;
+        }
         count += 1;
         for (data_type, kind) in met(&octets) {
             types.insert(data_type);
@@ -163,9 +243,12 @@ fn frames_come_back_one_by_one() {
             let frame = frame.unwrap();
             let end = frame.waveform().end;
             let alone = [&File::HEAD, &canonical[begin..end]].concat();
+            begin = end;
+            if !is_whole(&frame) {
+                continue;
+            }
             let made = made_again(&folder, &octets, Some(frame.number()));
             assert!(made == [alone.clone(), alone], "frame {}", frame.number());
-            begin = end;
             count += 1;
         }
     }

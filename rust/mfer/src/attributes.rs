@@ -100,7 +100,7 @@ pub struct Attributes {
     pub start: i32,
     /// How many channels the frame has, from 1 to 256.
     pub channels: u32,
-    /// How many sequences the frame has.
+    /// How many sequences the frame declares.
     pub sequences: u32,
     /// Samples of the channel in one sequence, from 1 to 1,048,576.
     pub block: u32,
@@ -123,7 +123,9 @@ pub struct Attributes {
 }
 
 impl Attributes {
-    /// How many samples the channel has in the frame.
+    /// How many samples the channel declares in the frame: sequences times block. Of a recording that was
+    /// cut off they are not all there, see [`Channel::samples_there`](crate::Channel::samples_there); the
+    /// number can be near 2 to the 52 in a file of a few octets.
     pub fn samples(&self) -> u64 {
         u64::from(self.sequences) * u64::from(self.block)
     }

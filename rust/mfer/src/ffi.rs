@@ -30,6 +30,15 @@ extern "C" {
         place: *mut u64,
     ) -> u32;
 
+    fn mfer_samples_there(
+        file: *const u8,
+        file_len: usize,
+        frame: u32,
+        channel: u32,
+        count: *mut u64,
+        place: *mut u64,
+    ) -> u32;
+
     fn mfer_sample(
         file: *const u8,
         file_len: usize,
@@ -91,6 +100,13 @@ extern "C" {
         numbers: *mut [i64; NUMBERS],
         bits: *mut [u64; 2],
         below: *mut u64,
+        place: *mut u64,
+    ) -> u32;
+
+    fn mfer_walk_samples_there(
+        walk: *const Walk,
+        channel: u32,
+        count: *mut u64,
         place: *mut u64,
     ) -> u32;
 
@@ -233,9 +249,9 @@ pub fn attributes(file: &[u8], frame: u32, channel: u32) -> Described {
 pub struct Sampled {
     /// The refusal's number, 0 for none.
     pub number: u32,
-    /// The sample's place, or the refusal's.
+    /// The sample's place, or the refusal's; 0 for no data.
     pub place: u64,
-    /// 0 whole, 1 status, 2 single, 3 double, 4 not-a-number, 5 null.
+    /// 0 whole, 1 status, 2 single, 3 double, 4 not-a-number, 5 null, 6 no data.
     pub kind: u32,
     /// The value of kind 0.
     pub whole: i64,
@@ -271,13 +287,13 @@ pub fn sample(file: &[u8], frame: u32, channel: u32, number: u64) -> Sampled {
     }
 }
 
-/// What `mfer_samples`, `mfer_values`, those of a walk, `mfer_canonical_length`, `mfer_canonical` and
-/// `mfer_make_frame` answer, but for the buffers.
+/// What `mfer_samples_there`, `mfer_samples`, `mfer_values`, those of a walk, `mfer_canonical_length`,
+/// `mfer_canonical` and `mfer_make_frame` answer, but for the buffers.
 #[derive(Clone, Copy, PartialEq, Eq, Debug)]
 pub struct Filled {
     /// The refusal's number, 0 for none.
     pub number: u32,
-    /// How many samples or octets were written to the buffer, or would be.
+    /// How many samples are there, or how many samples or octets were written to the buffer, or would be.
     pub count: u64,
     /// The refusal's place.
     pub place: u64,
@@ -292,6 +308,14 @@ fn filled(ask: impl FnOnce(&mut u64, &mut u64) -> u32) -> Filled {
         count,
         place,
     }
+}
+
+/// Asks `mfer_samples_there`.
+pub fn samples_there(file: &[u8], frame: u32, channel: u32) -> Filled {
+    // SAFETY: see the module's first lines.
+    filled(|count, place| unsafe {
+        mfer_samples_there(file.as_ptr(), file.len(), frame, channel, count, place)
+    })
 }
 
 /// Asks `mfer_samples`.
@@ -422,6 +446,12 @@ pub fn walk_channel(walk: &Walk, channel: u32) -> Seen {
         place,
     };
     Seen { described, below }
+}
+
+/// Asks `mfer_walk_samples_there`.
+pub fn walk_samples_there(walk: &Walk, channel: u32) -> Filled {
+    // SAFETY: see the module's first lines.
+    filled(|count, place| unsafe { mfer_walk_samples_there(walk, channel, count, place) })
 }
 
 /// Asks `mfer_walk_samples`.

@@ -62,7 +62,15 @@ impl<'a> File<'a> {
         Ok(Attributes::of(&described))
     }
 
-    /// The place, bits and value of a sample.
+    /// How many samples of a channel in a frame are there: the first ones of those that it declares. See
+    /// [`Channel::samples_there`].
+    pub fn samples_there(&self, frame: u32, channel: u32) -> Result<u64, Refusal> {
+        let filled = ffi::samples_there(self.0, frame, channel);
+        Refusal::or(filled.number, filled.place, filled.count)
+    }
+
+    /// The place, bits and value of a sample. One that is declared and not there is
+    /// [`Value::NoData`](crate::Value::NoData).
     ///
     /// ```
     /// use mfer::{File, Value};
@@ -71,14 +79,30 @@ impl<'a> File<'a> {
     /// assert_eq!((sample.place, sample.value), (2, Value::Whole(5)));
     /// # Ok::<(), mfer::Refusal>(())
     /// ```
+    ///
+    /// Two samples are declared, and the recorder stopped after the first:
+    ///
+    /// ```
+    /// use mfer::{File, Refusal, Value};
+    ///
+    /// let file = File::new(&[0x06, 0x01, 0x02, 0x1E, 0x02, 0x00, 0x05]);
+    /// assert_eq!(file.samples_there(0, 0)?, 1);
+    /// let sample = file.sample(0, 0, 0)?;
+    /// assert_eq!((sample.place, sample.value), (5, Value::Whole(5)));
+    /// let lacking = file.sample(0, 0, 1)?;
+    /// assert_eq!((lacking.place, lacking.bits, lacking.value), (0, 0, Value::NoData));
+    /// assert_eq!(file.sample(0, 0, 2).unwrap_err().number, Refusal::NO_SAMPLE);
+    /// # Ok::<(), Refusal>(())
+    /// ```
     pub fn sample(&self, frame: u32, channel: u32, number: u64) -> Result<Sample, Refusal> {
         let sampled = ffi::sample(self.0, frame, channel, number);
         Refusal::or(sampled.number, sampled.place, ())?;
         Ok(Sample::of(&sampled))
     }
 
-    /// Fills `out` with the bits of consecutive samples from `first` on, as many as fit or there
-    /// are, and answers how many; the rest of `out` keeps what it held. Bits are not sign extended.
+    /// Fills `out` with the bits of consecutive samples from `first` on, as many as fit or are there, and
+    /// answers how many: 0 where `first` is declared and not there. The rest of `out` keeps what it held.
+    /// Bits are not sign extended.
     pub fn samples(
         &self,
         frame: u32,
@@ -91,9 +115,9 @@ impl<'a> File<'a> {
     }
 
     /// Fills `kinds` and `wholes` with the kinds and the whole numbers of consecutive samples from
-    /// `first` on, as many as fit in both or there are, and answers how many; the rest of both keeps
-    /// what it held. Kinds are 0 whole, 1 status, 2 single, 3 double, 4 not-a-number and 5 null; the
-    /// number of a value that is not whole is 0.
+    /// `first` on, as many as fit in both or are there, and answers how many: 0 where `first` is declared
+    /// and not there. The rest of both keeps what it held. Kinds are 0 whole, 1 status, 2 single, 3 double,
+    /// 4 not-a-number and 5 null; the number of a value that is not whole is 0.
     ///
     /// ```
     /// use mfer::File;

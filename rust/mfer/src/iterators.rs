@@ -120,7 +120,7 @@ impl<'a> Frame<'a> {
         self.start
     }
 
-    /// How many sequences the frame has.
+    /// How many sequences the frame declares.
     pub fn sequences(&self) -> u32 {
         self.sequences
     }
@@ -130,7 +130,8 @@ impl<'a> Frame<'a> {
         self.byte_order
     }
 
-    /// Where its waveform is in the file, with the octets past the last sequence, if there are such.
+    /// Where its waveform is in the file, with the octets past the last sequence, if there are such. It may
+    /// also end ahead of the last sequence: then not all samples are there.
     pub fn waveform(&self) -> Range<usize> {
         self.waveform.clone()
     }
@@ -162,7 +163,8 @@ impl<'a> Frame<'a> {
     }
 
     /// The settings that the frame was read with, to make one like it. In a canonical file its waveform is
-    /// the samples as [`FrameSettings::make`] takes them.
+    /// the samples as [`FrameSettings::make`] takes them, if all of them are there; else it refuses them with
+    /// [`Refusal::SAMPLES_LENGTH`].
     ///
     /// ```
     /// use mfer::{File, Recorder};
@@ -188,15 +190,15 @@ impl<'a> Frame<'a> {
         })
     }
 
-    /// How many samples all channels have together: the room that [`Frame::samples`] needs for all of
-    /// them. It is at most the length of the waveform, which is there without a look at the channels.
+    /// How many samples of all channels are there: the room that [`Frame::samples`] needs for all of
+    /// them. It is at most the length of the waveform, which is known without a look at the channels.
     pub fn sample_count(&self) -> Result<usize, Refusal> {
-        let count = |channel: Channel| channel.attributes().samples() as usize;
+        let count = |channel: Channel| channel.samples_there() as usize;
         self.channels().map(|channel| channel.map(count)).sum()
     }
 
     /// Fills `out` with the bits of samples, those of channel 0, then those of channel 1, and so on, as
-    /// many as fit or there are, and answers how many; the rest of `out` keeps what it held. Nothing
+    /// many as fit or are there, and answers how many; the rest of `out` keeps what it held. Nothing
     /// else of the file is read. This is the fastest way to read a file whole.
     ///
     /// ```
@@ -251,12 +253,14 @@ pub struct Channel<'a> {
     number: u32,
     attributes: Attributes,
     below: u64,
+    there: u64,
 }
 
 impl<'a> Channel<'a> {
     /// A channel of the frame that the walk is at.
     fn look_up(file: File<'a>, walk: Walk, frame: u32, number: u32) -> Result<Self, Refusal> {
         let (attributes, below) = walk.channel(number)?;
+        let there = walk.samples_there(number)?;
         Ok(Channel {
             file,
             walk,
@@ -264,6 +268,7 @@ impl<'a> Channel<'a> {
             number,
             attributes,
             below,
+            there,
         })
     }
 
@@ -298,6 +303,26 @@ impl<'a> Channel<'a> {
         self.below
     }
 
+    /// How many of the channel's samples are there: the first ones of the
+    /// [declared](Attributes::samples). A sample is there where all its octets lie in the frame's waveform.
+    ///
+    /// ```
+    /// use mfer::{File, Value};
+    ///
+    /// // Two channels of one octet and three sequences, of which the recorder wrote one and a half.
+    /// let file = File::new(&[0x05, 1, 2, 0x0A, 1, 3, 0x06, 1, 3, 0x1E, 3, 1, 2, 3]);
+    /// let frame = file.frame(0)?;
+    /// let (first, second) = (frame.channel(0)?, frame.channel(1)?);
+    /// assert_eq!((first.samples_there(), first.attributes().samples()), (2, 3));
+    /// assert_eq!((second.samples_there(), second.attributes().samples()), (1, 3));
+    /// let values: Vec<Value> = first.values().collect::<Result<_, _>>()?;
+    /// assert_eq!(values, [1, 3].map(Value::Whole));
+    /// # Ok::<(), mfer::Refusal>(())
+    /// ```
+    pub fn samples_there(&self) -> u64 {
+        self.there
+    }
+
     /// Fills `out` with the bits of consecutive samples from `first` on, as [`File::samples`] does,
     /// and reads nothing else of the file.
     pub fn samples(&self, first: u64, out: &mut [u64]) -> Result<usize, Refusal> {
@@ -315,12 +340,12 @@ impl<'a> Channel<'a> {
         walk.values(*file, self.number, first, kinds, wholes)
     }
 
-    /// The bits of its samples in order.
+    /// The bits of its samples in order, up to the last one there.
     pub fn bits(&self) -> Bits<'a> {
         Bits::of(self)
     }
 
-    /// The values of its samples in order, each as [`File::sample`] has it.
+    /// The values of its samples in order, up to the last one there, each as [`File::sample`] has it.
     ///
     /// ```
     /// use mfer::{File, Refusal, Value};

@@ -33,6 +33,12 @@
 //! goes through all items, whatever it asks for, and steps over the waveforms: where many things are
 //! asked, [`File::frames`] is the way. Where bits will do, [`Frame::samples`] reads a frame in one call.
 //!
+//! # Samples that are not there
+//!
+//! A recorder that stops in the middle of a frame leaves fewer samples than the frame declares. What is
+//! lacking is no data: [`Channel::samples_there`] says how many samples of a channel are there, iterators end
+//! with the last of them, and [`File::sample`] tells [`Value::NoData`] of the others.
+//!
 //! # Making a file
 //!
 //! A [`Recorder`] makes a file over any [`std::io::Write`], frame after frame, of [`FrameSettings`] and

@@ -37,7 +37,7 @@ macro_rules! refusals {
 }
 
 // The words are those of documents 01 and 02. What they lean on elsewhere on their pages stands in
-// parentheses.
+// parentheses. A number that is retired keeps its name, so that no other takes it.
 refusals! {
     CONTEXT_TAG = 1, "context tag other than 3Fh";
     LENGTH_OCTET = 2, "length octet 85h to FFh, or 80h not on 3Fh";
@@ -52,7 +52,7 @@ refusals! {
     MANY_FRAMES = 11, "a frame after 4,096 frames";
     SAMPLE_WIDTH = 12, "a channel below the count whose defined offset or null hasn't its sample width";
     START_RANGE = 13, "start pointer outside signed 32 bits";
-    SHORT_WAVEFORM = 14, "waveform shorter than sequences times G (the octets of a sequence)";
+    SHORT_WAVEFORM = 14, "retired, no longer given: waveform shorter than sequences times G (the octets of a sequence)";
     LONG_FILE = 15, "file above 2,147,483,647 octets";
     NO_FRAME = 20, "no such frame";
     NO_CHANNEL = 21, "no such channel";

@@ -6,11 +6,11 @@ use crate::refusal::Refusal;
 use crate::value::Value;
 use std::iter::FusedIterator;
 
-/// The bits of a channel's samples in order, read 65,536 at a time.
+/// The bits of a channel's samples in order, up to the last one there, read 65,536 at a time.
 #[derive(Clone, Debug)]
 pub struct Bits<'a>(Pieces<'a, Vec<u64>>);
 
-/// The values of a channel's samples in order, read 65,536 at a time.
+/// The values of a channel's samples in order, up to the last one there, read 65,536 at a time.
 #[derive(Clone, Debug)]
 pub struct Values<'a>(Pieces<'a, Told>);
 
@@ -138,9 +138,9 @@ impl<'a, P: Piece> Pieces<'a, P> {
         }
     }
 
-    /// How many samples are not read yet.
+    /// How many samples there are not read yet.
     fn unread(&self) -> u64 {
-        self.channel.attributes().samples() - self.next
+        self.channel.samples_there() - self.next
     }
 
     /// How many samples are still to come.
@@ -168,7 +168,7 @@ impl<P: Piece> Iterator for Pieces<'_, P> {
             }
             if let Err(refusal) = self.read() {
                 // Nothing more comes after a refusal.
-                self.next = self.channel.attributes().samples();
+                self.next = self.channel.samples_there();
                 return Some(Err(refusal));
             }
         }

@@ -18,6 +18,9 @@ pub enum Value {
     NotNumber(u64),
     /// The sample holds nothing: its bits are the null bits.
     Null,
+    /// The sample is declared and not there: its octets are not all in its frame's waveform. It has no
+    /// bits and no place.
+    NoData,
 }
 
 /// Floats are the same when their bits are: a zero of the other sign is another value.
@@ -30,6 +33,7 @@ impl PartialEq for Value {
             (Value::Double(a), Value::Double(b)) => a.to_bits() == b.to_bits(),
             (Value::NotNumber(a), Value::NotNumber(b)) => a == b,
             (Value::Null, Value::Null) => true,
+            (Value::NoData, Value::NoData) => true,
             _ => false,
         }
     }
@@ -38,7 +42,7 @@ impl PartialEq for Value {
 impl Eq for Value {}
 
 impl Value {
-    /// Document 01's word for the value's kind.
+    /// The papers' word for the value's kind.
     pub fn kind(&self) -> &'static str {
         match self {
             Value::Whole(_) => "whole",
@@ -47,6 +51,7 @@ impl Value {
             Value::Double(_) => "double",
             Value::NotNumber(_) => "not-a-number",
             Value::Null => "null",
+            Value::NoData => "no data",
         }
     }
 
@@ -58,11 +63,12 @@ impl Value {
             2 => Value::Single(f32::from_bits(bits as u32)),
             3 => Value::Double(f64::from_bits(bits)),
             4 => Value::NotNumber(bits),
-            _ => Value::Null,
+            5 => Value::Null,
+            _ => Value::NoData,
         }
     }
 
-    /// Whether a value of this kind has bits: all but whole numbers and nulls.
+    /// Whether a value of this kind is told by its bits: all but whole numbers, nulls and no data.
     pub(crate) fn shows_bits(kind: u8) -> bool {
         (1..=4).contains(&kind)
     }
@@ -71,9 +77,9 @@ impl Value {
 /// A sample's place, bits and value.
 #[derive(Clone, Copy, PartialEq, Eq, Debug)]
 pub struct Sample {
-    /// The offset of its first octet in the file.
+    /// The offset of its first octet in the file; 0 where it is not there.
     pub place: u64,
-    /// Its bits, highest octet first.
+    /// Its bits, highest octet first; 0 where it is not there.
     pub bits: u64,
     /// What the bits stand for.
     pub value: Value,

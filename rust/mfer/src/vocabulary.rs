@@ -121,7 +121,10 @@ fn kinds_have_one_vocabulary() {
     };
     let kinds = table("MFER_KINDS").into_iter().map(kind);
     let words = kinds.collect::<Vec<_>>().join(", ");
-    assert_eq!(words, "whole, status, single, double, not-a-number, null");
+    assert_eq!(
+        words,
+        "whole, status, single, double, not-a-number, null, no data"
+    );
     assert!(VALUES.contains(&format!("in the order {words}.")));
 }
 

@@ -34,6 +34,12 @@ impl Walk {
         Ok((Attributes::of(&seen.described), seen.below))
     }
 
+    /// How many samples of a channel of the frame that the walk is at are there.
+    pub fn samples_there(&self, channel: u32) -> Result<u64, Refusal> {
+        let filled = ffi::walk_samples_there(&self.0, channel);
+        Refusal::or(filled.number, filled.place, filled.count)
+    }
+
     /// Reads samples of a channel of the frame that the walk is at.
     pub fn samples(
         &self,

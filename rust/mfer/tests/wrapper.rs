@@ -155,6 +155,8 @@ fn frames_and_channels_that_are_not_there() {
     let file = File::new(&octets);
     for (frame, channel) in [(0, 1), (0, 2), (0, u32::MAX), (1, 0), (u32::MAX, u32::MAX)] {
         let asked = file.channel(frame, channel);
+        let there = asked.clone().map(|channel| channel.samples_there());
+        assert_eq!(there, file.samples_there(frame, channel));
         let attributes = asked.map(|channel| *channel.attributes());
         assert_eq!(attributes, file.attributes(frame, channel));
     }
@@ -190,6 +192,164 @@ fn all_samples_of_a_frame() {
     assert_eq!(frame.samples(&mut []), Ok(0));
     let mut bits = [7];
     assert_eq!((frame.samples(&mut bits), bits), (Ok(0), [7]));
+}
+
+/// Document 01's P9 as document 02 has it: two sequences, of which the recorder wrote one.
+const P9: [u8; 7] = [0x06, 1, 2, 0x1E, 2, 0, 5];
+
+#[test]
+fn a_recording_that_was_cut_off() {
+    let file = File::new(&P9);
+    assert_eq!(file.check(), Ok(1));
+    assert_eq!(file.attributes(0, 0).unwrap().samples(), 2);
+    assert_eq!(file.samples_there(0, 0), Ok(1));
+    let values = [0, 1].map(|number| file.sample(0, 0, number).unwrap());
+    assert_eq!((values[0].place, values[0].value), (5, Value::Whole(5)));
+    let nothing = (values[1].place, values[1].bits, values[1].value);
+    assert_eq!(nothing, (0, 0, Value::NoData));
+    assert_eq!(values[1].value.kind(), "no data");
+    let refusal = file.sample(0, 0, 2).unwrap_err();
+    assert_eq!((refusal.number, refusal.place), (Refusal::NO_SAMPLE, 0));
+    let (mut bits, mut kinds, mut wholes) = ([7; 2], [7; 2], [7; 2]);
+    assert_eq!(file.samples(0, 0, 1, &mut bits), Ok(0));
+    assert_eq!(file.values(0, 0, 1, &mut kinds, &mut wholes), Ok(0));
+    assert_eq!((bits, kinds, wholes), ([7; 2], [7; 2], [7; 2]));
+    for refusal in [
+        file.samples(0, 0, 2, &mut bits),
+        file.values(0, 0, 2, &mut kinds, &mut wholes),
+    ] {
+        assert_eq!(refusal.unwrap_err().number, Refusal::NO_SAMPLE);
+    }
+    // The canonical file declares the same and lacks the same.
+    let canonical = file.canonical_vec().unwrap();
+    assert_eq!(canonical[canonical.len() - 4..], [0x1E, 2, 0, 5]);
+    let again = File::new(&canonical);
+    assert_eq!(again.attributes(0, 0), file.attributes(0, 0));
+    assert_eq!(again.samples_there(0, 0), Ok(1));
+    assert_eq!(again.canonical_vec(), Ok(canonical.clone()));
+    // As it is it cannot be made.
+    let settings = file.frame(0).unwrap().settings().unwrap();
+    let refusal = settings.make(&[0, 5]).unwrap_err();
+    assert_eq!(refusal.number, Refusal::SAMPLES_LENGTH);
+}
+
+/// Blocks of 2, 1 and 3 samples of 2, 1 and 4 octets in two sequences: the frame with a waveform of this
+/// length, its samples in file order, and a frame of one octet behind it.
+fn cut(length: u8, order: ByteOrder) -> Vec<u8> {
+    let mut file = vec![0x01, 1, u8::from(order == ByteOrder::Little)];
+    file.extend([0x05, 1, 3, 0x06, 1, 2, 0x3F, 0, 3, 0x04, 1, 2]);
+    file.extend([0x3F, 1, 3, 0x0A, 1, 3, 0x3F, 2, 6, 0x04, 1, 3, 0x0A, 1, 6]);
+    file.extend([0x1E, length]);
+    file.extend(1..=length);
+    file.extend([0x05, 0, 0x06, 0, 0x0A, 1, 3, 0x1E, 1, 99]);
+    file
+}
+
+/// The channel and the place in the waveform of each sample of such a frame, in file order.
+fn laid_out() -> Vec<(u32, usize, usize)> {
+    let mut samples = Vec::new();
+    let mut at = 0;
+    for _ in 0..2 {
+        for (channel, block, width) in [(0, 2, 2), (1, 1, 1), (2, 3, 4)] {
+            for _ in 0..block {
+                samples.push((channel, at, width));
+                at += width;
+            }
+        }
+    }
+    samples
+}
+
+/// The number of octets in an order.
+fn number_of(octets: &[u8], order: ByteOrder) -> u64 {
+    let join = |bits, octet: &u8| bits << 8 | u64::from(*octet);
+    match order {
+        ByteOrder::Big => octets.iter().fold(0, join),
+        ByteOrder::Little => octets.iter().rev().fold(0, join),
+    }
+}
+
+/// The waveform ends after each octet: what is there is read, by every way, and nothing else.
+#[test]
+fn frames_that_are_cut_after_each_octet() {
+    for (length, order) in
+        (0..=40).flat_map(|length| [ByteOrder::Big, ByteOrder::Little].map(|order| (length, order)))
+    {
+        let octets = cut(length, order);
+        let file = File::new(&octets);
+        let frame = file.frame(0).unwrap();
+        let waveform = &octets[frame.waveform()];
+        assert_eq!((waveform.len(), frame.byte_order()), (length.into(), order));
+        assert_eq!((frame.sequences(), frame.sequence_octets()), (2, 17));
+        let mut all = Vec::new();
+        for channel in frame.channels().map(Result::unwrap) {
+            let number = channel.number();
+            let mine = laid_out()
+                .into_iter()
+                .filter(|(other, ..)| *other == number);
+            let there: Vec<u64> = mine
+                .filter_map(|(_, at, width)| waveform.get(at..at + width))
+                .map(|octets| number_of(octets, order))
+                .collect();
+            let count = there.len() as u64;
+            assert_eq!(channel.samples_there(), count);
+            assert_eq!(file.samples_there(0, number), Ok(count));
+            let mut bits = channel.bits();
+            assert_eq!(bits.len(), there.len());
+            assert!(bits.by_ref().map(Result::unwrap).eq(there.iter().copied()));
+            assert_eq!((bits.next(), bits.len()), (None, 0));
+            let values = channel.values();
+            assert_eq!(values.len(), there.len());
+            assert_eq!(values.count(), there.len());
+            for asked in count..channel.attributes().samples() {
+                assert_eq!(file.sample(0, number, asked).unwrap().value, Value::NoData);
+                let mut out = [7; 3];
+                assert_eq!(channel.samples(asked, &mut out), Ok(0));
+                assert_eq!(file.samples(0, number, asked, &mut out), Ok(0));
+                assert_eq!(out, [7; 3]);
+            }
+            let declared = channel.attributes().samples();
+            let refusal = channel.samples(declared, &mut [0]).unwrap_err();
+            assert_eq!(refusal.number, Refusal::NO_SAMPLE);
+            all.extend(there);
+        }
+        assert_eq!(frame.sample_count(), Ok(all.len()));
+        let mut bits = vec![7; all.len() + 1];
+        assert_eq!(frame.samples(&mut bits), Ok(all.len()));
+        assert_eq!((&bits[..all.len()], bits[all.len()]), (&all[..], 7));
+        // The next frame is where it was declared to be, and whole.
+        let next = file.frame(1).unwrap();
+        assert_eq!((next.start(), next.sample_count()), (2, Ok(1)));
+    }
+}
+
+/// Four octets that declare more samples than can be counted one by one.
+#[test]
+fn far_more_is_declared_than_is_there() {
+    let octets = [
+        0x05, 2, 1, 0, 0x04, 3, 0x10, 0, 0, 0x06, 4, 0xFF, 0xFF, 0xFF, 0xFF, 0x1E, 4, 0, 1, 0, 2,
+    ];
+    let file = File::new(&octets);
+    let frame = file.frame(0).unwrap();
+    assert_eq!(frame.sequences(), u32::MAX);
+    assert_eq!(frame.sample_count(), Ok(2));
+    let mut bits = [7; 3];
+    assert_eq!((frame.samples(&mut bits), bits), (Ok(2), [1, 2, 7]));
+    let declared = u64::from(u32::MAX) << 20;
+    for channel in frame.channels().map(Result::unwrap) {
+        assert_eq!(channel.attributes().samples(), declared);
+        let there = [2, 0][usize::from(channel.number() > 0)];
+        assert_eq!(channel.samples_there(), there as u64);
+        assert_eq!(
+            (channel.bits().len(), channel.bits().count()),
+            (there, there)
+        );
+        assert_eq!(channel.values().count(), there);
+        let last = file.sample(0, channel.number(), declared - 1).unwrap();
+        assert_eq!(last.value, Value::NoData);
+    }
+    let canonical = file.canonical_vec().unwrap();
+    assert_eq!(canonical[canonical.len() - 6..], [0x1E, 4, 0, 1, 0, 2]);
 }
 
 /// As many frames as a file may have, of as many channels: the file is not gone through for each.
@@ -303,6 +463,8 @@ fn every_kind_of_value() {
     }
     assert_ne!(Value::Single(0.0), Value::Single(-0.0));
     assert_ne!(Value::Whole(0), Value::Null);
+    assert_ne!(Value::NoData, Value::Null);
+    assert_eq!(Value::NoData, Value::NoData);
 }
 
 /// Doubles, two of which are null; one in the second piece is no number.
@@ -398,6 +560,7 @@ fn a_refused_file_answers_its_refusal_to_every_question() {
     };
     assert_eq!(file.check(), Err(refusal));
     assert_eq!(file.attributes(9, 9), Err(refusal));
+    assert_eq!(file.samples_there(9, 9), Err(refusal));
     assert_eq!(file.sample(9, 9, 9), Err(refusal));
     let mut bits = [7; 3];
     assert_eq!(file.samples(9, 9, 9, &mut bits), Err(refusal));
@@ -424,6 +587,7 @@ fn a_call_needs_less_than_256_kib_of_stack() {
         assert_eq!(file.check(), Ok(1));
         assert!(file.attributes(0, 1).is_ok());
         assert!(file.sample(0, 1, 1999).is_ok());
+        assert_eq!(file.samples_there(0, 1), Ok(2000));
         assert_eq!(file.samples(0, 1, 0, &mut [0; 10]), Ok(10));
         assert_eq!(file.values(0, 1, 0, &mut [0; 10], &mut [0; 10]), Ok(10));
         assert!(file.canonical_vec().is_ok());

@@ -1,7 +1,7 @@
 //! Files made from a seed: well-formed ones of every shape, files with one fault built in on
 //! purpose, and files damaged at random. The same seed always gives the same file.
 
-use crate::items::tag;
+use crate::items::{bits, tag};
 use crate::random::Random;
 
 /// Tags that may be defined outside and inside groups.
@@ -67,7 +67,7 @@ pub fn good_file(seed: u64) -> Vec<u8> {
     draft.octets
 }
 
-/// A file refused with `number`, which is from 1 to 14, and the place of the refusal.
+/// A file refused with `number`, which is from 1 to 13, and the place of the refusal.
 pub fn faulty_file(number: u8, seed: u64) -> (Vec<u8>, u64) {
     let mut draft = Draft::new(seed);
     let steps = draft.random.below(7);
@@ -132,7 +132,7 @@ impl Random {
 
     /// The number of a fault to build in; 11 needs a long file and is made rarer.
     fn fault(&mut self) -> u8 {
-        match self.between(1, 14) as u8 {
+        match self.between(1, 13) as u8 {
             11 if self.one_in(2) => 12,
             number => number,
         }
@@ -592,6 +592,19 @@ impl Draft {
             false => 96,
         };
         self.settle_widths();
+        let declared = self.sequences.unwrap_or(0);
+        let cuts = match u64::from(declared) * self.sequence_octets() > room {
+            true => self.random.below(3) > 0,
+            false => self.random.one_in(4),
+        };
+        match cuts {
+            true => self.cut_frame(room),
+            false => self.whole_frame(room),
+        }
+    }
+
+    /// A frame whose samples are all there, in a waveform of about `room` octets at most.
+    fn whole_frame(&mut self, room: u64) {
         self.settle_start();
         self.settle_sequences(room);
         let sequence_octets = self.sequence_octets();
@@ -610,7 +623,116 @@ impl Draft {
         self.frame_of(sequences, &surplus);
     }
 
-    /// A frame; widths, start pointer and sequences are settled.
+    /// A frame whose waveform of at most `room` octets ends before the last of the samples declared.
+    fn cut_frame(&mut self, room: u64) {
+        if self.random.one_in(3) {
+            self.mix_channels();
+        }
+        let sequences = match self.sequences {
+            Some(sequences) => sequences.into(),
+            None => {
+                let sequences = self.sequence_count();
+                self.set_sequences(Some(sequences));
+                sequences
+            }
+        };
+        match self.random.one_in(3) {
+            true => self.start_before(sequences),
+            false => self.settle_start(),
+        }
+        let octets = self.cut_at(sequences * self.sequence_octets() - 1, room);
+        let (waveform, partial) = self.first_octets(octets as usize);
+        let mut next = Vec::new();
+        if let Some((channel, kept)) = partial.filter(|_| self.random.one_in(2)) {
+            let missing = usize::from(self.channels[channel].width()) - kept;
+            while next.len() < missing {
+                next.extend(self.unknown_item());
+            }
+            let tail = &waveform[waveform.len() - kept..];
+            self.set_null(channel, &[tail, &next[..missing]].concat());
+        }
+        self.put_frame(sequences, &waveform);
+        self.octets.extend(next);
+        if self.random.one_in(3) {
+            self.frame();
+        }
+    }
+
+    /// Either byte order, and a few channels with types and short blocks of their own.
+    fn mix_channels(&mut self) {
+        self.set_byte_order();
+        let count = self.random.between(2, 4);
+        self.set_count(Some(count));
+        for channel in 0..count as usize {
+            let (block, data_type) = (self.random.between(1, 3), self.random.below(9) as u8);
+            let value = self.whole(block);
+            self.define_in_group(channel, tag::BLOCK, &value);
+            self.define_in_group(channel, tag::DATA_TYPE, &[data_type]);
+            let shape = &mut self.channels[channel];
+            (shape.block, shape.data_type) = (block as u32, data_type);
+        }
+        self.settle_widths();
+    }
+
+    /// Gives a start pointer from which so many sequences lead to another one, if there is such.
+    fn start_before(&mut self, sequences: u64) {
+        let advance = u64::from(self.root.block) * sequences;
+        match u64::from(u32::MAX).checked_sub(advance) {
+            None => self.settle_start(),
+            Some(spare) => {
+                let above = match self.random.one_in(3) {
+                    true => spare,
+                    false => self.random.between(0, spare),
+                };
+                self.set_start(Some((i64::from(i32::MIN) + above as i64) as i32));
+            }
+        }
+    }
+
+    /// How many octets a waveform keeps, at most `last` and `room`.
+    fn cut_at(&mut self, last: u64, room: u64) -> u64 {
+        let sequence = self.sequence_octets();
+        let most = last.min(room);
+        match self.random.below(8) {
+            0 => 0,
+            1 => most,
+            2 => most - most % sequence,
+            3 => self.random.between(0, most.min(sequence)),
+            _ => self.random.between(0, most),
+        }
+    }
+
+    /// The first octets of a waveform. If they end inside a sample, also its channel and how many of
+    /// them are the sample's.
+    fn first_octets(&mut self, octets: usize) -> (Vec<u8>, Option<(usize, usize)>) {
+        let (mut waveform, mut channel) = (Vec::new(), 0);
+        loop {
+            for _ in 0..self.channels[channel].block {
+                let kept = octets - waveform.len();
+                waveform.extend(self.sample(channel));
+                if waveform.len() > octets {
+                    waveform.truncate(octets);
+                    return (waveform, (kept > 0).then_some((channel, kept)));
+                }
+            }
+            channel = (channel + 1) % self.channels();
+        }
+    }
+
+    /// Gives a channel these octets as its null.
+    fn set_null(&mut self, channel: usize, octets: &[u8]) {
+        let mut shape = self.channels[channel];
+        (shape.null, shape.null_bits) = (octets.len() as u8, bits(octets, self.little));
+        match self.count {
+            None => self.set_root(tag::NULL, shape, octets),
+            Some(_) => {
+                self.channels[channel] = shape;
+                self.define_in_group(channel, tag::NULL, octets);
+            }
+        }
+    }
+
+    /// A frame whose samples are all there; widths, start pointer and sequences are settled.
     fn frame_of(&mut self, sequences: u64, surplus: &[u8]) {
         let mut waveform = Vec::new();
         for _ in 0..sequences {
@@ -621,7 +743,12 @@ impl Draft {
             }
         }
         waveform.extend(surplus);
-        self.push(tag::WAVEFORM, &waveform);
+        self.put_frame(sequences, &waveform);
+    }
+
+    /// The frame of a waveform.
+    fn put_frame(&mut self, sequences: u64, waveform: &[u8]) {
+        self.push(tag::WAVEFORM, waveform);
         let start = self.start.take().map_or(self.continued, i64::from);
         self.continued = start + i64::from(self.root.block) * sequences as i64;
         self.frames += 1;
@@ -757,8 +884,7 @@ impl Draft {
             10 => self.unended_group(),
             11 => self.frame_too_many(),
             12 => self.width_fault(),
-            13 => self.start_fault(),
-            _ => self.short_waveform(),
+            _ => self.start_fault(),
         }
     }
 
@@ -1106,11 +1232,28 @@ impl Draft {
             true => self.large_root_block(),
             false => self.small(),
         }
-        let sequences = self.random.between(1, 3);
+        let cuts = self.random.one_in(3);
+        let sequences = match cuts {
+            true => self.sequence_count(),
+            false => self.random.between(1, 3),
+        };
         let advance = u64::from(self.root.block) * sequences;
-        let short = self.random.below(advance.min(0x7FFF_FFFF)) as i32;
-        self.set_start(Some(i32::MAX - short));
-        self.frame_of(sequences, &[]);
+        let short = self.random.below(advance.min(1 << 32)) as i64;
+        let start = (i64::from(i32::MAX) - short) as i32;
+        match cuts {
+            true => {
+                // What is declared continues the pointer, there or not.
+                self.set_sequences(Some(sequences));
+                self.set_start(Some(start));
+                let octets = self.cut_at(sequences * self.sequence_octets() - 1, 40);
+                let (waveform, _) = self.first_octets(octets as usize);
+                self.put_frame(sequences, &waveform);
+            }
+            false => {
+                self.set_start(Some(start));
+                self.frame_of(sequences, &[]);
+            }
+        }
         if self.random.one_in(3) {
             // A pointer of length 0 takes back the one before it.
             self.set_start(Some(5));
@@ -1123,22 +1266,6 @@ impl Draft {
             self.set_root_block(1);
         }
         self.waveform_fault(40)
-    }
-
-    fn short_waveform(&mut self) -> Fault {
-        self.small();
-        self.settle_start();
-        let sequences = self.sequence_count();
-        self.set_sequences(Some(sequences));
-        let needed = sequences * self.sequence_octets();
-        match self.random.one_in(3) && needed < 200 {
-            true => {
-                let value = self.random.octets(needed - 1);
-                let item = self.item(tag::WAVEFORM, &value);
-                self.put_fault(Around::Nothing, &item)
-            }
-            false => self.waveform_fault(needed.min(40)),
-        }
     }
 }
 

@@ -105,7 +105,7 @@ fn block_and_width(row: &Numbers) -> (usize, usize) {
 }
 
 /// The samples of a frame, big-endian and in file order, from the rows of its channels and from the bits
-/// of all samples, those of one channel after those of another.
+/// of all samples, those of one channel after those of another. All that are declared are there.
 pub fn in_file_order(sequences: u64, rows: &[Numbers], mut bits: &[u64]) -> Vec<u8> {
     let mut channels = Vec::new();
     for row in rows {

@@ -30,8 +30,15 @@ pub const P2_CANONICAL: &str = "01 01 00 \
     0B 06 00 00 00 00 03 E8 0C 06 00 FA 00 00 00 01 0D 02 00 00 12 00 \
     1E 06 00 01 00 02 FF FF";
 
-/// Every file that document 01 spells out, and P2's canonical file.
-pub const NAMED: [&str; 13] = [
+/// P9's canonical file: two sequences declared, one sample there.
+pub const P9_CANONICAL: &str = "01 01 00 \
+    05 04 00 00 00 01 06 04 00 00 00 02 07 04 00 00 00 00 \
+    3F 00 27 04 04 00 00 00 01 08 02 00 00 09 02 00 00 0A 01 00 \
+    0B 06 00 00 00 00 03 E8 0C 06 00 FA 00 00 00 01 0D 02 00 00 12 00 \
+    1E 02 00 05";
+
+/// Every file that document 01 spells out, and the canonical files of P2 and P9.
+pub const NAMED: [&str; 14] = [
     P1,
     P2,
     P3,
@@ -45,6 +52,7 @@ pub const NAMED: [&str; 13] = [
     P11,
     SURPLUS,
     P2_CANONICAL,
+    P9_CANONICAL,
 ];
 
 /// Lengths in long forms where the byte order is little; the last is past the end, but not if it
@@ -68,6 +76,23 @@ pub const LASTING: &str =
     "01 01 01 05 01 02 06 01 01 08 01 07 0D 02 01 00 3F 01 07 0A 01 01 12 02 34 12 \
     1E 04 01 00 02 00 1E 09 03 00 34 12 99 99 99 99 99";
 
+/// Blocks of two samples of 2 octets, three of 1 and one of 4, 11 octets a sequence, little-endian. Of the
+/// three sequences declared, the second is cut off one octet into the last sample. The octets after it
+/// would make that sample null. The frame that follows has one whole sequence of the three.
+pub const CUT: &str = "01 01 01 05 01 03 06 01 03 3F 00 03 04 01 02 3F 01 06 04 01 03 0A 01 03 \
+    3F 02 09 0A 01 02 12 04 07 08 01 09 \
+    1E 13 01 00 02 00 11 12 13 05 00 00 00 03 00 04 00 14 15 16 07 08 01 09 \
+    1E 0B 05 00 06 00 17 18 19 07 08 01 09";
+
+/// Declared sequences with an empty waveform, and another frame after them.
+pub const NOTHING_THERE: &str = "06 01 03 1E 00 1E 06 00 01 00 02 00 03";
+
+/// The most sequences of the most channels in frames of 4 octets: two samples there, then none.
+pub const HOSTILE: [&str; 2] = [
+    "05 02 01 00 06 04 FF FF FF FF 1E 04 00 01 00 02",
+    "05 02 01 00 04 04 00 10 00 00 0A 01 08 06 04 FF FF FF FF 1E 04 00 01 00 02",
+];
+
 /// Intervals and resolutions whose mantissa is below 1.
 pub fn low_mantissas() -> Vec<Vec<u8>> {
     let values = [
@@ -88,7 +113,7 @@ pub const SCALES: &str = "0B 03 02 80 7F 0C 06 16 7F 7F FF FF FF 1E 00";
 
 /// Small files that together have every tag, both forms of a group, every form of a length, both
 /// byte orders and all widths: what damage is done to.
-pub const SMALL: [&str; 17] = [
+pub const SMALL: [&str; 20] = [
     P2,
     P3,
     P4,
@@ -118,6 +143,9 @@ pub const SMALL: [&str; 17] = [
     "07 04 7F FF FF FF 1E 02 00 01 1E 02 00 02",
     // An ignored open group with what would be refused in another.
     "3F 09 80 0A 01 63 04 05 00 00 00 00 00 00 00 1E 02 00 01",
+    CUT,
+    NOTHING_THERE,
+    HOSTILE[0],
 ];
 
 /// The coding example of annex A in source document 000, with the 160,000 octets of waveform that
@@ -145,7 +173,8 @@ pub fn annex_a() -> Vec<u8> {
 pub fn all() -> Vec<Vec<u8>> {
     let mut files: Vec<Vec<u8>> = NAMED.map(octets).into();
     files.extend(LONG_LENGTHS.map(octets));
-    files.extend([BLOCKS, LASTING_TYPE, LASTING, SCALES].map(octets));
+    files.extend([BLOCKS, LASTING_TYPE, LASTING, SCALES, CUT, NOTHING_THERE].map(octets));
+    files.extend(HOSTILE.map(octets));
     files.extend(low_mantissas());
     files.push(annex_a());
     files

@@ -1,6 +1,9 @@
 //! The questions a file can be asked: the check with its frame count, the attributes of a channel
-//! in a frame, the place and value of a sample, samples in bulk, all frames in order, all samples of a
-//! frame, and every channel in turn.
+//! in a frame, how many of its samples are there, the place and value of a sample, samples in bulk, all
+//! frames in order, all samples of a frame, and every channel in turn.
+//!
+//! A declared sample whose octets are not all inside its own frame's waveform is not there. Bulk answers
+//! end with the last sample that is.
 
 use crate::items::bits;
 use crate::scan::{scan, Frame, Standing};
@@ -27,6 +30,7 @@ impl Refusal {
     pub const MANY_FRAMES: u8 = 11;
     pub const SAMPLE_WIDTH: u8 = 12;
     pub const START_RANGE: u8 = 13;
+    /// Retired: nothing gives it, and no other refusal has its number.
     pub const SHORT_WAVEFORM: u8 = 14;
     pub const LONG_FILE: u8 = 15;
     pub const NO_FRAME: u8 = 20;
@@ -76,6 +80,8 @@ pub enum Value {
     /// The bits of a float that is no number.
     NotNumber(u64),
     Null,
+    /// The sample is declared and not there.
+    NoData,
 }
 
 /// Floats are the same when their bits are: a zero of the other sign is another value.
@@ -87,7 +93,7 @@ impl PartialEq for Value {
             (Value::Single(a), Value::Single(b)) => a.to_bits() == b.to_bits(),
             (Value::Double(a), Value::Double(b)) => a.to_bits() == b.to_bits(),
             (Value::NotNumber(a), Value::NotNumber(b)) => a == b,
-            (Value::Null, Value::Null) => true,
+            (Value::Null, Value::Null) | (Value::NoData, Value::NoData) => true,
             _ => false,
         }
     }
@@ -105,7 +111,12 @@ pub fn attributes(octets: &[u8], frame: u32, channel: u32) -> Result<Attributes,
     Ok(series(octets, frame, channel)?.attributes())
 }
 
-/// The place and value of a sample.
+/// How many samples of a channel in a frame are there.
+pub fn there(octets: &[u8], frame: u32, channel: u32) -> Result<u64, Refusal> {
+    Ok(series(octets, frame, channel)?.there())
+}
+
+/// The place and value of a sample; place 0 and no data where it is declared and not there.
 pub fn sample(
     octets: &[u8],
     frame: u32,
@@ -116,6 +127,9 @@ pub fn sample(
     if number >= series.samples() {
         return Err(Refusal::without_place(Refusal::NO_SAMPLE));
     }
+    if number >= series.there() {
+        return Ok((0, Value::NoData));
+    }
     let at = series.offset(number);
     let width = usize::from(series.record.width());
     let bits = bits(&series.frame.waveform[at..at + width], series.frame.little);
@@ -123,8 +137,9 @@ pub fn sample(
     Ok((place, value(bits, &series.record)))
 }
 
-/// Fills `out` with the bits of consecutive samples from `first` on, as many as fit or there are,
-/// and answers how many. Bits are not sign extended and nulls are not marked.
+/// Fills `out` with the bits of consecutive samples from `first` on, as many as fit or are there,
+/// and answers how many: none where `first` is declared and not there. Bits are not sign extended and
+/// nulls are not marked.
 pub fn samples(
     octets: &[u8],
     frame: u32,
@@ -177,17 +192,17 @@ pub fn frames(octets: &[u8], mut visit: impl FnMut(Met, &[Series])) -> Result<u3
 }
 
 /// Fills `out` with the bits of samples of the frame that has these channels, those of one channel after
-/// those of another, as many as fit or there are, and answers how many.
+/// those of another, as many as fit or are there, and answers how many.
 pub fn all_samples(channels: &[Series], out: &mut [u64]) -> usize {
     let mut filled = 0;
-    for series in channels.iter().filter(|series| series.samples() > 0) {
+    for series in channels {
         filled += series.fill(0, &mut out[filled..]);
     }
     filled
 }
 
 /// Shows `visit` every channel of every frame in turn, in one pass: its attributes and the bits of its
-/// samples, which `out` holds meanwhile, as many as fit. Answers the number of frames. A channel may be
+/// samples there, which `out` holds meanwhile, as many as fit. Answers the number of frames. A channel may be
 /// shown before a later item refuses the file.
 pub fn each_channel(
     octets: &[u8],
@@ -196,10 +211,7 @@ pub fn each_channel(
 ) -> Result<u32, Refusal> {
     scan(octets, |standing, frame| {
         for series in channels(standing, frame) {
-            let filled = match series.samples() {
-                0 => 0,
-                _ => series.fill(0, out),
-            };
+            let filled = series.fill(0, out);
             visit(&series.attributes(), &out[..filled]);
         }
     })
@@ -255,7 +267,10 @@ impl Series<'_> {
         if first >= self.samples() {
             return Err(Refusal::without_place(Refusal::NO_SAMPLE));
         }
-        Ok(self.fill(first, out))
+        match first < self.there() {
+            true => Ok(self.fill(first, out)),
+            false => Ok(0),
+        }
     }
 
     /// Fills `out` as [`values`] does.
@@ -268,12 +283,28 @@ impl Series<'_> {
         Ok(count)
     }
 
-    /// How many samples there are.
+    /// How many samples are declared, there or not: below 2 to the 52.
     pub fn samples(&self) -> u64 {
         u64::from(self.frame.sequences) * u64::from(self.record.block)
     }
 
-    /// Offset of a sample in the waveform.
+    /// How many samples are there: the first ones.
+    #[inline]
+    pub fn there(&self) -> u64 {
+        let Series {
+            frame,
+            record,
+            lower,
+        } = self;
+        let block = u64::from(record.block);
+        let whole = u64::from(frame.whole) * block;
+        match (frame.cut as u64).saturating_sub(*lower) {
+            0 => whole,
+            octets => whole + block.min(octets / u64::from(record.width())),
+        }
+    }
+
+    /// Offset in the waveform of a sample that is there.
     fn offset(&self, number: u64) -> usize {
         let block = u64::from(self.record.block);
         let sequence = number / block * self.frame.sequence_octets;
@@ -281,8 +312,7 @@ impl Series<'_> {
         (sequence + self.lower + in_block) as usize
     }
 
-    /// The bits of samples from `first` on, which is below their number, at the front of `out`; answers
-    /// how many.
+    /// The bits of samples from `first` on, which is 0 or there, at the front of `out`; answers how many.
     #[inline]
     fn fill(&self, first: u64, out: &mut [u64]) -> usize {
         match (self.record.width(), self.frame.little) {
@@ -308,40 +338,54 @@ impl Series<'_> {
         let waveform = self.frame.waveform;
         // A channel on its own is one long block.
         let alone = self.frame.channels == 1;
-        let (block, sequence_octets) = match alone {
-            true => (self.samples() as usize, waveform.len()),
+        let (block, sequence_octets, cut) = match alone {
+            true => ((waveform.len() / W).max(1), waveform.len().max(1), 0),
             false => (
                 self.record.block as usize,
                 self.frame.sequence_octets as usize,
+                self.frame.cut,
             ),
         };
         let first = first as usize;
         let sequences = waveform[first / block * sequence_octets..].chunks_exact(sequence_octets);
+        let mut skipped = first % block;
+        let mut filled = 0;
         if block == 1 {
-            let count = out.len().min(sequences.len());
+            filled = out.len().min(sequences.len());
             for (slot, sequence) in out.iter_mut().zip(sequences) {
                 let (sample, _) = sequence[lower..].split_first_chunk().unwrap();
                 *slot = bits(*sample);
             }
-            return count;
+        } else {
+            for sequence in sequences {
+                let (samples, _) = sequence[lower..lower + block * W].as_chunks();
+                filled += lay(&samples[skipped..], &mut out[filled..], &bits);
+                skipped = 0;
+                if filled == out.len() {
+                    break;
+                }
+            }
         }
-        let mut skipped = first % block;
-        let mut filled = 0;
-        for sequence in sequences {
-            let (samples, _) = sequence[lower..lower + block * W].as_chunks();
-            let room = &mut out[filled..];
-            let count = room.len().min(block - skipped);
-            for (slot, sample) in room.iter_mut().zip(&samples[skipped..]) {
-                *slot = bits(*sample);
-            }
-            filled += count;
-            skipped = 0;
-            if filled == out.len() {
-                break;
-            }
+        if cut > lower {
+            let octets = &waveform[waveform.len() - cut + lower..];
+            let (samples, _) = octets[..octets.len().min(block * W)].as_chunks();
+            filled += lay(&samples[skipped..], &mut out[filled..], &bits);
         }
         filled
     }
+}
+
+/// The bits of samples one after the other, as many as fit, at the front of `out`; answers how many.
+#[inline(always)]
+fn lay<const W: usize>(
+    samples: &[[u8; W]],
+    out: &mut [u64],
+    bits: impl Fn([u8; W]) -> u64,
+) -> usize {
+    for (slot, sample) in out.iter_mut().zip(samples) {
+        *slot = bits(*sample);
+    }
+    out.len().min(samples.len())
 }
 
 /// The samples of a channel in a frame, once the whole file is accepted.

@@ -13,16 +13,21 @@ pub(crate) struct Frame<'a> {
     pub number: u32,
     pub start: i32,
     pub channels: u32,
+    /// Sequences as declared, or by the waveform's length.
     pub sequences: u32,
     pub little: bool,
+    /// Sequences whose samples are all there.
+    pub whole: u32,
     /// Octets of one sequence over all channels.
     pub sequence_octets: u64,
     /// Offset of the waveform's first octet in the file.
     pub place: usize,
     /// Octets of the waveform, its surplus among them.
     pub length: usize,
-    /// The waveform without its surplus.
+    /// The waveform without its surplus: the samples there.
     pub waveform: &'a [u8],
+    /// The last octets of these, which are of the sequence after the whole ones.
+    pub cut: usize,
 }
 
 impl Frame<'_> {
@@ -160,25 +165,47 @@ impl Standing {
             Some(sequences) => sequences,
             None => (length / sequence_octets) as u32,
         };
-        let used = u64::from(sequences) * sequence_octets;
-        if length < used {
-            return Err(Refusal::SHORT_WAVEFORM);
-        }
+        // Below 2 to the 63: a sequence has at most 2 to the 31 octets.
+        let declared = u64::from(sequences) * sequence_octets;
+        let (whole, there, cut) = match declared <= length {
+            true => (sequences, declared, 0),
+            false => {
+                let rest = length % sequence_octets;
+                let cut = self.samples_within(channels, rest);
+                ((length / sequence_octets) as u32, length - rest + cut, cut)
+            }
+        };
         let frame = Frame {
             number: self.frames,
             start,
             channels,
             sequences,
             little: self.little,
+            whole,
             sequence_octets,
             place: item.value,
             length: item.end - item.value,
-            waveform: &octets[item.value..item.value + used as usize],
+            waveform: &octets[item.value..item.value + there as usize],
+            cut: cut as usize,
         };
         self.frames += 1;
         self.start = None;
         self.continued = i64::from(start) + i64::from(self.root.block) * i64::from(sequences);
         Ok(frame)
+    }
+
+    /// Octets of the samples that are all within the first `octets` of a sequence, which has more.
+    #[cold]
+    fn samples_within(&self, channels: u32, octets: u64) -> u64 {
+        let mut blocks = 0;
+        for record in self.records(channels) {
+            let left = octets - blocks;
+            if left < record.block_octets() {
+                return octets - left % u64::from(record.width());
+            }
+            blocks += record.block_octets();
+        }
+        blocks
     }
 
     /// Octets of one sequence, if every channel's offset and null have the sample width.

@@ -1,4 +1,4 @@
-//! The canonical file: big-endian, every setting in its channel's group, no surplus.
+//! The canonical file: big-endian, every setting in its channel's group, the samples there and no surplus.
 
 use crate::items::tag;
 use crate::reader::{Refusal, Scale};
@@ -176,7 +176,7 @@ impl Output<'_> {
         self.put(&octets[4 - following.max(1)..]);
     }
 
-    /// The samples, big-endian, in the order they have in the waveform.
+    /// The samples there, big-endian, in the order they have in the waveform.
     fn samples(&mut self, standing: &Standing, frame: &Frame) {
         let to = self.take(frame.waveform.len());
         if !frame.little {
@@ -187,9 +187,10 @@ impl Output<'_> {
             return turn(width, frame.waveform, to);
         }
         let mut at = 0;
-        for _ in 0..frame.sequences {
+        while at < to.len() {
             for record in standing.records(frame.channels) {
-                let end = at + record.block_octets() as usize;
+                // The last block may be cut off after any of its samples.
+                let end = to.len().min(at + record.block_octets() as usize);
                 turn(record.width(), &frame.waveform[at..end], &mut to[at..end]);
                 at = end;
             }

@@ -2,12 +2,15 @@
 
 mod common;
 
-use common::canonical;
+use common::{all_there, canonical, edges, recording};
 use second::generator::{faulty_file, file, good_file};
-use second::reader::{attributes, check, each_channel, sample, samples, Refusal, Value};
+use second::reader::{
+    attributes, check, each_channel, frames, sample, samples, there, values, Attributes, Refusal,
+    Value,
+};
 use second::shrink::hex;
 use second::writer;
-use std::collections::BTreeSet;
+use std::collections::{BTreeMap, BTreeSet};
 
 const SEEDS: u64 = 20_000;
 
@@ -19,12 +22,16 @@ fn some_of(count: u64, most: u64) -> impl Iterator<Item = u64> {
         .chain(count.checked_sub(1))
 }
 
-/// All samples of a channel, by the bulk question.
+/// The samples of a channel that are declared.
+fn declared(read: &Attributes) -> u64 {
+    u64::from(read.sequences) * u64::from(read.block)
+}
+
+/// All samples of a channel that are there, by the bulk question.
 fn all_samples(file: &[u8], frame: u32, channel: u32) -> Vec<u64> {
-    let read = attributes(file, frame, channel).unwrap();
-    let count = u64::from(read.sequences) * u64::from(read.block);
+    let count = there(file, frame, channel).unwrap();
     let mut bits = vec![0; count as usize];
-    if count > 0 {
+    if declared(&attributes(file, frame, channel).unwrap()) > 0 {
         let filled = samples(file, frame, channel, 0, &mut bits);
         assert_eq!(filled, Ok(count as usize));
     }
@@ -48,10 +55,11 @@ fn every_refusal_occurs() {
     }
     println!("{SEEDS} files, {small} below 400 octets");
     println!("accepted {accepted}, {with_frames} of them with frames");
-    for (number, count) in refusals.iter().enumerate().take(15).skip(1) {
+    for (number, count) in refusals.iter().enumerate().take(14).skip(1) {
         println!("refusal {number:2}: {count}");
         assert!(*count >= 50, "refusal {number} occurs {count} times");
     }
+    assert_eq!(refusals[14..], [0; 10]);
     assert!(u64::from(small) > SEEDS * 9 / 10);
     assert!(with_frames > 5000);
 }
@@ -66,7 +74,7 @@ fn good_files_are_accepted() {
 
 #[test]
 fn faults_are_found_where_they_were_built_in() {
-    for number in 1..=14 {
+    for number in 1..=13 {
         let seeds = if number == 11 { 100 } else { 2000 };
         for seed in 0..seeds {
             let (file, place) = faulty_file(number, seed);
@@ -110,18 +118,32 @@ fn same_channel(source: &[u8], written: &[u8], frame: u32, channel: u32) {
     assert_eq!(attributes(written, frame, channel), read);
     let bits = all_samples(source, frame, channel);
     assert_eq!(all_samples(written, frame, channel), bits);
-    for number in some_of(bits.len() as u64, 4) {
-        let (_, value) = sample(source, frame, channel, number).unwrap();
-        let (_, again) = sample(written, frame, channel, number).unwrap();
-        assert_eq!(value, again);
-        assert_eq!(value, by_hand(bits[number as usize], read.unwrap()));
+    let read = read.unwrap();
+    for number in edges(bits.len() as u64, declared(&read)) {
+        let (source, written) = (
+            sample(source, frame, channel, number),
+            sample(written, frame, channel, number),
+        );
+        assert_eq!(
+            source.map(|(_, value)| value),
+            written.map(|(_, value)| value)
+        );
+        match source {
+            Err(refusal) => {
+                assert!(number >= declared(&read));
+                assert_eq!((refusal.number, refusal.place), (22, 0));
+            }
+            Ok((place, Value::NoData)) => {
+                assert!((bits.len() as u64..declared(&read)).contains(&number));
+                assert_eq!(place, 0);
+            }
+            Ok((_, value)) => assert_eq!(value, by_hand(bits[number as usize], read)),
+        }
     }
-    let past = sample(written, frame, channel, bits.len() as u64);
-    assert_eq!(past.unwrap_err().number, 22);
 }
 
 /// The value of bits, from the answers to the other questions.
-fn by_hand(bits: u64, read: second::reader::Attributes) -> Value {
+fn by_hand(bits: u64, read: Attributes) -> Value {
     match read.data_type {
         _ if read.null == Some(bits) => Value::Null,
         0 => Value::Whole(i64::from(bits as u16 as i16)),
@@ -149,6 +171,7 @@ fn refused_files_leave_the_buffer_alone() {
         assert_eq!(attributes(&file, 0, 0), Err(refusal));
         assert_eq!(sample(&file, 0, 0, 0), Err(refusal));
         assert_eq!(samples(&file, 0, 0, 0, &mut [0]), Err(refusal));
+        assert_eq!(there(&file, 0, 0), Err(refusal));
     }
 }
 
@@ -170,6 +193,20 @@ fn bulk_reading_agrees_with_single_samples() {
                 let filled = samples(&file, 0, channel, first as u64, &mut three).unwrap();
                 assert_eq!(filled, 3.min(bits.len() - first));
                 assert_eq!(three[..filled], bits[first..first + filled]);
+            }
+            for first in edges(bits.len() as u64, declared(&read)) {
+                let expected = match first {
+                    _ if first >= declared(&read) => Err(22),
+                    _ => Ok((bits.len() as u64).saturating_sub(first).min(3) as usize),
+                };
+                let (mut three, mut kinds) = ([u64::MAX; 3], [Value::NoData; 3]);
+                let filled = samples(&file, 0, channel, first, &mut three);
+                assert_eq!(filled.map_err(|refusal| refusal.number), expected);
+                assert_eq!(values(&file, 0, channel, first, &mut kinds), filled);
+                let filled = filled.unwrap_or(0);
+                assert!(three[filled..].iter().all(|bits| *bits == u64::MAX));
+                assert!(kinds[filled..].iter().all(|value| *value == Value::NoData));
+                assert!(kinds[..filled].iter().all(|value| *value != Value::NoData));
             }
         }
     }
@@ -226,6 +263,7 @@ fn good_files_have_every_shape() {
                 note("256 channels", channels == 256);
                 note("128 or more channels", channels >= 128);
                 note("no sequences", read.sequences == 0);
+                note("most sequences", read.sequences == u32::MAX);
                 note("several sequences", read.sequences > 1);
                 note("longest block", read.block == 1_048_576);
                 note("short block", (2..5).contains(&read.block));
@@ -236,9 +274,11 @@ fn good_files_have_every_shape() {
                 note("start below 0", read.start < 0);
                 note("interval", read.interval.unit == 2);
                 note("resolution", read.resolution.unit == 22);
-                if let Ok((_, value)) = sample(&file, frame, channel as u32, 0) {
-                    let kind = format!("{value:?}");
-                    seen.insert(kind.split('(').next().unwrap().to_string());
+                for number in [0, declared(&read).saturating_sub(1)] {
+                    if let Ok((_, value)) = sample(&file, frame, channel as u32, number) {
+                        let kind = format!("{value:?}");
+                        seen.insert(kind.split('(').next().unwrap().to_string());
+                    }
                 }
             }
         }
@@ -246,5 +286,136 @@ fn good_files_have_every_shape() {
     for shape in &seen {
         println!("{shape}");
     }
-    assert_eq!(seen.len(), 1 + 9 + 14 + 6);
+    assert_eq!(seen.len(), 1 + 9 + 15 + 7);
+}
+
+/// Two files have the same canonical file exactly when they hold the same recording. Cutting the last
+/// waveform of a good file makes some that do and many that do not.
+#[test]
+fn canonical_files_tell_recordings_apart() {
+    let (mut same, mut different) = (0, 0);
+    for seed in 0..SEEDS {
+        let file = good_file(seed);
+        let mut last = None;
+        let visited = frames(&file, |met, _| last = Some((met.place, met.length)));
+        let Some((place, length)) = last.filter(|_| file.len() < 1000) else {
+            continue;
+        };
+        visited.unwrap();
+        // The waveform is the file's end, after a length of one octet.
+        let tag = place as usize - 2;
+        if place + length < file.len() as u64
+            || length == 0
+            || file[tag..][..2] != [0x1E, length as u8]
+        {
+            continue;
+        }
+        let mut shorter = file[..file.len() - 1 - seed as usize % length as usize].to_vec();
+        shorter[tag + 1] = (shorter.len() - place as usize) as u8;
+        match recording(&shorter) == recording(&file) {
+            true => {
+                same += 1;
+                assert_eq!(canonical(&shorter), canonical(&file));
+            }
+            false => {
+                different += 1;
+                assert_ne!(canonical(&shorter), canonical(&file));
+            }
+        }
+    }
+    println!("same {same}, different {different}");
+    assert!(same > 100 && different > 1000);
+}
+
+/// The good files have cut-off frames of every shape, and not seldom.
+#[test]
+fn cut_frames_are_made_often() {
+    let mut counts = BTreeMap::new();
+    for seed in 0..SEEDS {
+        let file = good_file(seed);
+        let mut note = |shape: &'static str, met: bool| {
+            *counts.entry(shape).or_insert(0) += u32::from(met);
+        };
+        note("whole file", all_there(&file));
+        note("file with a cut frame", !all_there(&file));
+        let mut continued = None;
+        let visited = frames(&file, |met, channels| {
+            let all: Vec<_> = channels.iter().map(|series| series.attributes()).collect();
+            let widths: BTreeSet<_> = all.iter().map(|read| width(read.data_type)).collect();
+            note(
+                "continued after a cut frame",
+                continued == Some(i64::from(met.start)),
+            );
+            continued = None;
+            let cut = channels
+                .iter()
+                .any(|series| series.there() < series.samples());
+            if !cut {
+                return;
+            }
+            // The root's block is not told; where all channels have the same, it is often that.
+            let advance = i64::from(all[0].block) * i64::from(met.sequences);
+            continued = Some(i64::from(met.start) + advance);
+            let blocks: BTreeSet<_> = all.iter().map(|read| read.block).collect();
+            let mixed = widths.len() > 1 && blocks.len() > 1;
+            let octets: u64 = channels
+                .iter()
+                .zip(&all)
+                .map(|(series, read)| series.there() * width(read.data_type))
+                .sum();
+            let partial = (met.length - octets) as usize;
+            note("empty waveform", met.length == 0);
+            note("no sample of some octets", met.length > 0 && octets == 0);
+            note("most sequences", met.sequences == u32::MAX);
+            note("one sequence", met.sequences == 1);
+            note(
+                "mixed widths and blocks, big",
+                mixed && !met.little && octets > 0,
+            );
+            note(
+                "mixed widths and blocks, little",
+                mixed && met.little && octets > 0,
+            );
+            note(
+                "cut between sequences",
+                octets > 0 && octets.is_multiple_of(met.sequence_octets) && partial == 0,
+            );
+            note("cut inside a sample", partial > 0);
+            // The octets of the partial sample and what comes next, as its null.
+            let end = (met.place + met.length) as usize;
+            note(
+                "null by the next item",
+                partial > 0
+                    && all.iter().any(|read| {
+                        let width = width(read.data_type) as usize;
+                        let after = file.get(end - partial..end - partial + width);
+                        partial < width
+                            && after
+                                .is_some_and(|after| Some(number(after, met.little)) == read.null)
+                    }),
+            );
+        });
+        visited.unwrap();
+    }
+    for (shape, count) in &counts {
+        println!("{shape}: {count}");
+        assert!(*count >= 200, "{shape}: {count}");
+    }
+    assert_eq!(counts.len(), 12);
+}
+
+/// Octets per sample by type.
+fn width(data_type: u8) -> u64 {
+    [2, 2, 4, 1, 2, 1, 4, 4, 8][usize::from(data_type)]
+}
+
+/// The bits of octets.
+fn number(octets: &[u8], little: bool) -> u64 {
+    let mut octets = octets.to_vec();
+    if little {
+        octets.reverse();
+    }
+    octets
+        .iter()
+        .fold(0, |bits, octet| bits * 256 + u64::from(*octet))
 }

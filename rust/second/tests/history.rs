@@ -1,8 +1,11 @@
 //! The attributes of generated files once more, by looking back from each frame over the
-//! definitions ahead of it instead of keeping a table of channels.
+//! definitions ahead of it instead of keeping a table of channels, and the samples there one by one.
 
+mod common;
+
+use common::counted;
 use second::generator::good_file;
-use second::reader::{attributes, check, Attributes, Scale};
+use second::reader::{attributes, check, there, Attributes, Scale};
 use second::shrink::hex;
 
 /// A definition that counts, with the byte order that stands at it.
@@ -171,8 +174,9 @@ fn channels(past: &[Definition]) -> u32 {
     holding(past, 0x05, None).map_or(1, |found| found.bits() as u32)
 }
 
-fn sequences(past: &[Definition], waveform: usize) -> u32 {
-    let octets: u64 = (0..channels(past))
+/// Block length and octets per sample of each channel.
+fn shapes(past: &[Definition]) -> Vec<(u64, u64)> {
+    (0..channels(past))
         .map(|channel| {
             let width = match data_type(past, Some(channel)) {
                 3 | 5 => 1,
@@ -180,8 +184,15 @@ fn sequences(past: &[Definition], waveform: usize) -> u32 {
                 8 => 8,
                 _ => 4,
             };
-            width * u64::from(block(past, Some(channel)))
+            (block(past, Some(channel)).into(), width)
         })
+        .collect()
+}
+
+fn sequences(past: &[Definition], waveform: usize) -> u32 {
+    let octets: u64 = shapes(past)
+        .iter()
+        .map(|(block, width)| block * width)
         .sum();
     let by_length = waveform as u64 / octets;
     holding(past, 0x06, None).map_or(by_length, Definition::bits) as u32
@@ -231,11 +242,16 @@ fn looking_back_finds_the_same_attributes() {
             let past = &all[..n];
             let set = holding(&all[since..n], 0x07, None);
             let start = set.map_or(continued, |found| found.signed(0).into());
-            let sequences = sequences(past, all[n].value.len());
+            let octets = all[n].value.len();
+            let sequences = sequences(past, octets);
+            let shapes = shapes(past);
             for channel in 0..channels(past) {
                 let expected = looked_up(past, channel, start, sequences);
                 let read = attributes(&file, frame, channel);
                 assert_eq!(read, Ok(expected), "seed {seed}: {}", hex(&file));
+                let counted = counted(&shapes, channel as usize, sequences.into(), octets as u64);
+                let there = there(&file, frame, channel);
+                assert_eq!(there, Ok(counted), "seed {seed}: {}", hex(&file));
             }
             continued = start + i64::from(block(past, None)) * i64::from(sequences);
             since = n;

@@ -2,7 +2,7 @@
 
 mod common;
 
-use common::{canonical, refused};
+use common::{all_there, canonical, refused};
 use second::generator::good_file;
 use second::inputs::{good_input, in_file_order, Input, RANGES};
 use second::maker::{number, Numbers, BITS, NUMBERS};
@@ -418,7 +418,8 @@ fn refusals_have_their_order() {
     assert_eq!(made(&input), refused(23, 0));
 }
 
-/// The frames of an accepted file, each as the settings and samples that it is made of.
+/// The frames of an accepted file whose samples are all there, each as the settings and samples that it
+/// is made of.
 fn taken_apart(file: &[u8]) -> Vec<Input> {
     let mut inputs = Vec::new();
     let visited = frames(file, |met, channels| {
@@ -442,9 +443,11 @@ fn taken_apart(file: &[u8]) -> Vec<Input> {
 }
 
 #[test]
-fn a_file_taken_apart_is_made_again_in_canonical_form() {
+fn a_file_whose_samples_are_all_there_is_made_again_in_canonical_form() {
     let generated = (0..5000).map(good_file).filter(|file| file.len() < 100_000);
-    for file in generated.chain([octets(P2)]) {
+    let (whole, others): (Vec<_>, Vec<_>) = generated.partition(|file| all_there(file));
+    assert!(whole.len() > 2000 && others.len() > 1000);
+    for file in whole.into_iter().chain([octets(P2)]) {
         let frames = taken_apart(&file);
         let mut made = match frames.is_empty() {
             true => Vec::new(),
@@ -455,6 +458,41 @@ fn a_file_taken_apart_is_made_again_in_canonical_form() {
         }
         assert_eq!(made, canonical(&file));
     }
+}
+
+/// The maker wants exact counts: the samples there of a cut-off frame are too few.
+#[test]
+fn a_frame_that_is_cut_off_is_not_made() {
+    let mut cut = 0;
+    for file in (0..5000).map(good_file) {
+        let visited = frames(&file, |met, channels| {
+            if channels
+                .iter()
+                .all(|series| series.there() == series.samples())
+            {
+                return;
+            }
+            let rows = channels.iter().map(|series| series.attributes().row());
+            let (numbers, bits): (Vec<_>, Vec<_>) = rows.unzip();
+            let there = channels.iter().zip(&numbers);
+            let octets: u64 = there
+                .map(|(series, row)| series.there() * row[number::WIDTH] as u64)
+                .sum();
+            let input = Input {
+                start: met.start.into(),
+                sequences: met.sequences.into(),
+                channels: channels.len() as u64,
+                numbers: numbers.concat(),
+                bits: bits.concat(),
+                samples: vec![0; octets as usize],
+                room: 20_000,
+            };
+            assert_eq!(made(&input), refused(25, 0));
+            cut += 1;
+        });
+        visited.unwrap();
+    }
+    assert!(cut > 1000, "{cut}");
 }
 
 #[test]
@@ -481,6 +519,7 @@ fn made_files_read_back() {
             }
         });
         assert!(visited.is_ok() && inputs.next().is_none());
+        assert!(all_there(&file));
         assert_eq!(canonical(&file), file);
     }
 }

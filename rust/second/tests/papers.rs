@@ -5,7 +5,7 @@ mod common;
 use common::{canonical, refused};
 use second::papers::*;
 use second::reader::{
-    all_samples, attributes, check, frames, sample, samples, Attributes, Scale, Value,
+    all_samples, attributes, check, frames, sample, samples, there, Attributes, Scale, Value,
 };
 use second::shrink::hex;
 
@@ -111,20 +111,15 @@ fn p5_ignores_the_group() {
 }
 
 #[test]
-fn p6_to_p10_are_refused() {
-    for (file, number, place) in [
-        (P6, 8, 3),
-        (P7, 2, 0),
-        (P8, 10, 0),
-        (P9, 14, 3),
-        (P10, 12, 3),
-    ] {
+fn p6_to_p8_and_p10_are_refused() {
+    for (file, number, place) in [(P6, 8, 3), (P7, 2, 0), (P8, 10, 0), (P10, 12, 3)] {
         let file = octets(file);
         assert_eq!(check(&file), refused(number, place));
         // Every question on a refused file answers the file's refusal.
         assert_eq!(attributes(&file, 9, 9), refused(number, place));
         assert_eq!(sample(&file, 9, 9, 9), refused(number, place));
         assert_eq!(samples(&file, 9, 9, 9, &mut [0]), refused(number, place));
+        assert_eq!(there(&file, 9, 9), refused(number, place));
         let length = second::writer::canonical_length(&file);
         assert_eq!(length, refused(number, place));
         let mut buffer = [0xA5; 200];
@@ -132,6 +127,30 @@ fn p6_to_p10_are_refused() {
         assert_eq!(written, refused(number, place));
         assert_eq!(buffer, [0xA5; 200]);
     }
+}
+
+#[test]
+fn p9_has_5_and_then_no_data() {
+    let file = octets(P9);
+    assert_eq!(check(&file), Ok(1));
+    let read = Attributes {
+        sequences: 2,
+        ..DEFAULTS
+    };
+    assert_eq!(attributes(&file, 0, 0), Ok(read));
+    assert_eq!(there(&file, 0, 0), Ok(1));
+    assert_eq!(sample(&file, 0, 0, 0), Ok((5, Value::Whole(5))));
+    assert_eq!(sample(&file, 0, 0, 1), Ok((0, Value::NoData)));
+    assert_eq!(sample(&file, 0, 0, 2), refused(22, 0));
+    let mut bits = [7; 2];
+    assert_eq!(samples(&file, 0, 0, 0, &mut bits), Ok(1));
+    assert_eq!(bits, [5, 7]);
+    assert_eq!(samples(&file, 0, 0, 1, &mut bits), Ok(0));
+    assert_eq!(bits, [5, 7]);
+    let written = octets(P9_CANONICAL);
+    assert_eq!(written.len(), 67);
+    assert_eq!(canonical(&file), written);
+    assert_eq!(canonical(&written), written);
 }
 
 #[test]

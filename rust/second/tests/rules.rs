@@ -394,6 +394,9 @@ fn files_have_a_limit() {
 #[test]
 fn refusals_have_their_numbers() {
     assert_eq!(Refusal::CONTEXT_TAG, 1);
+    assert_eq!(Refusal::START_RANGE, 13);
+    // Retired, so that no later number takes it.
     assert_eq!(Refusal::SHORT_WAVEFORM, 14);
+    assert_eq!(Refusal::LONG_FILE, 15);
     assert_eq!(Refusal::NO_ROOM, 23);
 }

@@ -12,13 +12,14 @@ pub struct Writer {
 }
 
 impl Writer {
-    /// Writes the settings of a frame. Its channels are written where they are others than
-    /// those before.
+    /// Writes the settings of a frame, with a note behind its sequences. Its channels are written where
+    /// they are others than those before.
     pub fn frame(
         &mut self,
         out: &mut impl Write,
         number: u32,
         frame: FrameSettings,
+        note: &str,
     ) -> io::Result<()> {
         let FrameSettings {
             start,
@@ -33,7 +34,7 @@ impl Writer {
             Some((last, _)) => writeln!(out, "frame  # {number}, channels as in frame {last}")?,
             None => writeln!(out, "frame  # {number}")?,
         }
-        writeln!(out, "  start {start}\n  sequences {sequences}")?;
+        writeln!(out, "  start {start}\n  sequences {sequences}{note}")?;
         if same.is_none() {
             write_channels(out, &channels)?;
             self.last = Some((number, channels));
