@@ -1,6 +1,6 @@
 -- The numbers of document 01's table, "What comes back when it is no", and those that the requests of document 02 add to it, each named once, with
 -- the words that every reader of a refusal is told. They are the papers'; what these lean on elsewhere stands in parentheses, and document 01's "table
--- above" is that of attributes. 23 is said of canonical files and of made frames alike.
+-- above" is that of attributes. 23 is said of canonical files and of made frames alike. A number that is retired keeps its name, so that no other takes it.
 use Prim.Native.Nat.{ℕ}
 
 -- 1: context tag other than 3Fh
@@ -55,7 +55,7 @@ sampleWidth = 12
 abbrev pub startRange : ℕ
 startRange = 13
 
--- 14: waveform shorter than sequences times G (the octets of a sequence)
+-- 14: retired, no longer given: waveform shorter than sequences times G (the octets of a sequence)
 abbrev pub shortWaveform : ℕ
 shortWaveform = 14
 

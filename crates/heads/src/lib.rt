@@ -42,6 +42,7 @@ impl Refusal {
 
     pub const START_RANGE: u8 = 13;
 
+    // Retired: nothing gives it, and no other refusal takes its number.
     pub const SHORT_WAVEFORM: u8 = 14;
 
     pub const LONG_FILE: u8 = 15;

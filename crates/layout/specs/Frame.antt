@@ -35,13 +35,9 @@ unfoldable pub sequenceOctets : List Settings → ℕ
 sequenceOctets [] = 0
 sequenceOctets (c ∷ cs) = blockOctets c + sequenceOctets cs
 
--- The octets that the samples of a frame take: each of its sequences takes G.
+-- The octets that the samples of sequences take: each takes G.
 abbrev pub samplesOctets : List Settings → ℕ → ℕ
 samplesOctets cs sequences = sequences * sequenceOctets cs
-
--- The same of a frame; the octets of its waveform that follow them are surplus.
-abbrev pub octetsSampled : Frame → ℕ
-octetsSampled f = samplesOctets (f .channels) (f .sequences)
 
 -- The block octets of all channels below one.
 unfoldable pub octetsBelow : ℕ → List Settings → ℕ
@@ -72,7 +68,7 @@ allAgree (c ∷ cs) = both (channelAgrees c) (allAgree cs)
 abbrev pub channelIn : ℕ → List Settings → Settings
 channelIn channel cs = getD cs channel zeroSettings
 
--- How many samples a channel has: sequences times its block length.
+-- How many samples of a channel are declared: sequences times its block length.
 unfoldable pub samplesOf : ℕ → Frame → ℕ
 samplesOf channel f = f .sequences * channelIn channel (f .channels) .block
 

@@ -234,49 +234,83 @@ module _ {s : List ℕ} {frame channel : ℕ} {w : View} (p : Located s frame ch
   unfolding viewOf
   below-seen = ap (λ (v : View). v .below) (p .view)
 
-  -- The channel's samples lie in the file.
-  pub located-in : Octets s → LiesIn (length s) w
+  long-seen : w .long ≡ length (frameIn .waveform)
+  unfolding viewOf
+  long-seen = ap (λ (v : View). v .long) (p .view)
+
+  pub there-seen : thereSeen w ≡ thereIn channel frameIn
+  unfolding thereIn thereOf
+  there-seen =
+      λ i. countThere (sequences-seen i) (settings-seen i .block) (widthIn (settings-seen i)) (octets-seen i) (below-seen i) (long-seen i)
+
+  pub frame-lies : Lies s frameIn
+  frame-lies = accepted-lies s (p .frames) (p .verdictIs) frame (p .frameIn)
+
+  -- The channel's samples there lie in the file.
+  located-in : LiesIn (length s) w
   unfolding blockOctets
-  located-in o =
-      let a = accepted-lies s (p .frames) (p .verdictIs) frame (p .frameIn) in
-      let g = accepted-good s o (p .frames) (p .verdictIs) frame (p .frameIn) in
-      let t = every-at GoodSettings (frameIn .channels) (g .channels) zeroSettings channel (p .channelIs) .datatype in
+  located-in =
       record {
         spread = record {
           small = accepted-small s (p .frames) (p .verdictIs);
-          wide = rw settings-seen (width-some (channelIn channel (frameIn .channels) .datatype) t);
+          wide = rw settings-seen (frame-lies .wide channel (p .channelIs));
           block = rw (settings-seen, below-seen, octets-seen) (below-fits (frameIn .channels) channel (p .channelIs));
-          inside = rw (place-seen, sequences-seen, octets-seen) (omega (arith, a .fits, a .inside));
+          inside = rw (place-seen, long-seen) (frame-lies .inside);
         };
       }
 
-  pub located-lies : Octets s → liesIn (length s) w ≡ true
-  located-lies o = lies-seen (located-in o)
+  pub located-lies : liesIn (length s) w ≡ true
+  located-lies = lies-seen located-in
 
   -- A question for a sample of the channel, over what is seen of it.
-  pub asked-seen : Octets s → {A : Type 0} (g : Frame → A) (n : ℕ) → askedSample g frame channel n (verdict s) ≡ askedSeen (length s) w n (g frameIn)
-  asked-seen o g n =
+  pub asked-seen : {A : Type 0} (g : Frame → A) (n : ℕ) → askedSample g frame channel n (verdict s) ≡ askedSeen (length s) w n (g frameIn)
+  asked-seen g n =
       asked-found frame channel (p .verdictIs) (p .frameIn) (p .channelIs) _
-      ∙ simp (located-lies o, count-seen)
+      ∙ simp (located-lies, count-seen)
+
+  -- A declared sample, of which the frame says whether it is there.
+  named-seen : {n : ℕ} → n < countSeen w → Named (frameIn .channels) (frameIn .sequences) channel n
+  unfolding samplesOf
+  named-seen h = record { channel = p .channelIs; number = omega (arith, count-seen) }
+
+  pub test-seen : {n : ℕ} → n < countSeen w → ltb n (thereSeen w) ≡ isThere (frameIn .channels) (length (frameIn .waveform)) channel n
+  test-seen {n = n} h = ap (ltb n) there-seen ∙ test-there s frameIn frame-lies (named-seen h)
+
+  -- What is asked of a sample where it is declared may be asked knowing so.
+  asked-knowing : {A : Type 0} {n : ℕ} {a b : A} → (n < countSeen w → a ≡ b) → askedSeen (length s) w n a ≡ askedSeen (length s) w n b
+  asked-knowing {A} {n} {a} {b} f = by (ltb n (countSeen w)) refl
+    where
+      by : (t : Bool) → ltb n (countSeen w) ≡ t
+          → _≡_ {A = Answer A} (pick t (pick (liesIn (length s) w) (answered a) (refusedAs noFrame 0)) (refusedAs noSample 0)) (pick t (pick (liesIn (length s) w) (answered b) (refusedAs noFrame 0)) (refusedAs noSample 0))
+      by true e = ap (λ (x : A). pick (liesIn (length s) w) (answered x) (refusedAs noFrame 0)) (f (ltb-true n (countSeen w) e))
+      by false e = refl
 
   -- The place of a sample is the one that is found of what is seen.
-  pub placed-seen : Octets s → (n : ℕ) → mapAnswer (λ at. foundPlace at w) (placeIn (length s) w n) ≡ placedOf s frame channel n
+  pub placed-seen : (n : ℕ) → mapAnswer (Option·map (λ at. foundPlace at w)) (placeIn (length s) w n) ≡ placedOf s frame channel n
   unfolding placedOf
-  placed-seen o n =
-      map-seen (λ at. foundPlace at w) (length s) w n (placeSeen w n)
-      ∙ (λ i. askedSeen (length s) w n (foundPlace (place-is n i) (p .view i)))
-      ∙ sym (asked-seen o (λ f. foundPlace (placeOf channel n f) (viewOf channel f)) n)
+  placed-seen n =
+      map-seen (Option·map (λ at. foundPlace at w)) (length s) w n (pick (ltb n (thereSeen w)) (some (placeSeen w n)) none)
+      ∙ asked-knowing (λ h. same (test-seen h))
+      ∙ sym (asked-seen (λ f. ifThere channel n f (some (foundPlace (placeOf channel n f) (viewOf channel f))) none) n)
+    where
+      same : {t : Bool} → ltb n (thereSeen w) ≡ t → Option·map (λ at. foundPlace at w) (pick (ltb n (thereSeen w)) (some (placeSeen w n)) none) ≡ pick t (some (foundPlace (placeOf channel n frameIn) (viewOf channel frameIn))) none
+      same {t} e = ap (λ (u : Bool). Option·map (λ at. foundPlace at w) (pick u (some (placeSeen w n)) none)) e ∙ by t
+        where
+          by : (u : Bool) → Option·map (λ at. foundPlace at w) (pick u (some (placeSeen w n)) none) ≡ pick u (some (foundPlace (placeOf channel n frameIn) (viewOf channel frameIn))) none
+          by true = λ i. some (foundPlace (place-is n i) (p .view i))
+          by false = refl
 
-  module _ {n : ℕ} (h : n < countSeen w) where
+  module _ {n : ℕ} (h : n < thereSeen w) where
+    inside : endOf (frameIn .channels) channel n ≤ length (frameIn .waveform)
+    inside = counts-inside s frameIn frame-lies (named-seen (there-named (spreadOf w) n h)) .1 (omega (arith, there-seen))
+
     -- The octets there are the sample's.
     pub bits-seen : numberOf (w .little) (take (widthOf (w .settings .datatype)) (drop (placeSeen w n) s)) ≡ sampleBits frameIn channel n
-    unfolding samplesOf
     bits-seen =
         let o = little-seen in
         let c = settings-seen in
         let q = place-is n in
-        (λ j. numberOf (o j) (take (widthOf (c j .datatype)) (drop (q j) s)))
-        ∙ bits-there s frameIn (accepted-lies s (p .frames) (p .verdictIs) frame (p .frameIn)) (record { channel = p .channelIs; number = omega (arith, count-seen) })
+        (λ j. numberOf (o j) (take (widthOf (c j .datatype)) (drop (q j) s))) ∙ bits-there s frameIn frame-lies inside
 
 -- Where no channel is seen no question for a sample is answered.
 pub unseen : {A : Type 0} (g : Frame → A) (s : List ℕ) (frame channel n : ℕ) (x : Refusal) {r : LookedUp} → lookedUpSays r ≡ seenOf s frame channel → r ≡ LookedUp.Refused x → refusedBy x ≡ askedSample g frame channel n (verdict s)
@@ -287,27 +321,48 @@ unseen {A} g s frame channel n x e f =
 
 -- ---- a sample, over its place
 
--- The file is accepted and has the frame, the channel and the sample, which lies at p.
+-- The file is accepted and has the frame, the channel and the sample, which is there and lies at p.
 pub record PlacedAt (s : List ℕ) (frame channel n p : ℕ) (v : View) : Type 0 where
   pub channelAt : Located s frame channel v
-  pub number : n < countSeen v
+  pub number : n < thereSeen v
   pub place : p ≡ placeSeen v n
 
+-- It is declared and not there.
+pub record LackingAt (s : List ℕ) (frame channel n : ℕ) : Type 0 where
+  pub seen : View
+  pub channelAt : Located s frame channel seen
+  pub number : n < countSeen seen
+  pub past : isThere (frameIn channelAt .channels) (length (frameIn channelAt .waveform)) channel n ≡ false
+
 module _ (s : List ℕ) (frame channel n : ℕ) where
-  there : {p : ℕ} {v : View} (fs : List Frame) → verdict s ≡ accepted fs → frame < length fs → channel < length (getD fs frame zeroFrame .channels) → n < samplesOf channel (getD fs frame zeroFrame)
-      → p ≡ placeOf channel n (getD fs frame zeroFrame) → v ≡ viewOf channel (getD fs frame zeroFrame) → PlacedAt s frame channel n p v
-  there fs a i c h q w =
-      let l : Located s frame channel _ = record { frames = fs; verdictIs = a; frameIn = i; channelIs = c; view = w } in
-      record { channelAt = l; number = omega (arith, count-seen l); place = q ∙ sym (place-is l n) }
+  -- What the answer for a place says, by whether the sample is there.
+  abbrev Says : Option FoundPlace → Type 0
+  Says (some x) = PlacedAt s frame channel n (x .place) (x .channel)
+  Says none = LackingAt s frame channel n
+
+  says : (fs : List Frame) → verdict s ≡ accepted fs → frame < length fs → channel < length (getD fs frame zeroFrame .channels) → n < samplesOf channel (getD fs frame zeroFrame)
+      → let f = getD fs frame zeroFrame in (t : Bool) → isThere (f .channels) (length (f .waveform)) channel n ≡ t → Says (pick t (some (foundPlace (placeOf channel n f) (viewOf channel f))) none)
+  says fs a i c h true t =
+      let f = getD fs frame zeroFrame in
+      let l : Located s frame channel (viewOf channel f) = record { frames = fs; verdictIs = a; frameIn = i; channelIs = c; view = refl } in
+      record { channelAt = l; number = ltb-true n _ (test-seen l (omega (arith, count-seen l)) ∙ t); place = sym (place-is l n) }
+  says fs a i c h false t =
+      let f = getD fs frame zeroFrame in
+      let l : Located s frame channel (viewOf channel f) = record { frames = fs; verdictIs = a; frameIn = i; channelIs = c; view = refl } in
+      record { seen = viewOf channel f; channelAt = l; number = omega (arith, count-seen l); past = t }
+
+  answer-says : {o : Option FoundPlace} → answered o ≡ placedOf s frame channel n → Says o
+  unfolding placedOf
+  answer-says {o} =
+      sample-both (λ (a b : Answer (Option FoundPlace)). answered o ≡ a → Says o)
+      (λ number place q. let z : _≡_ {A = ℕ} 0 1 = cc in let a : ⊥ = omega arith in absurd a) frame channel _ (λ f. ifThere channel n f (some (foundPlace (placeOf channel n f) (viewOf channel f))) none) n (verdict s)
+      (λ fs a i c h q. let e : o ≡ ifThere channel n (getD fs frame zeroFrame) (some (foundPlace (placeOf channel n (getD fs frame zeroFrame)) (viewOf channel (getD fs frame zeroFrame)))) none = cc in subst Says (sym e) (says fs a i c h _ refl))
 
   pub placed-at : {p : ℕ} {v : View} {r : Placed} → placedSays r ≡ placedOf s frame channel n → r ≡ At p v → PlacedAt s frame channel n p v
-  unfolding placedOf
-  placed-at {p} {v} e f =
-      sample-both (λ (a b : Answer FoundPlace). answered (foundPlace p v) ≡ a → PlacedAt s frame channel n p v)
-      (λ number place q. let z : _≡_ {A = ℕ} 0 1 = cc in let a : ⊥ = omega arith in absurd a) frame channel _ (λ f. foundPlace (placeOf channel n f) (viewOf channel f)) n (verdict s)
-      (λ fs a i c h q.
-      let x : foundPlace p v ≡ foundPlace (placeOf channel n (getD fs frame zeroFrame)) (viewOf channel (getD fs frame zeroFrame)) = cc in
-      there fs a i c h (ap (λ (y : FoundPlace). y .place) x) (ap (λ (y : FoundPlace). y .channel) x)) (ap placedSays (sym f) ∙ e)
+  placed-at e f = answer-says (ap placedSays (sym f) ∙ e)
+
+  pub placed-lacking : {r : Placed} → placedSays r ≡ placedOf s frame channel n → r ≡ Lacking → LackingAt s frame channel n
+  placed-lacking e f = answer-says (ap placedSays (sym f) ∙ e)
 
 -- The sample that lies at the place that was found, of the octets x there.
 pub sample-at : (s : List ℕ) (frame channel n : ℕ) {p width bits : ℕ} {w : View} {x : List ℕ} {value : Said} {r : Placed} → placedSays r ≡ placedOf s frame channel n → r ≡ At p w
@@ -321,10 +376,20 @@ sample-at s frame channel n {p} {width} {bits} {w} {x} e f ew ex er ev =
     let c = settings-seen l in
     let read = part-read (w .little) (widthOf (w .settings .datatype)) (drop p s) x (width-le (w .settings .datatype)) (rw ew at ex) er in
     let all = low-bits (w .settings .datatype) bits (part-fits (w .little) (widthOf (w .settings .datatype)) (drop p s) x (width-le (w .settings .datatype)) (rw ew at ex) er) in
+    let named = there-named (spreadOf w) n (m .number) in
+    let there : isThere (frameIn l .channels) (length (frameIn l .waveform)) channel n ≡ true = sym (test-seen l named) ∙ lt-ltb n (thereSeen w) (m .number) in
     let b : bits ≡ sampleBits (frameIn l) channel n = read ∙ ap (λ (k : ℕ). numberOf (w .little) (take (widthOf (w .settings .datatype)) (drop k s))) (m .place) ∙ bits-seen l (m .number) in
     let v = ev ∙ ap (valueOf (w .settings .datatype) (w .settings .null)) all ∙ (λ j. valueOf (c j .datatype) (c j .null) (b j)) in
-    (λ j. answered (foundSample (place j) (b j) (v j)))
-    ∙ sym (sample-found frame channel (l .verdictIs) (l .frameIn) (l .channelIs) (sampleIn channel n) (omega (arith, count-seen l, m .number)))
+    (λ j. answered (pick (there (~ j)) (foundSample (place j) (b j) (v j)) noData))
+    ∙ sym (sample-found frame channel (l .verdictIs) (l .frameIn) (l .channelIs) (sampleIn channel n) (omega (arith, count-seen l)))
+
+-- A sample that is not there.
+pub sample-lacking : (s : List ℕ) (frame channel n : ℕ) {r : Placed} → placedSays r ≡ placedOf s frame channel n → r ≡ Lacking → answered noData ≡ sampleOf s frame channel n
+unfolding sampleOf sampleIn
+sample-lacking s frame channel n e f =
+    let m = placed-lacking s frame channel n e f in
+    let l = m .channelAt in
+    sym (sample-found frame channel (l .verdictIs) (l .frameIn) (l .channelIs) (sampleIn channel n) (omega (arith, count-seen l, m .number)) ∙ simp (m .past))
 
 pub sample-none : (s : List ℕ) (frame channel n : ℕ) (x : Refusal) {r : Placed} → placedSays r ≡ placedOf s frame channel n → r ≡ Placed.Refused x → refusedBy x ≡ sampleOf s frame channel n
 unfolding placedOf sampleOf

@@ -1,5 +1,4 @@
 -- Each number of a frame of an accepted file is in its range.
---     number-first     the number of the first octets is one of their width
 --     change-good      a value that a definition gives is in its attribute's range
 --     every-good, accepted-good    so is each number of each frame of an accepted file
 --     agree-every      where 12 was looked for, each channel's offset and null have its sample width
@@ -36,7 +35,8 @@ use Rattle.framing.specs.Framing.{channelsOf}
 use Rattle.verdict.specs.Verdict.{State, firstState, frameChannels, frameAt, accepted, verdict}
 use Rattle.pass.specs.Scan.{zeroFrame}
 use Rattle.verdict.proofs.Keeps.{Keeps, accepted-by, accepted-kept}
-use Rattle.verdict.proofs.Steps.{Waveform, waveform-short, TakenBy, ItemStep, passes, stands, resets, changes, sets, frames, meaning-steps}
+use Rattle.framing.proofs.Framings.{sequences-small}
+use Rattle.verdict.proofs.Steps.{number-first, Small, Waveform, waveform-short, TakenBy, ItemStep, passes, stands, resets, changes, sets, frames, meaning-steps}
 use Rattle.verdict.proofs.Every.{Every, every-at, every-snoc, every-take, every-imp}
 use Rattle.verdict.proofs.Tables.{EachAttribute, Table, table-step, table-first}
 use Rattle.verdict.proofs.Bounds.{Bounded, bounded-first, bounded-step, octets-some}
@@ -149,10 +149,6 @@ twos-positive w n = by (ltb (2 * n) (range w)) refl refl
     by false e q h = let z : _≡_ {A = ℕ} 0 1 = cc in let w : ⊥ = omega arith in absurd w
 
 module _ (little : Bool) (v : List ℕ) (octets : Octets v) where
-  -- The number of the first octets is one of their width.
-  pub number-first : (n : ℕ) → numberOf little (take n v) < range n
-  number-first n = lt-of-lt-of-le (number-below little (take n v) (take-octets n v octets)) (cap (length (take n v)) n (take-length-le n v))
-
   scale-good : (last : ℕ) → scaleFits last (scaleOf little v) ≡ true → GoodScale last (scaleOf little v)
   unfolding scaleOf signedOf
   scale-good last e =
@@ -178,8 +174,8 @@ module _ (little : Bool) (v : List ℕ) (octets : Octets v) where
       let n = numberOf little (take 4 v) in
       let h = both-split (leb 1 n) (leb n blockLimit) r in
       (leb-true 1 n (h .0), leb-true n blockLimit (h .1))
-  change-good Attribute.Class f r = number-first 2
-  change-good Attribute.Lead f r = number-first 2
+  change-good Attribute.Class f r = number-first little v octets 2
+  change-good Attribute.Lead f r = number-first little v octets 2
   change-good Attribute.DataType f r = leb-true (getD v 0 0) lastDataType r
   change-good Attribute.Interval f r = scale-good lastIntervalUnit r
   change-good Attribute.Resolution f r = scale-good lastResolutionUnit r
@@ -189,8 +185,8 @@ module _ (little : Bool) (v : List ℕ) (octets : Octets v) where
 -- ---- frames
 
 -- What every item keeps.
-record Ranged (x : State) : Type 0 where
-  pub bounded : Bounded x
+record Ranged (s : List ℕ) (x : State) : Type 0 where
+  pub sequences : Small s (x .standing .sequences)
   pub table : Table GoodChange x
   pub frames : Every GoodFrame (x .frames)
 
@@ -205,20 +201,28 @@ module _ (s : List ℕ) (octets : Octets s) where
       → GoodChange (changeOf a little (valueAt s start len))
   fresh-good a little start len f z r = change-good little (valueAt s start len) (value-octets start len) a f r
 
+  -- Sequences that stand are a number of four octets.
+  sequences-step : (x : State) (i : Item) (y : State) → Small s (x .standing .sequences) → ItemStep s x i y → Small s (y .standing .sequences)
+  sequences-step x i _ p passes = p
+  sequences-step x i _ p (stands y h r q) = q p
+  sequences-step x i _ p (resets y h r q) = rw q p
+  sequences-step x i _ p (changes ch g) = p
+  sequences-step x i _ p (sets channel ch g) = p
+  sequences-step x i _ p (frames start long n y w f) = rw (f .after) p
+
   module _ (short : length s ≤ octetsLimit) where
-    frame-good : (x : State) (i : Item) (start long n : ℕ) (y : Standing) → Ranged x → Waveform s i start long
+    frame-good : (x : State) (i : Item) (start long n : ℕ) (y : Standing) → Ranged s x → Waveform s i start long
         → TakenBy (length (x .frames)) (x .standing) (allAgree (frameChannels x)) (sequenceOctets (frameChannels x)) long n y
         → GoodFrame (frameAt s x start long n)
     frame-good x i start long n y p w f =
-        let few : n ≤ n * sequenceOctets (frameChannels x) = le-mul-of-pos-right n (octets-some x (p .bounded)) in
         record {
           channels = every-imp (EachAttribute GoodChange) GoodSettings settings-good (frameChannels x) (every-take (EachAttribute GoodChange) (channelsOf (x .standing .counted)) (x .channels) (p .table .table));
           agree = f .agrees;
-          sequences = omega (arith, f .fits, waveform-short s w);
+          sequences = rw (f .sequences) (sequences-small (x .standing .sequences) long (sequenceOctets (frameChannels x)) (p .sequences octets) (omega (arith, waveform-short s w)));
           octets = value-octets start long;
         }
 
-    frames-step : (x : State) (i : Item) (y : State) → Ranged x → ItemStep s x i y → Every GoodFrame (y .frames)
+    frames-step : (x : State) (i : Item) (y : State) → Ranged s x → ItemStep s x i y → Every GoodFrame (y .frames)
     frames-step x i _ p passes = p .frames
     frames-step x i _ p (stands y h r q) = p .frames
     frames-step x i _ p (resets y h r q) = p .frames
@@ -227,17 +231,17 @@ module _ (s : List ℕ) (octets : Octets s) where
     frames-step x i _ p (frames start long n y w f) =
         every-snoc GoodFrame (x .frames) (frameAt s x start long n) (p .frames) (frame-good x i start long n y p w f)
 
-    ranged-keeps : Keeps s (λ x c. Ranged x)
+    ranged-keeps : Keeps s (λ x c. Ranged s x)
     ranged-keeps x c i d y p e f =
         let st = meaning-steps s x i y f in
-        record { bounded = bounded-step s x i y (p .bounded) st; table = table-step GoodChange s default-good fresh-good x i y (p .table) st; frames = frames-step x i y p st }
+        record { sequences = sequences-step x i y (p .sequences) st; table = table-step GoodChange s default-good fresh-good x i y (p .table) st; frames = frames-step x i y p st }
 
-  ranged-first : Ranged firstState
-  ranged-first = record { bounded = bounded-first s; table = table-first GoodChange s default-good fresh-good; frames = tt }
+  ranged-first : Ranged s firstState
+  ranged-first = record { sequences = λ o. omega arith; table = table-first GoodChange s default-good fresh-good; frames = tt }
 
   pub every-good : (fs : List Frame) → verdict s ≡ accepted fs → Every GoodFrame fs
   every-good fs e =
-      let k = accepted-kept s (λ x c. Ranged x) (ranged-keeps (accepted-by s fs e .0)) ranged-first fs e in
+      let k = accepted-kept s (λ x c. Ranged s x) (ranged-keeps (accepted-by s fs e .0)) ranged-first fs e in
       rw (k .frames) at (k .holds .frames)
 
   pub accepted-good : (fs : List Frame) → verdict s ≡ accepted fs → (i : ℕ) → i < length fs → GoodFrame (getD fs i zeroFrame)

@@ -1,7 +1,7 @@
 -- Where the frames of an accepted file lie.
 --     accepted-small     the file is no longer than the limit
 --     accepted-few       its frames are no more than the limit
---     every-lies, accepted-lies    each waveform lies in the file, and holds the frame's sequences
+--     every-lies, accepted-lies    each waveform lies in the file, and its samples have octets
 --     accepted-ordered   no frame starts before the end of one before it
 -- Assumes nothing.
 use mathlib.Core.Path.{_≡_, refl, _∙_, subst}
@@ -17,7 +17,8 @@ use Rattle.items.specs.declared.Cursor.{Cursor}
 use Rattle.items.proofs.Walks.{FoundAt, ItemLies, next-found}
 use Rattle.settings.specs.declared.Settings.{Settings}
 use Rattle.settings.specs.Settings.{channelLimit}
-use Rattle.layout.specs.Frame.{Frame, sequenceOctets, allAgree, octetsSampled}
+use Rattle.layout.specs.Frame.{Frame, sequenceOctets, allAgree}
+use Rattle.there.specs.There.{Wide}
 use Rattle.standing.specs.declared.Standing.{Standing}
 use Rattle.effects.specs.Effects.{valueAt}
 use Rattle.standing.specs.Standing.{octetsLimit, framesLimit}
@@ -27,11 +28,11 @@ use Rattle.pass.specs.Scan.{zeroFrame}
 use Rattle.verdict.proofs.Keeps.{Kept, Keeps, firstCursor, accepted-by, accepted-kept}
 use Rattle.verdict.proofs.Steps.{Waveform, TakenBy, ItemStep, passes, stands, resets, changes, sets, frames, meaning-steps}
 use Rattle.verdict.proofs.Every.{Every, every-at, every-snoc, every-imp}
-use Rattle.verdict.proofs.Bounds.{Bounded, bounded-first, bounded-step, frame-channels}
+use Rattle.verdict.proofs.Bounds.{Bounded, bounded-first, bounded-step, frame-channels, channels-wide}
 
--- A frame whose waveform lies in the file and holds its sequences, with 1 to 256 channels.
+-- A frame whose waveform lies in the file, with 1 to 256 channels, whose samples have octets.
 pub record Lies (s : List ℕ) (f : Frame) : Type 0 where
-  pub fits : octetsSampled f ≤ length (f .waveform)
+  pub wide : Wide (f .channels)
   pub inside : f .place + length (f .waveform) ≤ length s
   pub octets : f .waveform ≡ take (length (f .waveform)) (drop (f .place) s)
   pub some : 0 < length (f .channels)
@@ -91,7 +92,7 @@ module _ (s : List ℕ) (x : State) (c d : Cursor) (p : Lying s x c) where
     new-lies =
         let k = frame-channels x (p .bounded) in
         record {
-          fits = rw long-is (t .fits);
+          wide = channels-wide x (p .bounded);
           inside = rw long-is (omega arith);
           octets = rw long-is;
           some = k .0;

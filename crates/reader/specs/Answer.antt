@@ -1,24 +1,26 @@
--- The questions (document 01, "Frames and samples" and "What comes back when it is no"): the attributes of a channel in a frame, and the
--- place, bits and value of a sample.
+-- The questions (document 01, "Frames and samples" and "What comes back when it is no"; document 02, request 2): the attributes of a channel in a frame, and
+-- the place, bits and value of a sample.
 use mathlib.Core.List.{List}
+use mathlib.Core.Option.{Option, none, some}
 use Prim.Native.Nat.{ℕ}
 use lib.Dec.{ltb}
 use lib.IntN.{ℤ}
 use lib.ListN.{length, getD}
 use Rattle.octets.specs.Pick.{pick}
-use Rattle.values.specs.Sample.{Said, valueSays, valueOf}
+use Rattle.values.specs.Sample.{Said, noDataSaid, valueSays, valueOf}
 use Rattle.heads.specs.Refusals.{noFrame, noChannel, noSample}
 use Rattle.heads.specs.Answer.{Answer, answered, refusedAs, refusedBy}
 use Rattle.settings.specs.declared.Settings.{Settings}
 use Rattle.layout.specs.Frame.{Frame, reported, channelIn, samplesOf, placeOf}
 use Rattle.laid.specs.Laid.{sampleBits}
+use Rattle.there.specs.There.{isThere}
 use Rattle.view.specs.declared.View.{View}
 use Rattle.view.specs.View.{viewOf}
 use Rattle.reader.specs.declared.Attributes.{Attributes}
 use Rattle.reader.specs.declared.Described.{Described}
 use Rattle.reader.specs.declared.LookedUp.{LookedUp}
 use Rattle.reader.specs.declared.Placed.{Placed}
-use Rattle.reader.specs.declared.Placed.the-variants.{At}
+use Rattle.reader.specs.declared.Placed.the-variants.{At, Lacking}
 use Rattle.reader.specs.declared.Sampled.{Sampled}
 use Rattle.reader.specs.declared.Sampled.the-variants.{Sample}
 use Rattle.verdict.specs.Verdict.{Verdict, accepted, refused, verdict}
@@ -57,8 +59,9 @@ pub record FoundPlace : Type 0 where
 abbrev pub foundPlace : ℕ → View → FoundPlace
 foundPlace place v = record { place = place; channel = v }
 
-abbrev pub placedSays : Placed → Answer FoundPlace
-placedSays (At place v) = answered (foundPlace place v)
+abbrev pub placedSays : Placed → Answer (Option FoundPlace)
+placedSays (At place v) = answered (some (foundPlace place v))
+placedSays Lacking = answered none
 placedSays (Placed.Refused r) = refusedBy r
 
 -- ---- the order of the refusals
@@ -72,7 +75,7 @@ asked answer frame channel (accepted fs) =
     (pick (ltb channel (length (f .channels))) (answer f) (refusedAs noChannel 0))
     (refusedAs noFrame 0)
 
--- Where a question names a sample too, 22 comes after them.
+-- Where a question names a sample too, 22 comes after them: no such sample is declared.
 abbrev pub askedSample : {A : Type 0} → (Frame → A) → ℕ → ℕ → ℕ → Verdict → Answer A
 askedSample answer frame channel n v =
     asked (λ f. pick (ltb n (samplesOf channel f)) (answered (answer f)) (refusedAs noSample 0)) frame channel v
@@ -97,12 +100,20 @@ attributesOf s frame channel = asked (λ f. answered (attributesIn channel f)) f
 
 -- ---- samples
 
--- The place, bits and value of a sample of a frame.
+-- What is asked of a sample that is there, or what is answered of one that is not.
+abbrev pub ifThere : {A : Type 0} → ℕ → ℕ → Frame → A → A → A
+ifThere channel n f answer lacking = pick (isThere (f .channels) (length (f .waveform)) channel n) answer lacking
+
+-- "It answers a seventh kind, no data, at place 0."
+abbrev pub noData : FoundSample
+noData = foundSample 0 0 noDataSaid
+
+-- The place, bits and value of a sample of a frame: no data comes before null.
 unfoldable pub sampleIn : ℕ → ℕ → Frame → FoundSample
 sampleIn channel n f =
     let c = channelIn channel (f .channels) in
     let bits = sampleBits f channel n in
-    foundSample (placeOf channel n f) bits (valueOf (c .datatype) (c .null) bits)
+    ifThere channel n f (foundSample (placeOf channel n f) bits (valueOf (c .datatype) (c .null) bits)) noData
 
 -- A sample of a file, by frame, channel and number.
 unfoldable pub sampleOf : List ℕ → ℕ → ℕ → ℕ → Answer FoundSample
@@ -114,6 +125,7 @@ sampleOf s frame channel n = askedSample (sampleIn channel n) frame channel n (v
 unfoldable pub seenOf : List ℕ → ℕ → ℕ → Answer View
 seenOf s frame channel = asked (λ f. answered (viewOf channel f)) frame channel (verdict s)
 
--- The place of the sample that a question names, with its channel as the pass keeps it.
-unfoldable pub placedOf : List ℕ → ℕ → ℕ → ℕ → Answer FoundPlace
-placedOf s frame channel n = askedSample (λ f. foundPlace (placeOf channel n f) (viewOf channel f)) frame channel n (verdict s)
+-- The place of the sample that a question names, with its channel as the pass keeps it; none where it is not there.
+unfoldable pub placedOf : List ℕ → ℕ → ℕ → ℕ → Answer (Option FoundPlace)
+placedOf s frame channel n =
+    askedSample (λ f. ifThere channel n f (some (foundPlace (placeOf channel n f) (viewOf channel f))) none) frame channel n (verdict s)

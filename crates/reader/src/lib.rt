@@ -1,8 +1,8 @@
 // The reader: every attribute and sample found.
 //
 // Promises, for any octets at all: `check` counts the frames or answers the refusal of document 01 with its number and place;
-// `describe` answers what stands for a channel in a frame, `place` where a sample lies, and `sample` where it lies, its bits and its value, or
-// a refusal. All are thin over `pass::scan_file`, which walks the file once.
+// `describe` answers what stands for a channel in a frame, `place` where a sample lies, and `sample` where it lies, its bits and its value, that it is
+// declared and not there, or a refusal. All are thin over `pass::scan_file`, which walks the file once.
 // Read first: in crate pass specs/Verdict.antt (the file), then specs/Answer.antt (the questions).
 ghost use mathlib.Core.Path.{_≡_};
 ghost use Rattle.verdict.specs.Verdict.{checkedSays, checkOf};
@@ -30,7 +30,7 @@ pub enum Described {
     Refused(Refusal),
 }
 
-// The answer to the question for a sample: its place, bits and value.
+// The answer to the question for a sample: its place, bits and value; no data at place 0 where it is declared and not there.
 pub enum Sampled {
     Sample {
         place: usize,
@@ -121,9 +121,10 @@ pub fn describe(s: &[u8], frame: u32, channel: u32) -> Described
     }
 }
 
-// The place of a sample and its channel, or why there is none.
+// The place of a sample and its channel, or that it is declared and not there, or why there is none.
 pub enum Placed {
     At(usize, View),
+    Lacking,
     Refused(Refusal),
 }
 
@@ -135,6 +136,7 @@ pub fn place(s: &[u8], frame: u32, channel: u32, number: u64) -> Placed
         LookedUp::Refused(x) => Placed::Refused(x),
         LookedUp::Channel(v) => match v.find(s.len(), number) {
             SamplePlace::At(at) => Placed::At(at, v),
+            SamplePlace::Lacking => Placed::Lacking,
             SamplePlace::Refused(x) => Placed::Refused(x),
         },
     }
@@ -146,6 +148,11 @@ pub fn sample(s: &[u8], frame: u32, channel: u32, number: u64) -> Sampled
 {
     match place(s, frame, channel, number) {
         Placed::Refused(x) => Sampled::Refused(x),
+        Placed::Lacking => Sampled::Sample {
+            place: 0,
+            bits: 0,
+            value: Value::NoData,
+        },
         Placed::At(at, v) => {
             let c = v.settings;
             let null = c.null;

@@ -16,7 +16,7 @@ use lib.ListN.{getD}
 use Rattle.octets.proofs.Pick.{pick-cases}
 use Rattle.values.specs.declared.Bits.{Bits}
 use Rattle.values.specs.declared.Value.{Value}
-use Rattle.values.specs.declared.Value.the-variants.{Whole, Status, Single, Double, NotNumber, Null}
+use Rattle.values.specs.declared.Value.the-variants.{Whole, Status, Single, Double, NotNumber, Null, NoData}
 use Rattle.values.proofs.Laws.{type-cases, plain-other}
 use Rattle.values.specs.Sample.{Said, wholeSaid, nullSaid, valueSays, singleOf, doubleOf, plainOf, isNull, valueOf}
 
@@ -25,7 +25,7 @@ use Rattle.values.specs.Sample.{Said, wholeSaid, nullSaid, valueSays, si
 -- The value that says so.
 abbrev saying : Said → Value
 saying x =
-    getD (Whole (x .whole) ∷ Status (x .bits) ∷ Single (ofBits binary32 (x .bits)) ∷ Double (ofBits binary64 (x .bits)) ∷ NotNumber (x .bits) ∷ []) (x .kind) Null
+    getD (Whole (x .whole) ∷ Status (x .bits) ∷ Single (ofBits binary32 (x .bits)) ∷ Double (ofBits binary64 (x .bits)) ∷ NotNumber (x .bits) ∷ Null ∷ []) (x .kind) NoData
 
 -- A single is one of its format, and so is a double; every value that a program has is.
 abbrev pub Held : Value → Type 0
@@ -35,6 +35,7 @@ Held (Single x) = T (fits binary32 x)
 Held (Double x) = T (fits binary64 x)
 Held (NotNumber n) = Unit {0}
 Held Null = Unit {0}
+Held NoData = Unit {0}
 
 back : (v : Value) → Held v → saying (valueSays v) ≡ v
 unfolding valueSays
@@ -44,6 +45,7 @@ back (Single x) h = ap Single (ofBits-toBits binary32 x h)
 back (Double x) h = ap Double (ofBits-toBits binary64 x h)
 back (NotNumber n) h = refl
 back Null h = refl
+back NoData h = refl
 
 pub said-back : (a b : Value) → Held a → Held b → valueSays a ≡ valueSays b → a ≡ b
 said-back a b h k e = sym (back a h) ∙ ap saying e ∙ back b k

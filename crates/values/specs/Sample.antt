@@ -1,4 +1,4 @@
--- The value of a sample: "Octets per sample by type", and the six kinds of "Frames and samples".
+-- The value of a sample: "Octets per sample by type", the six kinds of "Frames and samples", and the seventh of document 02, request 2.
 use mathlib.Core.Bool.{Bool, not}
 use mathlib.Core.List.{[], _∷_}
 use Prim.Native.Nat.{ℕ}
@@ -10,7 +10,7 @@ use Rattle.octets.specs.Number.{lowOf, twos}
 use Rattle.octets.specs.Pick.{pick, both}
 use Rattle.values.specs.declared.Bits.{Bits}
 use Rattle.values.specs.declared.Value.{Value}
-use Rattle.values.specs.declared.Value.the-variants.{Whole, Status, Single, Double, NotNumber, Null}
+use Rattle.values.specs.declared.Value.the-variants.{Whole, Status, Single, Double, NotNumber, Null, NoData}
 
 -- Octets of a sample by its data type, 0 to 8; an accepted file has no other type, and for one the answer is 0.
 unfoldable pub widthOf : ℕ → ℕ
@@ -24,7 +24,7 @@ pub record Said : Type 0 where
   pub whole : ℤ
   pub bits : ℕ
 
--- The six kinds, numbered in the order whole, status, single, double, not-a-number, null.
+-- The seven kinds, numbered in the order whole, status, single, double, not-a-number, null, no data. No data is said of a sample that is not there.
 abbrev pub wholeSaid : ℤ → Said
 wholeSaid z = record { kind = 0; whole = z; bits = 0 }
 
@@ -43,6 +43,9 @@ notNumberSaid n = record { kind = 4; whole = pos 0; bits = n }
 abbrev pub nullSaid : Said
 nullSaid = record { kind = 5; whole = pos 0; bits = 0 }
 
+abbrev pub noDataSaid : Said
+noDataSaid = record { kind = 6; whole = pos 0; bits = 0 }
+
 -- What each value says; a single and a double say their own bits.
 unfoldable pub valueSays : Value → Said
 valueSays (Whole z) = wholeSaid z
@@ -51,6 +54,7 @@ valueSays (Single x) = singleSaid (toBits binary32 x)
 valueSays (Double x) = doubleSaid (toBits binary64 x)
 valueSays (NotNumber n) = notNumberSaid n
 valueSays Null = nullSaid
+valueSays NoData = noDataSaid
 
 -- ---- the value of some bits
 

@@ -11,7 +11,7 @@ ghost use Rattle.octets.specs.Number.{range, twos};
 ghost use Rattle.values.specs.Sample.{widthOf, wholeSaid, valueSays, singleOf, doubleOf, plainOf, lowBits, valueOf};
 ghost use Rattle.values.specs.Told.{wholeMeaning, otherMeaning, meaningOf, wholeTold, signless, numberTold, toldOf};
 
-// A value is one of six kinds; `valueSays` has their numbers.
+// A value is one of seven kinds; `valueSays` has their numbers. `NoData` is the value of a sample that is not there: no bits have it.
 pub enum Value {
     Whole(i64),
     Status(u16),
@@ -19,6 +19,7 @@ pub enum Value {
     Double(f64),
     NotNumber(u64),
     Null,
+    NoData,
 }
 
 // Raw bits of a width in octets. Width 0: not defined.
