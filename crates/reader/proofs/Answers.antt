@@ -4,36 +4,43 @@
 --     described-is    the attributes, over a look-up
 --     unseen    where no channel is seen no question for a sample is answered
 --     frameIn, settings-seen, count-seen, place-is, little-seen    what a channel that was found says of its frame
---     located-in, located-lies    its samples lie in the file
+--     there-seen, test-seen       how many of its samples are there, and whether one is
+--     located-lies    its samples there lie in the file
 --     asked-seen, placed-seen    a question for a sample, and the place of one, over what is seen
 --     bits-seen    the octets at a sample's place are the sample's
---     PlacedAt, placed-at, sample-at, sample-none    a sample, over its place
+--     PlacedAt, LackingAt, placed-at, placed-lacking    what the answer for a place says
+--     sample-at, sample-lacking, sample-none    a sample, over its place
 -- Assumes nothing.
-use mathlib.Core.Path.{_≡_, refl, sym, ap, _∙_}
+use mathlib.Core.Path.{_≡_, refl, sym, ap, subst, _∙_}
 use mathlib.Core.List.{List}
-use mathlib.Core.Bool.{true}
+use mathlib.Core.Bool.{Bool, true, false}
+use mathlib.Core.Option.{Option, none, some, Option·map}
 use Prim.Native.Nat.{ℕ, _*_, _≤_, _<_}
 use native.Mathlib.Omega.{arith}
-use borrow.Author.Tests.{lt-ltb, le-ltb}
+use borrow.Author.Tests.{ltb-true, lt-ltb, le-ltb}
+use lib.Dec.{ltb}
+use Rattle.octets.specs.Pick.{pick}
 use lib.ListN.{length, getD, take, drop}
 use Rattle.heads.specs.declared.Refusal.{Refusal}
-use Rattle.heads.specs.Refusals.{noFrame, noChannel}
+use Rattle.heads.specs.Refusals.{noFrame, noChannel, noSample}
 use Rattle.heads.specs.Answer.{Answer, answered, refusedAs, refusedBy, mapAnswer}
-use Rattle.octets.specs.Number.{Octets, numberOf, NumberRead}
+use Rattle.octets.specs.Number.{numberOf, NumberRead}
 use Rattle.octets.proofs.Laws.{part-read, part-fits}
 use Rattle.values.specs.Sample.{Said, widthOf, valueOf, lowBits}
 use Rattle.values.proofs.Laws.{width-some, width-le, low-bits}
 use Rattle.settings.specs.Settings.{zeroSettings}
-use Rattle.layout.specs.Frame.{Frame, sequenceOctets, octetsBelow, channelIn, samplesOf, offsetOf, placeOf, blockOctets}
+use Rattle.layout.specs.Frame.{Frame, widthIn, sequenceOctets, octetsBelow, channelIn, samplesOf, offsetOf, placeOf, blockOctets}
 use Rattle.reader.specs.declared.Attributes.{Attributes}
 use Rattle.reader.specs.declared.LookedUp.{LookedUp}
 use Rattle.reader.specs.declared.Placed.{Placed}
-use Rattle.reader.specs.declared.Placed.the-variants.{At}
-use Rattle.laid.specs.Laid.{sampleBits}
+use Rattle.reader.specs.declared.Placed.the-variants.{At, Lacking}
+use Rattle.laid.specs.Laid.{Named, sampleBits}
+use Rattle.there.specs.There.{isThere, countThere, thereOf, thereIn, There}
+use Rattle.spread.proofs.Lying.{there-named}
 use Rattle.laid.proofs.Places.{below-fits}
 use Rattle.pass.specs.declared.Asked.{Asked}
 use Rattle.view.specs.declared.View.{View}
-use Rattle.view.specs.View.{viewOf, countSeen, placeSeen, liesIn, askedSeen, placeIn}
+use Rattle.view.specs.View.{viewOf, spreadOf, countSeen, thereSeen, placeSeen, liesIn, askedSeen, placeIn}
 use Rattle.view.proofs.Lying.{LiesIn, lies-seen, map-seen}
 use Rattle.pass.specs.declared.Found.{Found}
 use Rattle.pass.specs.declared.Found.the-variants.{Nothing}
@@ -41,12 +48,10 @@ use Rattle.verdict.specs.declared.Checked.{Checked}
 use Rattle.pass.specs.declared.Scan.{Scan}
 use Rattle.verdict.specs.Verdict.{Verdict, accepted, refused, verdict, checkedSays, checkedAs, checkOf}
 use Rattle.pass.specs.Scan.{zeroFrame, foundIn, scannedIn, scanOf}
-use Rattle.reader.specs.Answer.{foundSample, lookedUpSays, FoundPlace, foundPlace, placedSays, asked, askedSample, seenOf, attributesIn, attributesOf, placedOf, sampleIn, sampleOf, attributesSeen}
+use Rattle.reader.specs.Answer.{foundSample, noData, ifThere, lookedUpSays, FoundPlace, foundPlace, placedSays, asked, askedSample, seenOf, attributesIn, attributesOf, placedOf, sampleIn, sampleOf, attributesSeen}
 use Rattle.reader.proofs.Order.{asked-both, sample-both, asked-found, sample-found, sample-refused}
-use Rattle.verdict.proofs.Every.{every-at}
-use Rattle.reader.proofs.Good.{GoodSettings, accepted-good}
-use Rattle.reader.proofs.Ordered.{accepted-lies, accepted-small}
-use Rattle.reader.proofs.There.{bits-there}
+use Rattle.reader.proofs.Ordered.{Lies, accepted-lies, accepted-small}
+use Rattle.reader.proofs.There.{bits-there, counts-inside, test-there}
 
 checked-in : (q : Asked) (v : Verdict) → checkedSays (scannedIn q v .checked) ≡ checkedAs v
 unfolding scannedIn checkedAs
@@ -301,8 +306,10 @@ module _ {s : List ℕ} {frame channel : ℕ} {w : View} (p : Located s frame ch
           by false = refl
 
   module _ {n : ℕ} (h : n < thereSeen w) where
-    inside : endOf (frameIn .channels) channel n ≤ length (frameIn .waveform)
-    inside = counts-inside s frameIn frame-lies (named-seen (there-named (spreadOf w) n h)) .1 (omega (arith, there-seen))
+    pub is-there : There (frameIn .channels) (frameIn .sequences) (length (frameIn .waveform)) channel n
+    is-there =
+        let named = named-seen (there-named (spreadOf w) n h) in
+        record { named = named; inside = counts-inside s frameIn frame-lies named .1 (omega (arith, there-seen)) }
 
     -- The octets there are the sample's.
     pub bits-seen : numberOf (w .little) (take (widthOf (w .settings .datatype)) (drop (placeSeen w n) s)) ≡ sampleBits frameIn channel n
@@ -310,7 +317,7 @@ module _ {s : List ℕ} {frame channel : ℕ} {w : View} (p : Located s frame ch
         let o = little-seen in
         let c = settings-seen in
         let q = place-is n in
-        (λ j. numberOf (o j) (take (widthOf (c j .datatype)) (drop (q j) s))) ∙ bits-there s frameIn frame-lies inside
+        (λ j. numberOf (o j) (take (widthOf (c j .datatype)) (drop (q j) s))) ∙ bits-there s frameIn frame-lies is-there
 
 -- Where no channel is seen no question for a sample is answered.
 pub unseen : {A : Type 0} (g : Frame → A) (s : List ℕ) (frame channel n : ℕ) (x : Refusal) {r : LookedUp} → lookedUpSays r ≡ seenOf s frame channel → r ≡ LookedUp.Refused x → refusedBy x ≡ askedSample g frame channel n (verdict s)
@@ -377,10 +384,10 @@ sample-at s frame channel n {p} {width} {bits} {w} {x} e f ew ex er ev =
     let read = part-read (w .little) (widthOf (w .settings .datatype)) (drop p s) x (width-le (w .settings .datatype)) (rw ew at ex) er in
     let all = low-bits (w .settings .datatype) bits (part-fits (w .little) (widthOf (w .settings .datatype)) (drop p s) x (width-le (w .settings .datatype)) (rw ew at ex) er) in
     let named = there-named (spreadOf w) n (m .number) in
-    let there : isThere (frameIn l .channels) (length (frameIn l .waveform)) channel n ≡ true = sym (test-seen l named) ∙ lt-ltb n (thereSeen w) (m .number) in
+    let there : true ≡ isThere (frameIn l .channels) (length (frameIn l .waveform)) channel n = sym (lt-ltb n (thereSeen w) (m .number)) ∙ test-seen l named in
     let b : bits ≡ sampleBits (frameIn l) channel n = read ∙ ap (λ (k : ℕ). numberOf (w .little) (take (widthOf (w .settings .datatype)) (drop k s))) (m .place) ∙ bits-seen l (m .number) in
     let v = ev ∙ ap (valueOf (w .settings .datatype) (w .settings .null)) all ∙ (λ j. valueOf (c j .datatype) (c j .null) (b j)) in
-    (λ j. answered (pick (there (~ j)) (foundSample (place j) (b j) (v j)) noData))
+    (λ j. answered (pick (there j) (foundSample (place j) (b j) (v j)) noData))
     ∙ sym (sample-found frame channel (l .verdictIs) (l .frameIn) (l .channelIs) (sampleIn channel n) (omega (arith, count-seen l)))
 
 -- A sample that is not there.

@@ -16,7 +16,7 @@ use lib.Seq.{take-take, drop-drop}
 use Rattle.octets.specs.Number.{numberOf}
 use Rattle.layout.specs.Frame.{Frame, widthIn, channelIn, placeOf}
 use Rattle.laid.specs.Laid.{Named, sampleOctets, sampleBits}
-use Rattle.there.specs.There.{endOf, isThere, thereIn}
+use Rattle.there.specs.There.{endOf, isThere, thereIn, There}
 use Rattle.there.proofs.Places.{there-counted}
 use Rattle.reader.proofs.Ordered.{Lies}
 
@@ -33,10 +33,10 @@ part-there s x p o w e h =
     sym (ap (λ (u : List ℕ). take w (drop o u)) e ∙ part-of w o (length x) (drop p s) h ∙ ap (take w) (drop-drop o p s))
 
 module _ (s : List ℕ) (f : Frame) (l : Lies s f) {c n : ℕ} where
-  module _ (h : endOf (f .channels) c n ≤ length (f .waveform)) where
+  module _ (h : There (f .channels) (f .sequences) (length (f .waveform)) c n) where
     pub octets-there : take (widthIn (channelIn c (f .channels))) (drop (placeOf c n f) s) ≡ sampleOctets (f .channels) (f .waveform) c n
     unfolding placeOf
-    octets-there = part-there s (f .waveform) (f .place) _ _ (l .octets) h
+    octets-there = part-there s (f .waveform) (f .place) _ _ (l .octets) (h .inside)
 
     pub bits-there : numberOf (f .little) (take (widthIn (channelIn c (f .channels))) (drop (placeOf c n f) s)) ≡ sampleBits f c n
     unfolding sampleBits
