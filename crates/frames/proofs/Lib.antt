@@ -1,4 +1,5 @@
 pub mod Coming
+pub mod Parting
 pub mod Samples
 pub mod Given
 pub mod Stored

@@ -13,7 +13,7 @@ use lib.ListN.{length}
 use Rattle.stores.specs.Storing.{Put, Putting, put-fits}
 use Rattle.stores.proofs.Stores.{put-then, put-long}
 use Rattle.settings.specs.declared.Settings.{Settings}
-use Rattle.layout.specs.Frame.{samplesOctets, reported}
+use Rattle.layout.specs.Frame.{reported}
 use Rattle.sizes.specs.Size.{frameSize}
 use Rattle.layout.specs.Measure.{groupsSize}
 use Rattle.groups.specs.Head.{headItems}
@@ -22,8 +22,8 @@ use Rattle.groups.proofs.Sizes.{head-long, groups-long}
 use Rattle.groups.proofs.Puts.{put-as}
 use Rattle.frames.specs.Parts.{waveformHead, frameParts}
 
-module _ {d e : List ℕ} {at a : ℕ} (cs : List Settings) (sequences : ℕ) {count octets : ℕ} {z start : ℤ}
-    (ec : length cs ≡ count) (eo : octets ≡ samplesOctets cs sequences) (ez : z ≡ start) (room : at + frameSize sequences (groupsSize 0 cs) octets ≤ length d) (p : Putting d at (headItems count sequences z) a e) where
+module _ {d e : List ℕ} {at a : ℕ} (cs : List Settings) (sequences octets : ℕ) {count : ℕ} {z start : ℤ}
+    (ec : length cs ≡ count) (ez : z ≡ start) (room : at + frameSize sequences (groupsSize 0 cs) octets ≤ length d) (p : Putting d at (headItems count sequences z) a e) where
   head-put : Put d at (headItems count sequences z) a e
   unfolding frameSize
   head-put = put-fits (omega (arith, head-long count sequences z)) p
@@ -41,7 +41,7 @@ module _ {d e : List ℕ} {at a : ℕ} (cs : List Settings) (sequences : ℕ) {c
     unfolding frameSize
     samples-room = omega (arith, head-long count sequences z, head-put .next, put-long head-put, groups-long 0 cs, q .next, put-long q, waveform-put .next, put-long waveform-put)
 
-    pub frame-stored : {samples i : List ℕ} {u : ℕ} → Put g c samples u i → Put d at (frameParts start sequences cs samples) u i
-    frame-stored {samples} s =
+    pub frame-stored : {samples i : List ℕ} {u : ℕ} → octets ≡ length samples → Put g c samples u i → Put d at (frameParts start sequences cs samples) u i
+    frame-stored {samples} eo s =
         put-as (λ k. ((headItems (sym ec k) sequences (ez k) ++ groupsOctets 0 (map reported cs)) ++ waveformHead (eo k)) ++ samples)
         (put-then (put-then (put-then head-put q) waveform-put) s)

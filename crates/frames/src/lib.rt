@@ -1,20 +1,21 @@
 // A frame of the canonical file: head, groups, 1E and the samples.
 //
-// Promises: `put_frame` stores a frame from the place `at` on and returns the place after it; where it does not fit, or where the waveform
-// lacks octets of the sequences, nothing is stored and `at` is returned. `open_waveform` does so with the octets ahead of a frame's samples, for whoever has
-// samples to store as they stand. `Putting` of crate stores says this once.
+// Promises: `put_frame` stores a frame, with the samples of its waveform that are there, from the place `at` on and returns the place after it; where it does
+// not fit, or where these samples are more octets than a file may have, nothing is stored and `at` is returned. `open_waveform` does so with the octets ahead
+// of a frame's samples, for whoever has samples to store as they stand. `Putting` of crate stores says this once.
 // Read first: specs/Parts.antt (the octets; a frame's head and groups are in crate groups).
 // The size is known before the first octet is stored. What is private here stores what fits: `Put` says which octets, from where on.
 ghost use mathlib.Core.Path.{_≡_};
 ghost use mathlib.Core.List.{map};
-ghost use Prim.Native.Nat.{_+_, _*_, _≤_, _<_, min};
-ghost use lib.Dec.{leb};
-ghost use lib.ListN.{length, take};
+ghost use Prim.Native.Nat.{_+_, _%_, _≤_, _<_, min};
+ghost use lib.ListN.{length, take, drop};
 ghost use Rattle.stores.specs.Storing.{Put, Putting};
-ghost use Rattle.layout.specs.Frame.{samplesOctets, reported};
+ghost use Rattle.layout.specs.Frame.{sequenceOctets, samplesOctets, reported};
 ghost use Rattle.sizes.specs.Size.{frameSize};
 ghost use Rattle.layout.specs.Measure.{groupsSize};
 ghost use Rattle.laid.specs.Turned.{Even, turnedAll};
+ghost use Rattle.there.specs.There.{partOctets, partialOctets, thereOctets};
+ghost use Rattle.there.specs.Turned.{turnedPart, turnedThere};
 ghost use Rattle.groups.specs.Group.{groupsOctets};
 ghost use Rattle.frames.specs.Parts.{Few, samplesTurned, waveformHead, frameParts, frameGiven};
 ghost use Rattle.settings.specs.Settings.{channelLimit};
@@ -55,13 +56,20 @@ fn even_width(t: &[u64], count: usize) -> usize
     v
 }
 
-// The samples of all sequences of a waveform, each turned round, block by block.
-fn put_blocks(w: &[u8], sequences: u32, t: &[u64], count: usize, out: &mut [u8], at: usize) -> usize
+// The samples of so many sequences of a waveform, each turned round, block by block.
+fn put_blocks(
+    w: &[u8],
+    sequences: usize,
+    t: &[u64],
+    count: usize,
+    out: &mut [u8],
+    at: usize,
+) -> usize
     requires { ⌜ Few count (now t) × (samplesOctets (take count (heldIn (now t))) sequences ≤ length (now w)) ⌝ }
     requires { ⌜ at + samplesOctets (take count (heldIn (now t))) sequences ≤ length (now out) ⌝ }
     ensures { λ r. ⌜ Put (now (out .entry)) at (turnedAll (take count (heldIn (now (t .entry)))) sequences (now (w .entry))) r (now (out .exit)) ⌝ }
 {
-    let mut q = 0u32;
+    let mut q = 0usize;
     let mut place = 0usize;
     let mut next = at;
     while q < sequences {
@@ -78,21 +86,76 @@ fn put_blocks(w: &[u8], sequences: u32, t: &[u64], count: usize, out: &mut [u8],
     next
 }
 
-// The samples of a waveform, big-endian: as they stand where their order is big or no sample has two octets, turned round in one run
-// where all have one width, else block by block.
-fn put_samples(
+// The samples in the first `rest` octets of the sequence that stands at `from`, each turned round.
+fn put_part(
     w: &[u8],
-    little: bool,
-    sequences: u32,
-    octets: usize,
+    from: usize,
+    rest: usize,
     t: &[u64],
     count: usize,
     out: &mut [u8],
     at: usize,
 ) -> usize
-    requires { ⌜ Few count (now t) × (octets ≡ samplesOctets (take count (heldIn (now t))) sequences) ⌝ }
-    requires { ⌜ (octets ≤ length (now w)) × (at + octets ≤ length (now out)) ⌝ }
-    ensures { λ r. ⌜ Put (now (out .entry)) at (samplesTurned «little» (take count (heldIn (now (t .entry)))) sequences (now (w .entry))) r (now (out .exit)) ⌝ }
+    requires { ⌜ Few count (now t) × (from + rest ≤ length (now w)) ⌝ }
+    requires { ⌜ at + partOctets (take count (heldIn (now t))) rest ≤ length (now out) ⌝ }
+    ensures { λ r. ⌜ Put (now (out .entry)) at (turnedPart (take count (heldIn (now (t .entry)))) rest (drop from (now (w .entry)))) r (now (out .exit)) ⌝ }
+{
+    let mut i = 0usize;
+    let mut place = from;
+    let mut left = rest;
+    let mut next = at;
+    while i < count {
+        let c = words::held(t, i);
+        let v = values::width(c.datatype);
+        let block = c.block as usize * v;
+        if left < block {
+            return runs::turn(w, place, left / v, v, out, next);
+        }
+        next = runs::turn(w, place, c.block as usize, v, out, next);
+        place += block;
+        left -= block;
+        i += 1;
+    }
+    next
+}
+
+// The samples of whole sequences and of one that is cut off, each turned round, block by block.
+fn put_mixed(
+    w: &[u8],
+    octets: usize,
+    sequence: usize,
+    t: &[u64],
+    count: usize,
+    out: &mut [u8],
+    at: usize,
+) -> usize
+    requires { ⌜ Few count (now t) × (sequence ≡ sequenceOctets (take count (heldIn (now t)))) ⌝ }
+    requires { ⌜ (octets ≤ length (now w)) × (partOctets (take count (heldIn (now t))) (octets % sequence) ≡ octets % sequence) × (at + octets ≤ length (now out)) ⌝ }
+    ensures { λ r. ⌜ Put (now (out .entry)) at (turnedThere (take count (heldIn (now (t .entry)))) octets (now (w .entry))) r (now (out .exit)) ⌝ }
+{
+    if sequence == 0 {
+        return at;
+    }
+    let whole = octets / sequence;
+    let next = put_blocks(w, whole, t, count, out, at);
+    put_part(w, whole * sequence, octets % sequence, t, count, out, next)
+}
+
+// The samples in the first octets of a waveform, which end with a sample, big-endian: as they stand where their order is big or no sample has two octets,
+// turned round in one run where all have one width, else block by block.
+fn put_samples(
+    w: &[u8],
+    little: bool,
+    octets: usize,
+    sequence: usize,
+    t: &[u64],
+    count: usize,
+    out: &mut [u8],
+    at: usize,
+) -> usize
+    requires { ⌜ Few count (now t) × (sequence ≡ sequenceOctets (take count (heldIn (now t)))) ⌝ }
+    requires { ⌜ (octets ≤ length (now w)) × (partOctets (take count (heldIn (now t))) (octets % sequence) ≡ octets % sequence) × (at + octets ≤ length (now out)) ⌝ }
+    ensures { λ r. ⌜ Put (now (out .entry)) at (samplesTurned «little» (take count (heldIn (now (t .entry)))) octets (now (w .entry))) r (now (out .exit)) ⌝ }
 {
     if !little {
         return runs::copy(w, 0, octets, out, at);
@@ -102,7 +165,7 @@ fn put_samples(
         return runs::copy(w, 0, octets, out, at);
     }
     if v == 0 {
-        return put_blocks(w, sequences, t, count, out, at);
+        return put_mixed(w, octets, sequence, t, count, out, at);
     }
     runs::turn(w, 0, octets / v, v, out, at)
 }
@@ -125,37 +188,52 @@ fn store_frame(
     little: bool,
     sequences: u32,
     octets: usize,
+    sequence: usize,
     t: &[u64],
     count: usize,
     out: &mut [u8],
     at: usize,
 ) -> usize
-    requires { ⌜ Few count (now t) × (octets ≡ samplesOctets (take count (heldIn (now t))) sequences) ⌝ }
-    requires { ⌜ (octets ≤ length (now w)) × (octets ≤ octetsLimit) × (at + frameSize sequences (groupsSize 0 (take count (heldIn (now t)))) octets ≤ length (now out)) ⌝ }
-    ensures { λ r. ⌜ Put (now (out .entry)) at (frameParts start sequences (take count (heldIn (now (t .entry)))) (samplesTurned «little» (take count (heldIn (now (t .entry)))) sequences (now (w .entry)))) r (now (out .exit)) ⌝ }
+    requires { ⌜ Few count (now t) × (sequence ≡ sequenceOctets (take count (heldIn (now t)))) ⌝ }
+    requires { ⌜ (octets ≡ thereOctets (take count (heldIn (now t))) sequences (length (now w))) × (octets ≤ octetsLimit) ⌝ }
+    requires { ⌜ at + frameSize sequences (groupsSize 0 (take count (heldIn (now t)))) octets ≤ length (now out) ⌝ }
+    ensures { λ r. ⌜ Put (now (out .entry)) at (frameParts start sequences (take count (heldIn (now (t .entry)))) (samplesTurned «little» (take count (heldIn (now (t .entry)))) octets (now (w .entry)))) r (now (out .exit)) ⌝ }
 {
     let a = groups::put_head(out, at, count as u32, sequences, start);
     let b = put_groups(out, a, t, count);
     let c = open_waveform(out, b, octets as u32);
-    put_samples(w, little, sequences, octets, t, count, out, c)
+    put_samples(w, little, octets, sequence, t, count, out, c)
 }
 
-// No more octets than a file may have.
-fn most(long: usize) -> u64
-    ensures { λ r. ⌜ r ≡ min long octetsLimit ⌝ }
+// The octets of a sample that is cut off, of the first `rest` octets of a sequence.
+fn partial_octets(t: &[u64], count: usize, rest: usize) -> usize
+    requires { ⌜ Few count (now t) ⌝ }
+    ensures { λ r. ⌜ r ≡ partialOctets (take count (heldIn (now (t .entry)))) rest ⌝ }
 {
-    if long < Standing::OCTETS {
-        long as u64
-    } else {
-        Standing::OCTETS as u64
+    let mut i = 0usize;
+    let mut left = rest;
+    while i < count {
+        let c = words::held(t, i);
+        let v = values::width(c.datatype);
+        let block = c.block as usize * v;
+        if left < block {
+            return left % v;
+        }
+        left -= block;
+        i += 1;
     }
+    left
 }
 
-// Whether a waveform of `long` octets holds so many sequences of so many octets, and may do so.
-fn holds(long: usize, sequences: u32, octets: u64) -> bool
-    ensures { λ r. ⌜ r ≡ leb (sequences * octets) (min long octetsLimit) ⌝ }
+// The octets of the samples there, of a waveform of `long` octets.
+fn there_octets(t: &[u64], count: usize, sequences: u32, sequence: u64, long: usize) -> usize
+    requires { ⌜ Few count (now t) × (sequence ≡ sequenceOctets (take count (heldIn (now t)))) ⌝ }
+    ensures { λ r. ⌜ r ≡ thereOctets (take count (heldIn (now (t .entry)))) sequences long ⌝ }
 {
-    sizes::holds(most(long), sequences, octets)
+    if sizes::holds(long as u64, sequences, sequence) {
+        return sequences as usize * sequence as usize;
+    }
+    long - partial_octets(t, count, long % sequence as usize)
 }
 
 // Stores the frame of a waveform, whose channels' settings are what the first `count` records that words hold say.
@@ -173,13 +251,24 @@ pub fn put_frame(
 {
     let k = records::at_most(t, count);
     let l = records::layout_in(t, count);
-    if !holds(w.len(), sequences, l.octets) {
+    let octets = there_octets(t, k, sequences, l.octets, w.len());
+    if Standing::OCTETS < octets {
         return at;
     }
-    let octets = sequences as u64 * l.octets;
     let size = sizes::frame_size(sequences, l.groups as u32, octets as u32);
     if stores::overruns(out.len(), at, size as usize) {
         return at;
     }
-    store_frame(w, start, little, sequences, octets as usize, t, k, out, at)
+    store_frame(
+        w,
+        start,
+        little,
+        sequences,
+        octets,
+        l.octets as usize,
+        t,
+        k,
+        out,
+        at,
+    )
 }

@@ -31,8 +31,8 @@ returns c =
     let at-start = at-if1 .before .before .before .before in
     let a = at-start .args in
     let cs = take (a .count) (heldIn (a .t .now)) in
-    put-as (samples-big {little = a .little} cs _ _ _ (not-true _ (at-if1 .if1 .taken)) (at-start .pre .0 .1))
-    (put-fits (taken-room (a .octets) (a .at) (a .w .now) (a .out .now) (at-start .pre .1 .1)) (at-copy .copy .ensures))
+    put-as (samples-big {little = a .little} cs _ _ (not-true _ (at-if1 .if1 .taken)))
+    (put-fits (taken-room (a .octets) (a .at) (a .w .now) (a .out .now) (at-start .pre .1 .2)) (at-copy .copy .ensures))
 
 even-width-requires : tie.Need-even-width-requires
 even-width-requires c κs = search needs
@@ -54,22 +54,22 @@ returns-2 c =
     let cs = take (a .count) (heldIn (a .t .now)) in
     let one = one-wide cs _ (at-even-width .even-width .ensures) (at-if2 .if2 .taken) in
     let little = not-false _ (at-if1 .if1 .left) in
-    put-as (samples-narrow cs _ _ _ (at-start .pre .0 .1) one ∙ samples-little {little = a .little} cs _ _ little)
-    (put-fits (taken-room (a .octets) (a .at) (a .w .now) (a .out .now) (at-start .pre .1 .1)) (at-copy2 .copy2 .ensures))
+    put-as (samples-narrow cs (a .octets) (a .w .now) (at-start .pre .0 .1) (at-start .pre .1 .1) one ∙ samples-little {little = a .little} cs _ _ little)
+    (put-fits (taken-room (a .octets) (a .at) (a .w .now) (a .out .now) (at-start .pre .1 .2)) (at-copy2 .copy2 .ensures))
 
-put-blocks-requires : tie.Need-put-blocks-requires
-put-blocks-requires c κs = search needs
+put-mixed-requires : tie.Need-put-mixed-requires
+put-mixed-requires c κs = search needs
 
 same-length-3 : tie.Need-same-length-3
 same-length-3 c = search needs
 
 returns-3 : tie.Need-returns-3
 returns-3 c =
-    let at-put-blocks = c .before .before in
-    let at-if1 = at-put-blocks .before .before .before .before .before in
+    let at-put-mixed = c .before .before in
+    let at-if1 = at-put-mixed .before .before .before .before .before in
     let at-start = at-if1 .before .before .before .before in
     let a = at-start .args in
-    put-as (samples-little {little = a .little} (take (a .count) (heldIn (a .t .now))) _ _ (not-false _ (at-if1 .if1 .left))) (at-put-blocks .put-blocks .ensures)
+    put-as (samples-little {little = a .little} (take (a .count) (heldIn (a .t .now))) _ _ (not-false _ (at-if1 .if1 .left))) (at-put-mixed .put-mixed .ensures)
 
 div-turn : tie.Need-div-turn
 div-turn c = search needs
@@ -91,10 +91,10 @@ returns-4 c =
     let v = at-even-width .even-width in
     let p : 0 < v .result = omega arith in
     let pre = at-start .pre in
-    let long = even-room cs (a .sequences) (a .w .now) (a .octets) (pre .0 .1) (v .result) p (v .ensures p) (pre .1 .0) in
+    let long = even-room cs (a .octets) (a .w .now) (pre .0 .1) (pre .1 .1) (pre .1 .0) (v .result) p (v .ensures p) in
     let little = not-false _ (at-if1 .if1 .left) in
-    put-as (samples-even cs _ _ _ (pre .0 .1) _ p (v .ensures p) (pre .1 .0) ∙ samples-little {little = a .little} cs _ _ little)
-    (put-fits (omega (arith, pre .1 .1)) (at-turn .turn .ensures))
+    put-as (samples-even cs (a .octets) (a .w .now) (pre .0 .1) (pre .1 .1) (pre .1 .0) _ p (v .ensures p) ∙ samples-little {little = a .little} cs _ _ little)
+    (put-fits (omega (arith, pre .1 .2)) (at-turn .turn .ensures))
 
 pub put-samples-spec : {M : Type 1} → statement M
 put-samples-spec =
@@ -107,7 +107,7 @@ put-samples-spec =
     copy-requires-2
     same-length-2
     returns-2
-    put-blocks-requires
+    put-mixed-requires
     same-length-3
     returns-3
     div-turn

@@ -4,6 +4,7 @@ use lib.ListN.{length, take}
 use Rattle.words.specs.Words.{heldIn}
 use mir.Facts.{toZ-ofZ}
 use Rattle.frames.proofs.Coming.{taken-long}
+use Rattle.frames.proofs.Given.{asked-samples, asked-long}
 use Rattle.frames.proofs.Stored.{groups-room, samples-room, frame-stored}
 use borrow.Author.Needs.{needs}
 use Rattle.frames.proofs.store_frame.Statement.{statement}
@@ -25,7 +26,7 @@ put-groups-requires c κs =
     let a = at-start .args in
     let pre = at-start .pre in
     let start = toZ-ofZ (at-start .fits .start) in
-    (pre .0 .0, groups-room (take (a .count) (heldIn (a .t .now))) (a .sequences) (tabled at-start) (pre .0 .1) start (pre .1 .2) (at-put-head .put-head .ensures))
+    (pre .0 .0, groups-room (take (a .count) (heldIn (a .t .now))) (a .sequences) (a .octets) (tabled at-start) start (pre .1 .1) (at-put-head .put-head .ensures))
 
 cast-open-waveform : tie.Need-cast-open-waveform
 cast-open-waveform c = search needs
@@ -43,9 +44,10 @@ put-samples-requires c κs =
     let pre = at-start .pre in
     let start = toZ-ofZ (at-start .fits .start) in
     let room =
-    samples-room (take (a .count) (heldIn (a .t .now))) (a .sequences) (tabled at-start) (pre .0 .1) start (pre .1 .2) (at-put-head .put-head .ensures)
+    samples-room (take (a .count) (heldIn (a .t .now))) (a .sequences) (a .octets) (tabled at-start) start (pre .1 .1) (at-put-head .put-head .ensures)
     (at-put-groups .put-groups .ensures) (at-open .open-waveform .ensures) in
-    (pre .0, (pre .1 .0, room))
+    let samples = asked-samples (take (a .count) (heldIn (a .t .now))) (a .sequences) (a .w .now) (pre .1 .0 .0) (pre .0 .1) in
+    (pre .0, (samples .0, samples .1, room))
 
 same-length : tie.Need-same-length
 same-length c = search needs
@@ -60,8 +62,9 @@ returns c =
     let a = at-start .args in
     let pre = at-start .pre in
     let start = toZ-ofZ (at-start .fits .start) in
-    frame-stored (take (a .count) (heldIn (a .t .now))) (a .sequences) (tabled at-start) (pre .0 .1) start (pre .1 .2) (at-put-head .put-head .ensures)
-    (at-put-groups .put-groups .ensures) (at-open .open-waveform .ensures) (at-put-samples .put-samples .ensures)
+    frame-stored (take (a .count) (heldIn (a .t .now))) (a .sequences) (a .octets) (tabled at-start) start (pre .1 .1) (at-put-head .put-head .ensures)
+    (at-put-groups .put-groups .ensures) (at-open .open-waveform .ensures)
+    (asked-long (a .little) (take (a .count) (heldIn (a .t .now))) (a .sequences) (a .w .now) (pre .1 .0 .0)) (at-put-samples .put-samples .ensures)
 
 pub store-frame-spec : {M : Type 1} → statement M
 store-frame-spec =
