@@ -20,7 +20,7 @@ use Rattle.heads.specs.Refusals.{noFrame}
 use Rattle.heads.specs.Answer.{Answer, answered, refusedAs, mapAnswer, leftBy}
 use Rattle.spread.specs.declared.Spread.{Spread}
 use Rattle.spread.specs.declared.Sequences.{Sequences}
-use Rattle.spread.specs.Spread.{countSpread, liesSpread, bitsSpread}
+use Rattle.spread.specs.Spread.{thereSpread, liesSpread, bitsSpread}
 use Rattle.spread.proofs.Lying.{lies-in}
 use Rattle.strides.specs.Laying.{bitsFrom}
 use Rattle.strides.specs.Channels.{spreadAt, spreadsFrom, allLie, sweptBits, sweptOf}
@@ -99,7 +99,7 @@ module _ (s t : List ℕ) (q : Sequences) (channels : ℕ) (out₀ : List ℕ) w
       let f : channels - 0 ≡ channels = omega arith in
       record { part = omega arith; within = omega arith; long = refl; lie = rw f l; rest = rw (e, f); many = rw (e, f) (omega arith) }
 
-  module _ {out : List ℕ} {k at n : ℕ} (l : Laying out k at) (h : k < channels) (e : n ≡ min (length out - at) (countSpread (spreadAt t q k))) where
+  module _ {out : List ℕ} {k at n : ℕ} (l : Laying out k at) (h : k < channels) (e : n ≡ min (length out - at) (thereSpread (spreadAt t q k) - 0)) where
     now : spreadsFrom t q k (channels - k) ≡ spreadAt t q k ∷ spreadsFrom t q (k + 1) (channels - (k + 1))
     now = here t q channels k h
 
@@ -113,7 +113,7 @@ module _ (s t : List ℕ) (q : Sequences) (channels : ℕ) (out₀ : List ℕ) w
 
     parts : take (length out - at) (sweptBits s (spreadsFrom t q k (channels - k))) ≡ bitsFrom (bitsSpread s (spreadAt t q k)) 0 n ++ take (length out - at - n) (sweptBits s (spreadsFrom t q (k + 1) (channels - (k + 1))))
     unfolding sweptBits
-    parts = ap (λ (xs : List Spread). take (length out - at) (sweptBits s xs)) now ∙ take-bits (bitsSpread s (spreadAt t q k)) 0 (length out - at) (countSpread (spreadAt t q k)) n (sweptBits s (spreadsFrom t q (k + 1) (channels - (k + 1)))) e
+    parts = ap (λ (xs : List Spread). take (length out - at) (sweptBits s xs)) now ∙ take-bits (bitsSpread s (spreadAt t q k)) 0 (length out - at) (thereSpread (spreadAt t q k)) n (sweptBits s (spreadsFrom t q (k + 1) (channels - (k + 1)))) (omega arith)
 
     -- A turn lays them.
     pub laying-turns : {new : List ℕ} → new ≡ sets out at (bitsFrom (bitsSpread s (spreadAt t q k)) 0 n) → Laying new (k + 1) (at + n)

@@ -1,4 +1,4 @@
--- All samples of a frame, channel after channel, by the words of the channels' records.
+-- All samples there of a frame, channel after channel, by the words of the channels' records.
 use mathlib.Core.Bool.{Bool, true}
 use mathlib.Core.List.{List, [], _∷_, _++_}
 use Prim.Native.Nat.{ℕ, zero, suc}
@@ -10,7 +10,7 @@ use Rattle.dated.specs.Dated.{zeroDated}
 use Rattle.words.specs.Words.{recordsIn, belowIn}
 use Rattle.spread.specs.declared.Spread.{Spread}
 use Rattle.spread.specs.declared.Sequences.{Sequences}
-use Rattle.spread.specs.Spread.{countSpread, liesSpread, bitsSpread}
+use Rattle.spread.specs.Spread.{thereSpread, liesSpread, bitsSpread}
 use Rattle.strides.specs.declared.Read.{Read}
 use Rattle.strides.specs.declared.Read.the-variants.{Samples}
 use Rattle.strides.specs.Laying.{bitsFrom}
@@ -28,6 +28,7 @@ spreadAt t q k =
       sequences = q .count;
       little = q .little;
       place = q .place;
+      long = q .long;
       octets = q .octets;
       below = belowIn t k;
       block = c .block;
@@ -39,16 +40,16 @@ unfoldable pub spreadsFrom : List ℕ → Sequences → ℕ → ℕ → List Spr
 spreadsFrom t q k zero = []
 spreadsFrom t q k (suc n) = spreadAt t q k ∷ spreadsFrom t q (suc k) n
 
--- The samples of every channel lie in a file of `size` octets.
+-- The samples there of every channel lie in a file of `size` octets.
 unfoldable pub allLie : ℕ → List Spread → Bool
 allLie size [] = true
 allLie size (x ∷ xs) = both (liesSpread size x) (allLie size xs)
 
--- The bits of all samples of channels, those of one channel after those of another.
+-- The bits of all samples there of channels, those of one channel after those of another.
 unfoldable pub sweptBits : List ℕ → List Spread → List ℕ
 sweptBits s [] = []
-sweptBits s (x ∷ xs) = bitsFrom (bitsSpread s x) 0 (countSpread x) ++ sweptBits s xs
+sweptBits s (x ∷ xs) = bitsFrom (bitsSpread s x) 0 (thereSpread x) ++ sweptBits s xs
 
--- The answer: as many of these bits as there is room for, or as there are; 20 where the samples of a channel do not lie in the file.
+-- The answer: as many of these bits as there is room for, or are there; 20 where the samples of a channel do not lie in the file.
 unfoldable pub sweptOf : List ℕ → ℕ → List Spread → Answer (List ℕ)
 sweptOf s room xs = pick (allLie (length s) xs) (answered (take room (sweptBits s xs))) (refusedAs noFrame 0)

@@ -8,7 +8,7 @@ use lib.ListN.{take, drop, set}
 use Rattle.standing.specs.Standing.{octetsLimit}
 use Rattle.octets.specs.Number.{numberOf}
 use Rattle.spread.specs.declared.Spread.{Spread}
-use Rattle.spread.specs.Spread.{countSpread}
+use Rattle.spread.specs.Spread.{thereSpread}
 use Rattle.spread.specs.Lies.{Lies}
 
 -- The bits of the sample of w octets that lies at p.
@@ -39,12 +39,11 @@ pub record InFile (size from step n w : ℕ) : Type 0 where
   pub apart : step ≤ octetsLimit
   pub each : (j : ℕ) → j < n → from + j * step + w ≤ size
 
--- So do n samples from sample r of the first block on, and a block ends before the next begins.
+-- So do n samples from sample r of the first block on.
 pub record InBlocks (size start r b g w n : ℕ) : Type 0 where
   pub small : size ≤ octetsLimit
   pub apart : g ≤ octetsLimit
   pub low : r < b
-  pub block : b * w ≤ g
   pub starts : start + r * w ≤ size
   pub each : (j : ℕ) → j < n → start + ((r + j) / b * g + (r + j) % b * w) + w ≤ size
 
@@ -55,5 +54,5 @@ Even b g w step = ((b ≡ 1) × (step ≡ g)) ⊎ ((b * w ≡ g) × (step ≡ w)
 -- Samples that can be laid from `at` on in a buffer of `room` words.
 pub record Layable (size room : ℕ) (x : Spread) (first n at : ℕ) : Type 0 where
   pub fits : at + n ≤ room
-  pub there : first + n ≤ countSpread x
+  pub there : first + n ≤ thereSpread x
   pub lies : Lies size x

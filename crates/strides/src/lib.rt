@@ -1,15 +1,15 @@
 // The bits of samples read into a buffer.
 //
-// For whoever knows where the samples of a channel lie: `lay` reads many of them, and `lay_channels` all of all channels of a frame, with nothing else
-// read.
-// Promises, whatever numbers a spread holds: `lay` lays the bits of samples into a buffer where they lie in the file and the buffer holds them,
-// `lay_channels` as many as fit; else they leave it as it is.
+// For whoever knows where the samples of a channel lie: `lay` reads many of those that are there, and `lay_channels` all of them of all channels of a
+// frame, with nothing else read.
+// Promises, whatever numbers a spread holds: `lay` lays the bits of samples into a buffer where they are there, lie in the file and the buffer
+// holds them, `lay_channels` as many as fit or are there; else they leave it as it is.
 // Read first: crate spread, specs/Laying.antt and specs/Channels.antt, then `lay` and upwards. A change to a loop wants its speed measured again: each width
 // has a loop of its own, with straight-line reads, because the compiler makes one wide load of them only so.
 ghost use mathlib.Core.Path.{_≡_};
 ghost use mathlib.Core.Bool.{true};
 ghost use mathlib.Core.Logic.{_⊎_};
-ghost use Prim.Native.Nat.{_+_, _*_, _/_, _≤_, _<_};
+ghost use Prim.Native.Nat.{_+_, _*_, _/_, _≤_, _<_, min};
 ghost use Rattle.standing.specs.Standing.{octetsLimit};
 ghost use lib.ListN.{length, take};
 ghost use lib.Dec.{leb};
@@ -23,6 +23,7 @@ ghost use Rattle.strides.specs.Walked.{bitsHere, fourLaid, spaced, block
 use heads::Refusal;
 use spread::Sequences;
 use spread::Spread;
+use standing::Standing;
 
 // The answer to reading samples: how many were written, or why none.
 pub enum Read {
@@ -297,15 +298,14 @@ fn blocks(
 }
 
 // How far apart the samples of blocks are where they are evenly spaced, and 0 where they are not: one to a block, or blocks one behind the other.
-fn even(b: usize, g: usize, w: usize) -> usize
-    requires { ⌜ b * w ≤ g ⌝ }
-    requires { ⌜ g ≤ octetsLimit ⌝ }
+fn even(b: u32, g: usize, w: usize) -> usize
+    requires { ⌜ Wide w ⌝ }
     ensures { λ r. ⌜ (r ≡ 0) ⊎ Even b g w r ⌝ }
 {
     if b == 1 {
         return g;
     }
-    if b * w == g {
+    if b as usize * w == g {
         return w;
     }
     0
@@ -316,7 +316,7 @@ fn fill(
     s: &[u8],
     start: usize,
     r: usize,
-    b: usize,
+    b: u32,
     g: usize,
     w: usize,
     little: bool,
@@ -333,7 +333,7 @@ fn fill(
     if 0 < step {
         run(s, start + r * w, step, n, w, little, out, at);
     } else {
-        blocks(s, start, r, b, g, w, little, out, at, n);
+        blocks(s, start, r, b as usize, g, w, little, out, at, n);
     }
 }
 
@@ -358,12 +358,22 @@ fn among(first: u64, n: usize, count: u64) -> bool
     n as u64 <= count - first
 }
 
+// How far apart the blocks of a channel are, as far as samples are there: where a sequence is longer than a file may be, only the first one has any.
+fn apart(octets: u64) -> usize
+    ensures { λ r. ⌜ r ≡ min octets octetsLimit ⌝ }
+{
+    if octets < Standing::OCTETS as u64 {
+        return octets as usize;
+    }
+    Standing::OCTETS
+}
+
 // Whether n samples from number `first` on can be laid from `at` on in a buffer of `room` words.
 fn lays(size: usize, room: usize, x: Spread, first: u64, n: usize, at: usize) -> bool
     ensures { λ r. ⌜ r ≡ laysIn size room x first n at ⌝ }
 {
     if among(at as u64, n, room as u64) {
-        if among(first, n, x.count()) {
+        if among(first, n, x.there()) {
             return x.lies(size);
         }
     }
@@ -383,8 +393,8 @@ fn lay_blocks(s: &[u8], x: Spread, first: u64, n: usize, out: &mut [u64], at: us
         s,
         start,
         (first - block * b) as usize,
-        b as usize,
-        x.octets as usize,
+        x.block,
+        apart(x.octets),
         values::width(x.datatype),
         x.little,
         out,
@@ -393,7 +403,7 @@ fn lay_blocks(s: &[u8], x: Spread, first: u64, n: usize, out: &mut [u64], at: us
     );
 }
 
-// The bits of n samples from number `first` on, from `at` on in the buffer; nothing where they do not all lie in the file, where the channel has not so many,
+// The bits of n samples from number `first` on, from `at` on in the buffer; nothing where they do not all lie in the file, where not so many are there,
 // or where the buffer does not hold them.
 pub fn lay(s: &[u8], x: Spread, first: u64, n: usize, out: &mut [u64], at: usize)
     ensures { λ _. ⌜ now (out .exit) ≡ pick (laysIn (length (now (s .entry))) (length (now (out .entry))) x first n at) (sets (now (out .entry)) at (bitsFrom (bitsSpread (now (s .entry)) x) first n)) (now (out .entry)) ⌝ }
@@ -414,6 +424,7 @@ fn spread_at(t: &[u64], q: Sequences, channel: usize) -> Spread
         sequences: q.count,
         little: q.little,
         place: q.place,
+        long: q.long,
         octets: q.octets,
         below: words::below(t, channel),
         block: c.block,
@@ -421,7 +432,7 @@ fn spread_at(t: &[u64], q: Sequences, channel: usize) -> Spread
     }
 }
 
-// Whether the samples of every channel lie in a file of `size` octets.
+// Whether the samples there of every channel lie in a file of `size` octets.
 fn all_lie(size: usize, t: &[u64], q: Sequences, channels: u32) -> bool
     ensures { λ r. ⌜ r ≡ allLie size (spreadsFrom (now (t .entry)) q 0 channels) ⌝ }
 {
@@ -445,9 +456,10 @@ fn lay_whole(s: &[u8], x: Spread, n: usize, out: &mut [u64], at: usize)
 {
     if 0 < n {
         let start = x.place + x.below as usize;
+        let g = apart(x.octets);
         if x.block == 1 {
             if values::width(x.datatype) == 2 {
-                column2(s, start, x.octets as usize, n, x.little, out, at);
+                column2(s, start, g, n, x.little, out, at);
                 return;
             }
         }
@@ -455,8 +467,8 @@ fn lay_whole(s: &[u8], x: Spread, n: usize, out: &mut [u64], at: usize)
             s,
             start,
             0,
-            x.block as usize,
-            x.octets as usize,
+            x.block,
+            g,
             values::width(x.datatype),
             x.little,
             out,
@@ -466,7 +478,7 @@ fn lay_whole(s: &[u8], x: Spread, n: usize, out: &mut [u64], at: usize)
     }
 }
 
-// The samples of channels that lie in the file, at the front of the buffer, as many as fit or there are; how many.
+// The samples there of channels that lie in the file, at the front of the buffer, as many as fit or are there; how many.
 fn lay_all(s: &[u8], t: &[u64], q: Sequences, channels: u32, out: &mut [u64]) -> usize
     requires { ⌜ allLie (length (now s)) (spreadsFrom (now t) q 0 channels) ≡ true ⌝ }
     ensures { λ r. ⌜ r ≡ length (take (length (now (out .entry))) (sweptBits (now (s .entry)) (spreadsFrom (now (t .entry)) q 0 channels))) ⌝ }
@@ -476,7 +488,7 @@ fn lay_all(s: &[u8], t: &[u64], q: Sequences, channels: u32, out: &mut [u64]) ->
     let mut at = 0usize;
     while channel < channels as usize {
         let x = spread_at(t, q, channel);
-        let n = spread::fitting(out.len() - at, x.count());
+        let n = x.readable(0, out.len() - at);
         lay_whole(s, x, n, out, at);
         at += n;
         channel += 1;
@@ -484,8 +496,8 @@ fn lay_all(s: &[u8], t: &[u64], q: Sequences, channels: u32, out: &mut [u64]) ->
     at
 }
 
-// The bits of the samples of the first `channels` channels of a frame, those of one channel after those of another, at the front of the buffer: as many as
-// fit or there are.
+// The bits of the samples there of the first `channels` channels of a frame, those of one channel after those of another, at the front of the buffer: as many
+// as fit or are there.
 pub fn lay_channels(s: &[u8], t: &[u64], q: Sequences, channels: u32, out: &mut [u64]) -> Read
     ensures { λ r. ⌜ readSays r ≡ mapAnswer length (sweptOf (now (s .entry)) (length (now (out .entry))) (spreadsFrom (now (t .entry)) q 0 channels)) ⌝ }
     ensures { λ _. ⌜ now (out .exit) ≡ leftBy (sweptOf (now (s .entry)) (length (now (out .entry))) (spreadsFrom (now (t .entry)) q 0 channels)) (now (out .entry)) ⌝ }

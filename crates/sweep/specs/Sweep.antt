@@ -1,4 +1,4 @@
--- All samples of the frame that a walk stands behind, channel after channel.
+-- All samples there of the frame that a walk stands behind, channel after channel.
 use mathlib.Core.Bool.{Bool}
 use mathlib.Core.List.{List}
 use Prim.Native.Nat.{ℕ}
@@ -20,12 +20,12 @@ holdsFrame u = both (holdsHead u) (both (ltb 0 (waveformIn u .channels)) (leb (w
 
 -- The sequences of a frame.
 abbrev pub sequencesBy : Waveform → Sequences
-sequencesBy v = record { count = v .sequences; little = v .little; place = v .place; octets = v .octets }
+sequencesBy v = record { count = v .sequences; little = v .little; place = v .place; long = v .len; octets = v .octets }
 
 -- Where the samples of the channels of the frame lie that the last step told of.
 abbrev pub spreadsIn : List ℕ → List Spread
 spreadsIn u = spreadsFrom (drop headWords u) (sequencesBy (waveformIn u)) 0 (waveformIn u .channels)
 
--- All its samples, as many as there is room for: 20 where it told of none, and where the samples of a channel do not lie in the file.
+-- All its samples there, as many as there is room for: 20 where it told of none, and where the samples of a channel do not lie in the file.
 unfoldable pub sweepIn : List ℕ → List ℕ → ℕ → Answer (List ℕ)
 sweepIn s u room = pick (holdsFrame u) (sweptOf s room (spreadsIn u)) (refusedAs noFrame 0)

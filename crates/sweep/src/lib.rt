@@ -1,7 +1,7 @@
-// All samples of the frame that a walk stands behind, channel after channel.
+// All samples there of the frame that a walk stands behind, channel after channel.
 //
-// For programs that take a frame whole: `sweep` writes the bits of all samples of the first channel, then those of the next, into a buffer that the caller
-// lends, with nothing of the file read but these samples.
+// For programs that take a frame whole: `sweep` writes the bits of all samples there of the first channel, then those of the next, into a buffer that the
+// caller lends, with nothing of the file read but these samples.
 // Promises, for any words and any octets: the whole answer is a definition of specs/, refusals too, and so is the buffer afterwards.
 // Read first: crates strides and kept, then specs/Sweep.antt.
 ghost use mathlib.Core.Path.{_≡_};
@@ -29,7 +29,7 @@ fn holds_frame(w: &[u64]) -> bool
     v.channels as usize <= (w.len() - Kept::HEAD) / Records::WORDS
 }
 
-// The bits of all samples of the frame that the last step told of, channel after channel, at the front of the buffer: as many as fit or there are.
+// The bits of all samples there of the frame that the last step told of, channel after channel, at the front of the buffer: as many as fit or are there.
 pub fn sweep(s: &[u8], w: &[u64], out: &mut [u64]) -> Read
     ensures { λ r. ⌜ readSays r ≡ mapAnswer length (sweepIn (now (s .entry)) (now (w .entry)) (length (now (out .entry)))) ⌝ }
     ensures { λ _. ⌜ now (out .exit) ≡ leftBy (sweepIn (now (s .entry)) (now (w .entry)) (length (now (out .entry)))) (now (out .entry)) ⌝ }
@@ -41,6 +41,7 @@ pub fn sweep(s: &[u8], w: &[u64], out: &mut [u64]) -> Read
             count: v.sequences,
             little: v.little,
             place: v.place,
+            long: v.len,
             octets: v.octets,
         };
         return strides::lay_channels(s, &w[rest..], q, v.channels, out);

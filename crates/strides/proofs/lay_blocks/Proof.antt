@@ -14,35 +14,62 @@ block-of-requires : tie.Need-block-of-requires
 block-of-requires c κs = block-some (c .before .before .before .pre .0) (c .before .before .before .pre .1)
 
 mul-start : tie.Need-mul-start
-mul-start c = rw (c .before .block-of .ensures) (omega (arith, start-inside (c .before .before .before .before .before .pre .0) (c .before .before .before .before .before .pre .1)))
+mul-start c =
+    let at-start = c .before .before .before .before .before in
+    rw (c .before .block-of .ensures) (omega (arith, start-inside (at-start .pre .0) (at-start .pre .1)))
 
 add-start : tie.Need-add-start
-add-start c = rw (c .before .before .block-of .ensures) (omega (arith, start-inside (c .before .before .before .before .before .before .pre .0) (c .before .before .before .before .before .before .pre .1)))
+add-start c =
+    let at-block-of = c .before .before in
+    let at-start = at-block-of .before .before .before .before in
+    rw (at-block-of .block-of .ensures) (omega (arith, start-inside (at-start .pre .0) (at-start .pre .1)))
 
 add-start-2 : tie.Need-add-start-2
-add-start-2 c = rw (c .before .before .before .block-of .ensures) (omega (arith, start-inside (c .before .before .before .before .before .before .before .pre .0) (c .before .before .before .before .before .before .before .pre .1)))
+add-start-2 c =
+    let at-block-of = c .before .before .before in
+    let at-start = at-block-of .before .before .before .before in
+    rw (at-block-of .block-of .ensures) (omega (arith, start-inside (at-start .pre .0) (at-start .pre .1)))
 
 mul-fill : tie.Need-mul-fill
-mul-fill c = rw (c .before .before .before .block-of .ensures) (omega (arith, block-rest (c .before .before .before .before .before .before .before .pre .0) (c .before .before .before .before .before .before .before .pre .1) .0))
+mul-fill c =
+    let at-block-of = c .before .before .before in
+    let at-start = at-block-of .before .before .before .before in
+    rw (at-block-of .block-of .ensures) (omega (arith, block-rest (at-start .pre .0) (at-start .pre .1) .0))
 
 sub-fill : tie.Need-sub-fill
-sub-fill c = rw (c .before .before .before .block-of .ensures) (omega (arith, block-rest (c .before .before .before .before .before .before .before .pre .0) (c .before .before .before .before .before .before .before .pre .1) .0))
+sub-fill c =
+    let at-block-of = c .before .before .before in
+    let at-start = at-block-of .before .before .before .before in
+    rw (at-block-of .block-of .ensures) (omega (arith, block-rest (at-start .pre .0) (at-start .pre .1) .0))
+
+apart-requires : tie.Need-apart-requires
+apart-requires c κs = search needs
 
 width-requires : tie.Need-width-requires
 width-requires c κs = search needs
 
 fill-requires : tie.Need-fill-requires
 fill-requires c κs =
-    let k = c .before .before .before .before .before .before .before .before .before .pre .1 in
-    rw (c .before .width .ensures, c .before .before .before .before .before .block-of .ensures, block-rest (c .before .before .before .before .before .before .before .before .before .pre .0) k .1) (width-wide _ (k .lies .wide), (in-blocks (c .before .before .before .before .before .before .before .before .before .pre .0) k, k .fits))
+    let at-apart = c .before .before in
+    let at-block-of = at-apart .before .before .before .before in
+    let at-start = at-block-of .before .before .before .before in
+    let h = at-start .pre .0 in
+    let k = at-start .pre .1 in
+    rw (c .before .width .ensures, at-apart .apart .ensures, at-block-of .block-of .ensures, block-rest h k .1) (width-wide _ (k .lies .wide), (in-blocks h k, k .fits))
 
 same-length : tie.Need-same-length
 same-length c = search needs
 
 returns : tie.Need-returns
 returns c =
-    let k = c .before .before .before .before .before .before .before .before .before .before .before .before .pre .1 in
-    (rw (c .before .before .before .before .width .ensures, c .before .before .before .before .before .before .before .before .block-of .ensures, block-rest (c .before .before .before .before .before .before .before .before .before .before .before .before .pre .0) k .1) at (c .before .before .fill .ensures)) ∙ ap (sets _ _) (laid-bits (c .before .before .before .before .before .before .before .before .before .before .before .before .pre .0) k _)
+    let at-fill = c .before .before in
+    let at-width = at-fill .before .before in
+    let at-apart = at-width .before in
+    let at-block-of = at-apart .before .before .before .before in
+    let at-start = at-block-of .before .before .before .before in
+    let h = at-start .pre .0 in
+    let k = at-start .pre .1 in
+    (rw (at-width .width .ensures, at-apart .apart .ensures, at-block-of .block-of .ensures, block-rest h k .1) at (at-fill .fill .ensures)) ∙ ap (sets _ _) (laid-bits h k _)
 
 pub lay-blocks-spec : {M : Type 1} → statement M
 lay-blocks-spec =
@@ -55,6 +82,7 @@ lay-blocks-spec =
     add-start-2
     mul-fill
     sub-fill
+    apart-requires
     width-requires
     fill-requires
     same-length

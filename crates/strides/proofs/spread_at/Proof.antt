@@ -16,6 +16,7 @@ returns c =
       sequences = q .count;
       little = q .little;
       place = q .place;
+      long = q .long;
       octets = q .octets;
       below = c .below .ensures i;
       block = c .before .held .ensures i .block;
