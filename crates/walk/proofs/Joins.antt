@@ -40,7 +40,7 @@ use Rattle.records.proofs.Laws.{timely-outdated, table-outdated}
 use Rattle.verdict.specs.Verdict.{State, state, goes, refuses, withFrame, carried, placeAt, accepted, refused, interpret, verdict}
 use Rattle.verdict.specs.Reached.{Reached, begin, behind as one-behind}
 use Rattle.verdict.proofs.Keeps.{Keeps, frames-kept, interpret-refuses, reached-verdict}
-use Rattle.verdict.proofs.Steps.{meaning-steps, step-grown, waveform-found}
+use Rattle.verdict.proofs.Steps.{meaning-steps, step-grown, waveform-found, waveform-long}
 use Rattle.verdict.proofs.Frames.{frame-carried, count-few, taken-root}
 use Rattle.verdict.proofs.Settled.{carried-count, carried-all, carried-one}
 use Rattle.walk.specs.declared.Waveform.{Waveform}
@@ -171,9 +171,7 @@ module _ {s : List ℕ} {met : List Frame} {x : Stand} (p : Reaches s met x) whe
 
       -- A waveform has as many octets as its item has.
       whole : len ≡ length (take len (drop start s))
-      whole =
-          let w = waveform-found s (x .standing) i a refl in
-          omega (arith, w .counts, length-take (w .len) (drop start s), length-take len (drop start s))
+      whole = sym (waveform-long s (waveform-found s (x .standing) i a refl))
 
       abbrev given : Framed
       given = framedBy (x .frames) (x .standing) (laid .agree) (laid .octets) len

@@ -28,7 +28,7 @@ use Rattle.items.specs.Walk.{nextOf, refusal}
 use Rattle.items.proofs.Walks.{next-found}
 use Rattle.settings.specs.declared.Settings.{Settings}
 use Rattle.settings.specs.declared.Change.{Change}
-use Rattle.settings.specs.Settings.{channelLimit, applied}
+use Rattle.settings.specs.Settings.{channelLimit, blockLimit, applied}
 use Rattle.dated.specs.declared.Dated.{Dated}
 use Rattle.dated.specs.declared.Dates.{Dates}
 use Rattle.dated.specs.Dated.{noted, zeroDated, rootDefined, allCleared, settledAt, settledIn, refreshed, held}
@@ -215,10 +215,10 @@ framed-few frames st agree octets long =
     let P = Few frames in
     pick-cases P (eqb octets 0) (λ _. tt)
     (λ _. pick-cases P (ltb octetsLimit long) (λ _. tt)
+    (λ _. pick-cases P (ltb blockLimit (st .root .block)) (λ _. tt)
     (λ _. pick-cases P (leb framesLimit frames) (λ _. tt)
     (λ h. pick-cases P (not agree) (λ _. tt)
     (λ _. pick-cases P (not (pointerFits (st .start))) (λ _. tt)
-    (λ _. pick-cases P (ltb long (sequencesOf (st .sequences) long octets * octets)) (λ _. tt)
     (λ _. leb-false framesLimit frames h))))))
 
 -- The frame's channels are those of the first n records, l is their layout, and their records are brought up to date.
