@@ -57,6 +57,7 @@ pub fn kind_of(v: Value) -> u32
         Value::Double(_) => 3,
         Value::NotNumber(_) => 4,
         Value::Null => 5,
+        Value::NoData => 6,
     }
 }
 
@@ -71,6 +72,7 @@ pub fn whole_of(v: Value) -> i64
         Value::Double(_) => 0,
         Value::NotNumber(_) => 0,
         Value::Null => 0,
+        Value::NoData => 0,
     }
 }
 

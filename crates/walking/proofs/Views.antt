@@ -106,6 +106,7 @@ module _ {s : List ℕ} {met : List Frame} {u v : List ℕ} {x : Waveform} (p : 
           sequences = x .sequences;
           little = x .little;
           place = x .place;
+          long = counts .long i;
           octets = counts .octets i;
           below = octetsBelow k (frame .channels);
           settings = sym shown i;

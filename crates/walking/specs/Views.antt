@@ -22,6 +22,7 @@ viewBy v below c =
       sequences = v .sequences;
       little = v .little;
       place = v .place;
+      long = v .len;
       octets = v .octets;
       below = below;
       settings = c;

@@ -113,6 +113,7 @@ fn view_kept(w: &[u64], channel: u32) -> View
         sequences: v.sequences,
         little: v.little,
         place: v.place,
+        long: v.len,
         octets: v.octets,
         below: words::below(t, channel as usize),
         settings,

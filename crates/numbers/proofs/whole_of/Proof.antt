@@ -27,6 +27,9 @@ enum-told-4 c = search needs
 enum-told-5 : tie.Need-enum-told-5
 enum-told-5 c = search needs
 
+enum-told-6 : tie.Need-enum-told-6
+enum-told-6 c = search needs
+
 in64 : (c : tie.After-known-told) → SFits w64 (c .before .v .given .0 .0)
 in64 c = search needs
 
@@ -54,6 +57,10 @@ returns-6 : tie.Need-returns-6
 unfolding valueSays
 returns-6 c = ap (λ (v : Value). valueSays v .whole) (sym (c .enum-told5 .given .1))
 
+returns-7 : tie.Need-returns-7
+unfolding valueSays
+returns-7 c = ap (λ (v : Value). valueSays v .whole) (sym (c .enum-told6 .given .1))
+
 pub whole-of-spec : {M : Type 1} → statement M
 whole-of-spec =
     tie.close
@@ -64,9 +71,11 @@ whole-of-spec =
     enum-told-3
     enum-told-4
     enum-told-5
+    enum-told-6
     returns
     returns-2
     returns-3
     returns-4
     returns-5
-    returns-6)
+    returns-6
+    returns-7)

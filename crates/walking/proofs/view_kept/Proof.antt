@@ -54,6 +54,7 @@ returns c =
       sequences = told .result .sequences;
       little = told .result .little;
       place = told .result .place;
+      long = told .result .len;
       octets = told .result .octets;
       below = c .before .below .result;
       settings = at-held .held .result;
