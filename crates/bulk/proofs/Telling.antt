@@ -2,13 +2,14 @@
 --     Mapping, mapping-begins, mapping-turns, mapping-ends    a loop that stores f of each of n elements
 --     Pieces, pieces-begin, pieces-turn, pieces-end           a loop that does so piece by piece
 --     piece-bits, seen-piece, seen-long    the bits of a piece
+--     there-small    the numbers of samples that are there fit in 64 bits
 --     map-bits, kinds-told, wholes-told    what is told of samples are their values
 -- Assumes nothing.
 use mathlib.Core.Path.{_≡_, refl, sym, ap, _∙_}
 use mathlib.Core.Bool.{Bool, true, false}
 use mathlib.Core.List.{List, _∷_, _++_, map, map-append, map-map}
-use Prim.Native.Nat.{ℕ, zero, suc, _+_, _-_, _≤_, _<_, min}
-use native.Mathlib.Nat.{add-zero, add-suc, add-assoc}
+use Prim.Native.Nat.{ℕ, zero, suc, _+_, _-_, _^_, _≤_, _<_, min}
+use native.Mathlib.Nat.{add-zero, add-suc, add-assoc, mul-le-mul}
 use native.Mathlib.Numerals.{add-one}
 use native.Mathlib.Omega.{arith}
 use lib.Dec.{ltb}
@@ -26,8 +27,10 @@ use Rattle.reader.proofs.Good.{number-first}
 use Rattle.heads.specs.Refusals.{noFrame, noSample}
 use Rattle.heads.specs.Answer.{Answer, answered, refusedAs, leftBy}
 use Rattle.view.specs.declared.View.{View}
-use Rattle.view.specs.View.{countSeen, placeSeen, liesIn}
-use Rattle.view.proofs.Lying.{LiesIn, FoundIn, found-asked}
+use Rattle.there.proofs.Counts.{count-few}
+use Rattle.spread.proofs.Lying.{there-named}
+use Rattle.view.specs.View.{spreadOf, countSeen, thereSeen, placeSeen, liesIn}
+use Rattle.view.proofs.Lying.{LiesIn, AskedIn, asked-answered}
 use Rattle.strides.specs.Laying.{bitsFrom}
 use Rattle.strides.proofs.Walks.{length-bits, bits-append, stores-join}
 use Rattle.bulk.specs.Samples.{bitsSeen, readSeen, valuesBy}
@@ -104,6 +107,10 @@ piece-bits g m zero p rest h = refl
 piece-bits g m (suc k) zero rest h = let z : ⊥ = omega arith in absurd z
 piece-bits g m (suc k) (suc p) rest h = ap (λ (l : List ℕ). g m ∷ l) (piece-bits g (suc m) k p rest (omega arith))
 
+-- Fewer than 2^64 samples are there.
+pub there-small : (v : View) → v .sequences ≤ 4294967295 → v .settings .block ≤ 4294967295 → thereSeen v < 2 ^ 64
+there-small v h k = omega (arith, count-few (v .sequences) (v .settings .block) (widthIn (v .settings)) (v .octets) (v .below) (v .long), mul-le-mul h k)
+
 -- ---- what is told
 
 -- Two tellings that agree below a bound agree on bits below it.
@@ -113,13 +120,13 @@ map-bits f h g R e l m zero = refl
 map-bits {A} f h g R e l m (suc n) = let first = e (g m) (l m) in let rest = map-bits f h g R e l (suc m) n in λ i. first i ∷ rest i
 
 -- The bits that reading a channel that lies in the file leaves at the front of a buffer.
-pub seen-piece : (s : List ℕ) (v : View) (m room k : ℕ) (bits : List ℕ) {new : List ℕ} → LiesIn (length s) v → m < countSeen v → k ≤ min room (countSeen v - m) → new ≡ leftBy (readSeen s v m room) bits
+pub seen-piece : (s : List ℕ) (v : View) (m room k : ℕ) (bits : List ℕ) {new : List ℕ} → LiesIn (length s) v → m < thereSeen v → k ≤ min room (thereSeen v - m) → new ≡ leftBy (readSeen s v m room) bits
     → take k new ≡ bitsFrom (bitsSeen s v) m k
 unfolding readSeen leftBy
 seen-piece s v m room k bits l h b e =
-    let x = bitsFrom (bitsSeen s v) m (min room (countSeen v - m)) in
-    let found : FoundIn (length s) v m (placeSeen v m) = record { lies = l; number = h; place = refl } in
-    ap (take k) (e ∙ ap (λ (a : Answer (List ℕ)). leftBy a bits) (found-asked x found)) ∙ piece-bits (bitsSeen s v) m k (min room (countSeen v - m)) (drop (length x) bits) b
+    let x = bitsFrom (bitsSeen s v) m (min room (thereSeen v - m)) in
+    let asked : AskedIn (length s) v m = record { lies = l; number = there-named (spreadOf v) m h } in
+    ap (take k) (e ∙ ap (λ (a : Answer (List ℕ)). leftBy a bits) (asked-answered x asked)) ∙ piece-bits (bitsSeen s v) m k (min room (thereSeen v - m)) (drop (length x) bits) b
 
 -- Reading leaves a buffer as long as it was.
 pub seen-long : (s : List ℕ) (v : View) (m : ℕ) (bits : List ℕ) {new : List ℕ} → new ≡ leftBy (readSeen s v m (length bits)) bits → length new ≡ length bits
@@ -127,10 +134,10 @@ unfolding readSeen leftBy
 seen-long s v m bits e = ap length e ∙ by (ltb m (countSeen v)) (liesIn (length s) v)
   where
     x : List ℕ
-    x = bitsFrom (bitsSeen s v) m (min (length bits) (countSeen v - m))
+    x = bitsFrom (bitsSeen s v) m (min (length bits) (thereSeen v - m))
 
     by : (a b : Bool) → length (leftBy (pick a (pick b (answered x) (refusedAs noFrame 0)) (refusedAs noSample 0)) bits) ≡ length bits
-    by true true = simp (length-append, length-drop) (omega (arith, length-bits (bitsSeen s v) m (min (length bits) (countSeen v - m))))
+    by true true = simp (length-append, length-drop) (omega (arith, length-bits (bitsSeen s v) m (min (length bits) (thereSeen v - m))))
     by true false = refl
     by false b = refl
 

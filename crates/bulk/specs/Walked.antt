@@ -2,20 +2,20 @@
 use mathlib.Core.Path.{_≡_}
 use mathlib.Core.List.{List, map}
 use mathlib.Core.Bool.{true}
-use Prim.Native.Nat.{ℕ, _+_, _^_, _≤_, _<_}
+use Prim.Native.Nat.{ℕ, _+_, _-_, _^_, _≤_, _<_}
 use lib.IntN.{ℤ}
 use lib.ListN.{length}
 use Rattle.values.specs.declared.Meaning.{Meaning}
 use Rattle.values.specs.Told.{meaningOf, toldOf}
 use Rattle.view.specs.declared.View.{View}
-use Rattle.view.specs.View.{countSeen, liesIn}
+use Rattle.view.specs.View.{thereSeen, liesIn}
 use Rattle.strides.specs.Laying.{bitsFrom}
 use Rattle.bulk.specs.Samples.{bitsSeen}
 
--- Samples are still to be told: the channel lies in the file and has n samples from `first` on, and both buffers have room for them.
+-- Samples are still to be told: the channel lies in the file, n samples from `first` on are there, and both buffers have room for them.
 pub record ToTell (s : List ℕ) (v : View) (first n kinds wholes : ℕ) : Type 0 where
   pub lies : liesIn (length s) v ≡ true
-  pub number : first + n ≤ countSeen v
+  pub number : n ≤ thereSeen v - first
   pub small : first + n < 2 ^ 64
   pub kindsFit : n ≤ kinds
   pub wholesFit : n ≤ wholes

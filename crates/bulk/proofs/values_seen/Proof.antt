@@ -1,78 +1,54 @@
--- By the place of the first sample: the samples from there on lie in the file, and what is told of them are their values.
+-- By how many samples are read: what is told of them are their values.
 use mathlib.Core.Path.{sym, ap, _∙_}
-use Prim.Native.Nat.{ℕ, _+_, _-_, _≤_, min}
+use Prim.Native.Nat.{min}
 use native.Mathlib.Omega.{arith}
 use lib.ListN.{length, length-map}
 use lib.Seq.{sets}
 use Rattle.octets.specs.Number.{Octets}
 use Rattle.heads.specs.Answer.{answered, mapAnswer}
-use Rattle.view.specs.View.{countSeen}
-use Rattle.view.proofs.Lying.{lies-seen, found-in, found-asked, unfound}
-use Rattle.strides.specs.Laying.{bitsFrom}
-use Rattle.bulk.specs.Samples.{bitsSeen, readSeen, valuesBy, valuesSeen, kindsIn, wholesIn}
+use Rattle.view.proofs.Lying.{lies-seen}
 use Rattle.strides.proofs.Walks.{length-bits}
 use Rattle.strides.proofs.Channels.{kept, filled}
-use Rattle.bulk.proofs.Telling.{kinds-told, wholes-told}
+use Rattle.bulk.specs.Samples.{bitsSeen, valuesBy, valuesSeen, kindsIn, wholesIn}
+use Rattle.bulk.proofs.Reading.{read-refused, read-asked, read-bits}
+use Rattle.bulk.proofs.Telling.{there-small, kinds-told, wholes-told}
 use borrow.Author.Needs.{needs}
 use Rattle.bulk.proofs.values_seen.Statement.{statement}
 use Rattle.bulk.proofs.values_seen.Tie as tie
 
-find-requires : tie.Need-find-requires
-find-requires c κs = search needs
+smaller-requires : tie.Need-smaller-requires
+smaller-requires c κs = search needs
+
+readable-requires : tie.Need-readable-requires
+readable-requires c κs = search needs
 
 enum-known-x : tie.Need-enum-known-x
 enum-known-x c = search needs
 
-enum-told : tie.Need-enum-told
-enum-told c = search needs
-
-spread-requires : tie.Need-spread-requires
-spread-requires c κs = search needs
-
-smaller-requires : tie.Need-smaller-requires
-smaller-requires c κs = search needs
-
-count-requires : tie.Need-count-requires
-count-requires c κs = search needs
-
-sub-fitting : tie.Need-sub-fitting
-sub-fitting c =
-    let at-spread = c .before .before in
-    let at-enum-told = at-spread .before in
-    let at-find = at-enum-told .before .before in
-    let at-start = at-find .before .before .before in
-    let a = at-start .args in
-    let m = found-in (length (a .s .now)) (a .v) (a .first) (at-find .find .ensures) (at-enum-told .enum-told .given .1) in
-    omega (arith, m .number, rw (at-spread .spread .ensures) at (c .count .ensures))
-
-fitting-requires : tie.Need-fitting-requires
-fitting-requires c κs = search needs
+enum-known-n : tie.Need-enum-known-n
+enum-known-n c = search needs
 
 tell-samples-requires : tie.Need-tell-samples-requires
 tell-samples-requires c κs =
-    let at-fitting = c .before .before in
-    let at-count = at-fitting .before in
-    let at-smaller = at-count .before in
-    let at-spread = at-smaller .before in
-    let at-enum-told = at-spread .before in
-    let at-find = at-enum-told .before .before in
-    let at-start = at-find .before .before .before in
-    let a = at-start .args in
-    let m = found-in (length (a .s .now)) (a .v) (a .first) (at-find .find .ensures) (at-enum-told .enum-told .given .1) in
-    let n = at-fitting .fitting .ensures in
-    let room = at-smaller .smaller .ensures in
-    let count = rw (at-spread .spread .ensures) at (at-count .count .ensures) in
-    let number : a .first + at-fitting .fitting .result ≤ countSeen (a .v) = omega (arith, m .number) in
-    record { lies = lies-seen (m .lies); number = number; small = omega arith; kindsFit = omega arith; wholesFit = omega arith }
+    let a = c .before .before .before .before .before .before .before .before .before .args in
+    let small = there-small (a .v) (omega arith) (omega arith) in
+    let at-n = c .before .before .before in
+    let at-readable = at-n .before .before in
+    let at-smaller = at-readable .before in
+    let room = min (length (a .kinds .now)) (length (a .wholes .now)) in
+    let k = read-asked (a .s .now) (a .v) (a .first) room (rw (at-smaller .smaller .ensures) at (at-readable .readable .ensures)) (at-n .n .given .1) in
+    let n = k .1 in
+    record { lies = lies-seen (k .0 .lies); number = omega arith; small = omega (arith, small); kindsFit = omega arith; wholesFit = omega arith }
 
 returns : tie.Need-returns
-unfolding valuesSeen readSeen
+unfolding valuesSeen
 returns c =
-    let at-find = c .before .before .before in
-    let at-start = at-find .before .before .before in
+    let at-readable = c .before .before .before in
+    let at-smaller = at-readable .before in
+    let at-start = at-smaller .before .before .before in
     let a = at-start .args in
-    let read = unfound (length (a .s .now)) (a .v) (a .first) (at-find .find .ensures)
-    (bitsFrom (bitsSeen (a .s .now) (a .v)) (a .first) (min (min (length (a .kinds .now)) (length (a .wholes .now))) (countSeen (a .v) - a .first))) (c .before .x .given .1) in
+    let room = min (length (a .kinds .now)) (length (a .wholes .now)) in
+    let read = read-refused (a .s .now) (a .v) (a .first) room (rw (at-smaller .smaller .ensures) at (at-readable .readable .ensures)) (c .before .x .given .1) in
     let e = ap (mapAnswer (valuesBy (a .v .settings))) read in
     (ap (mapAnswer length) e, (kept _ (ap kindsIn e), kept _ (ap wholesIn e)))
 
@@ -83,26 +59,21 @@ same-length-2 : tie.Need-same-length-2
 same-length-2 c = search needs
 
 returns-2 : tie.Need-returns-2
-unfolding valuesSeen readSeen
+unfolding valuesSeen
 returns-2 c =
     let at-tell-samples = c .before .before .before in
-    let at-fitting = at-tell-samples .before .before .before in
-    let at-count = at-fitting .before in
-    let at-smaller = at-count .before in
-    let at-spread = at-smaller .before in
-    let at-enum-told = at-spread .before in
-    let at-find = at-enum-told .before .before in
-    let at-shared-slice-known = at-find .before .before in
+    let at-n = at-tell-samples .before .before .before .before in
+    let at-readable = at-n .before .before in
+    let at-smaller = at-readable .before in
+    let at-shared-slice-known = at-smaller .before .before in
     let at-start = at-shared-slice-known .before in
     let a = at-start .args in
-    let m = found-in (length (a .s .now)) (a .v) (a .first) (at-find .find .ensures) (at-enum-told .enum-told .given .1) in
-    let n = at-fitting .fitting .result in
-    let room = ap (λ (k : ℕ). min k (at-count .count .result - a .first)) (at-smaller .smaller .ensures) in
-    let left = ap (λ (k : ℕ). min (min (length (a .kinds .now)) (length (a .wholes .now))) (k - a .first)) (rw (at-spread .spread .ensures) at (at-count .count .ensures)) in
-    let many = at-fitting .fitting .ensures ∙ room ∙ left in
-    let bits = bitsFrom (bitsSeen (a .s .now) (a .v)) (a .first) n in
-    let read = ap (λ (k : ℕ). answered (bitsFrom (bitsSeen (a .s .now) (a .v)) (a .first) k)) many ∙ sym (found-asked _ m) in
-    let e = ap (mapAnswer (valuesBy (a .v .settings))) read in
+    let room = min (length (a .kinds .now)) (length (a .wholes .now)) in
+    let many = rw (at-smaller .smaller .ensures) at (at-readable .readable .ensures) in
+    let some = at-n .n .given .1 in
+    let fits = read-asked (a .s .now) (a .v) (a .first) room many some .1 in
+    let e = ap (mapAnswer (valuesBy (a .v .settings))) (read-bits (a .s .now) (a .v) (a .first) room many some) in
+    let n = at-n .n .given .0 .0 in
     let long = length-bits (bitsSeen (a .s .now) (a .v)) (a .first) n in
     let octets : Octets (a .s .now) = λ i. at-shared-slice-known .shared-slice-known .given i .fits in
     let kinds = at-tell-samples .tell-samples .ensures .0 ∙ ap (sets (a .kinds .now) 0) (kinds-told (a .s .now) octets (a .v) (a .first) n) in
@@ -115,14 +86,10 @@ pub values-seen-spec : {M : Type 1} → statement M
 values-seen-spec =
     tie.close
     (tie.spec
-    find-requires
-    enum-known-x
-    enum-told
-    spread-requires
     smaller-requires
-    count-requires
-    sub-fitting
-    fitting-requires
+    readable-requires
+    enum-known-x
+    enum-known-n
     tell-samples-requires
     returns
     same-length
