@@ -15,15 +15,13 @@ use lib.Dec.{ltb}
 use lib.ListN.{length, getD}
 use lib.Seq.{sets}
 use Rattle.octets.specs.Pick.{pick}
-use Rattle.octets.specs.Number.{Octets}
 use Rattle.octets.proofs.Pick.{pick-cases}
 use Rattle.heads.specs.declared.Refusal.{Refusal}
 use Rattle.heads.specs.Refusals.{noFrame, noSample}
 use Rattle.heads.specs.Answer.{Answer, answered, refusedAs, refusedBy, mapAnswer, leftBy}
-use Rattle.settings.specs.Settings.{defaultSettings}
-use Rattle.layout.specs.Frame.{Frame, widthIn, sequenceOctets, octetsBelow, channelIn}
+use Rattle.layout.specs.Frame.{channelIn}
 use Rattle.laid.specs.Laid.{sampleBits}
-use Rattle.there.specs.There.{countThere, thereOf, thereIn}
+use Rattle.there.specs.There.{thereIn}
 use Rattle.spread.specs.Spread.{bitsSpread}
 use Rattle.strides.specs.declared.Read.{Read}
 use Rattle.strides.specs.declared.Read.the-variants.{Samples}
@@ -34,23 +32,16 @@ use Rattle.strides.proofs.Walks.{length-bits, bits-same}
 use Rattle.strides.proofs.Laying.{in-lays, no-bits}
 use Rattle.strides.proofs.Channels.{filled}
 use Rattle.view.specs.declared.View.{View}
-use Rattle.view.specs.View.{viewOf, spreadOf, countSeen, thereSeen, placeSeen, liesIn, askedSeen}
+use Rattle.view.specs.View.{spreadOf, countSeen, thereSeen, placeSeen, liesIn, askedSeen}
 use Rattle.view.proofs.Lying.{AskedIn, seen-lies, map-seen}
 use Rattle.verdict.specs.Verdict.{verdict}
 use Rattle.pass.specs.Scan.{zeroFrame}
 use Rattle.reader.specs.Answer.{seenOf}
 use Rattle.reader.proofs.Order.{asked-both}
-use Rattle.reader.proofs.Answers.{Located, frameIn, settings-seen, bits-seen, asked-seen}
+use Rattle.reader.proofs.Answers.{Located, frameIn, settings-seen, view-there, there-seen, bits-seen, asked-seen}
 use Rattle.bulk.specs.Samples.{thereAt, bitsSeen, readOf, readSeen, valuesBy, valuesOf, valuesSeen}
 
 -- ---- how many are there
-
--- Of a channel that the frame has, what is seen are its samples.
-view-there : (channel : ℕ) (f : Frame) → channel < length (f .channels) → thereSeen (viewOf channel f) ≡ thereIn channel f
-unfolding viewOf thereIn thereOf
-view-there channel f h =
-    ap (λ (b : Bool). let c = pick b (channelIn channel (f .channels)) defaultSettings in countThere (f .sequences) (c .block) (widthIn c) (sequenceOctets (f .channels)) (octetsBelow channel (f .channels)) (length (f .waveform)))
-    (lt-ltb channel (length (f .channels)) h)
 
 pub there-is : (s : List ℕ) (frame channel : ℕ) → mapAnswer thereSeen (seenOf s frame channel) ≡ thereAt s frame channel
 unfolding thereAt seenOf
@@ -83,28 +74,25 @@ module _ {A : Type 0} (size : ℕ) (v : View) (first : ℕ) (a : A) where
 -- ---- the answer for a frame of the file
 
 -- Its channel lies in the file, and what is seen of it are its samples.
-module _ {s : List ℕ} {frame channel : ℕ} {v : View} (o : Octets s) (l : Located s frame channel v) (first room : ℕ) where
-  there-seen : thereSeen v ≡ thereIn channel (frameIn l)
-  there-seen = ap thereSeen (l .view) ∙ view-there channel (frameIn l) (l .channelIs)
-
+module _ {s : List ℕ} {frame channel : ℕ} {v : View} (l : Located s frame channel v) (first room : ℕ) where
   same-bits : bitsFrom (bitsSeen s v) first (min room (thereSeen v - first)) ≡ bitsFrom (sampleBits (frameIn l) channel) first (min room (thereIn channel (frameIn l) - first))
   unfolding bitsSeen placeSeen
   same-bits =
       bits-same (bitsSeen s v) (sampleBits (frameIn l) channel) first first (min room (thereSeen v - first)) (λ j k. bits-seen l (omega arith))
-      ∙ ap (λ (k : ℕ). bitsFrom (sampleBits (frameIn l) channel) first (min room (k - first))) there-seen
+      ∙ ap (λ (k : ℕ). bitsFrom (sampleBits (frameIn l) channel) first (min room (k - first))) (there-seen l)
 
   pub read-located : readSeen s v first room ≡ readOf s frame channel first room
   unfolding readSeen readOf
   read-located =
       ap (askedSeen (length s) v first) same-bits
-      ∙ sym (asked-seen l o (λ f. bitsFrom (sampleBits f channel) first (min room (thereIn channel f - first))) first)
+      ∙ sym (asked-seen l (λ f. bitsFrom (sampleBits f channel) first (min room (thereIn channel f - first))) first)
 
   pub values-located : valuesSeen s v first room ≡ valuesOf s frame channel first room
   unfolding valuesSeen readSeen valuesOf
   values-located =
       map-seen (valuesBy (v .settings)) (length s) v first (bitsFrom (bitsSeen s v) first (min room (thereSeen v - first)))
       ∙ (λ i. askedSeen (length s) v first (valuesBy (settings-seen l i) (same-bits i)))
-      ∙ sym (asked-seen l o (λ f. valuesBy (channelIn channel (f .channels)) (bitsFrom (sampleBits f channel) first (min room (thereIn channel f - first)))) first)
+      ∙ sym (asked-seen l (λ f. valuesBy (channelIn channel (f .channels)) (bitsFrom (sampleBits f channel) first (min room (thereIn channel f - first)))) first)
 
 -- ---- the answer for a channel that is seen
 

@@ -23,7 +23,7 @@ use Rattle.values.specs.Sample.{Said, valueOf}
 use Rattle.values.specs.Told.{toldAs, toldOf}
 use Rattle.values.proofs.Told.{told-is}
 use Rattle.layout.specs.Frame.{widthIn}
-use Rattle.reader.proofs.Good.{number-first}
+use Rattle.verdict.proofs.Steps.{number-first}
 use Rattle.heads.specs.Refusals.{noFrame, noSample}
 use Rattle.heads.specs.Answer.{Answer, answered, refusedAs, leftBy}
 use Rattle.view.specs.declared.View.{View}

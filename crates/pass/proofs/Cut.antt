@@ -3,7 +3,7 @@
 --     held-fits, held-there, held-cut    sequences that the waveform holds, or does not
 --     settled-cutting, settled-last, settled-block, settled-past    the loop that looks for the channel whose block is cut off
 -- Assumes nothing.
-use mathlib.Core.Path.{_≡_, refl, sym, ap, subst, _∙_}
+use mathlib.Core.Path.{_≡_, sym, ap, _∙_}
 use mathlib.Core.List.{List}
 use mathlib.Core.Bool.{true, false}
 use Prim.Native.Nat.{ℕ, _+_, _-_, _*_, _%_, _≤_, _<_}
@@ -25,7 +25,7 @@ use Rattle.laid.specs.Turned.{sequenceSamples, Even}
 use Rattle.laid.proofs.Turned.{octets-even}
 use Rattle.there.specs.There.{thereOctets, partialOctets}
 use Rattle.there.proofs.Places.{there-whole}
-use Rattle.there.proofs.Partial.{there-cut, Cutting, cutting-first, cutting-block, cutting-end, cutting-past}
+use Rattle.there.proofs.Partial.{Cutting, cutting-block, cutting-end, cutting-past}
 
 pub root-even : (n : ℕ) (root : Settings) → Even (widthIn root) (take n (replicate channelLimit root))
 root-even n root i h =

@@ -4,7 +4,7 @@
 --     described-is    the attributes, over a look-up
 --     unseen    where no channel is seen no question for a sample is answered
 --     frameIn, settings-seen, count-seen, place-is, little-seen    what a channel that was found says of its frame
---     there-seen, test-seen       how many of its samples are there, and whether one is
+--     view-there, there-seen, test-seen    how many of its samples are there, and whether one is
 --     located-lies    its samples there lie in the file
 --     asked-seen, placed-seen    a question for a sample, and the place of one, over what is seen
 --     bits-seen    the octets at a sample's place are the sample's
@@ -27,8 +27,8 @@ use Rattle.heads.specs.Answer.{Answer, answered, refusedAs, refusedBy, mapAnswe
 use Rattle.octets.specs.Number.{numberOf, NumberRead}
 use Rattle.octets.proofs.Laws.{part-read, part-fits}
 use Rattle.values.specs.Sample.{Said, widthOf, valueOf, lowBits}
-use Rattle.values.proofs.Laws.{width-some, width-le, low-bits}
-use Rattle.settings.specs.Settings.{zeroSettings}
+use Rattle.values.proofs.Laws.{width-le, low-bits}
+use Rattle.settings.specs.Settings.{defaultSettings}
 use Rattle.layout.specs.Frame.{Frame, widthIn, sequenceOctets, octetsBelow, channelIn, samplesOf, offsetOf, placeOf, blockOctets}
 use Rattle.reader.specs.declared.Attributes.{Attributes}
 use Rattle.reader.specs.declared.LookedUp.{LookedUp}
@@ -202,6 +202,13 @@ described-is s frame channel =
 
 -- ---- the place of a sample
 
+-- Of a channel that the frame has, as many samples are seen as are there.
+pub view-there : (channel : ℕ) (f : Frame) → channel < length (f .channels) → thereSeen (viewOf channel f) ≡ thereIn channel f
+unfolding viewOf thereIn thereOf
+view-there channel f h =
+    ap (λ (b : Bool). let c = pick b (channelIn channel (f .channels)) defaultSettings in countThere (f .sequences) (c .block) (widthIn c) (sequenceOctets (f .channels)) (octetsBelow channel (f .channels)) (length (f .waveform)))
+    (lt-ltb channel (length (f .channels)) h)
+
 module _ {s : List ℕ} {frame channel : ℕ} {w : View} (p : Located s frame channel w) where
   -- The frame that was found.
   abbrev pub frameIn : Frame
@@ -227,10 +234,6 @@ module _ {s : List ℕ} {frame channel : ℕ} {w : View} (p : Located s frame ch
   unfolding viewOf
   octets-seen = ap (λ (v : View). v .octets) (p .view)
 
-  sequences-seen : w .sequences ≡ frameIn .sequences
-  unfolding viewOf
-  sequences-seen = ap (λ (v : View). v .sequences) (p .view)
-
   place-seen : w .place ≡ frameIn .place
   unfolding viewOf
   place-seen = ap (λ (v : View). v .place) (p .view)
@@ -244,9 +247,7 @@ module _ {s : List ℕ} {frame channel : ℕ} {w : View} (p : Located s frame ch
   long-seen = ap (λ (v : View). v .long) (p .view)
 
   pub there-seen : thereSeen w ≡ thereIn channel frameIn
-  unfolding thereIn thereOf
-  there-seen =
-      λ i. countThere (sequences-seen i) (settings-seen i .block) (widthIn (settings-seen i)) (octets-seen i) (below-seen i) (long-seen i)
+  there-seen = ap thereSeen (p .view) ∙ view-there channel frameIn (p .channelIs)
 
   pub frame-lies : Lies s frameIn
   frame-lies = accepted-lies s (p .frames) (p .verdictIs) frame (p .frameIn)

@@ -7,7 +7,6 @@ use mathlib.Core.Path.{_≡_, refl}
 use mathlib.Core.List.{List, [], _∷_}
 use mathlib.Core.Bool.{Bool, true, false}
 use Prim.Native.Nat.{ℕ, suc, _-_, _*_, _^_, _≤_, _<_}
-use native.Mathlib.Nat.{le-mul-of-pos-right, lt-of-lt-of-le}
 use native.Mathlib.Omega.{arith}
 use borrow.Author.Tests.{ltb-true, ltb-false, leb-true, eqb-true}
 use lib.Dec.{lit<, ltb, leb, eqb}
@@ -39,7 +38,6 @@ use Rattle.framing.proofs.Framings.{sequences-small}
 use Rattle.verdict.proofs.Steps.{number-first, Small, Waveform, waveform-short, TakenBy, ItemStep, passes, stands, resets, changes, sets, frames, meaning-steps}
 use Rattle.verdict.proofs.Every.{Every, every-at, every-snoc, every-take, every-imp}
 use Rattle.verdict.proofs.Tables.{EachAttribute, Table, table-step, table-first}
-use Rattle.verdict.proofs.Bounds.{Bounded, bounded-first, bounded-step, octets-some}
 
 -- A unit up to the last one, an exponent of one octet, and a mantissa from 1 on that fits four.
 pub record GoodScale (last : ℕ) (x : Scale) : Type 0 where

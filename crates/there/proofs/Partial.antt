@@ -8,7 +8,7 @@
 use Prim.Native.Nat.{ℕ, suc, _+_, _-_, _*_, _/_, _%_, _≤_, _<_}
 use mathlib.Core.Path.{_≡_, refl, sym, _∙_, ap}
 use mathlib.Core.List.{List, [], _∷_}
-use native.Mathlib.Nat.{add-zero, mul-assoc, div-add-mod', mod-lt, zero-mod, min-eq-right, add-mul-mod-self-right}
+use native.Mathlib.Nat.{mul-assoc, div-add-mod', mod-lt, zero-mod, min-eq-right, add-mul-mod-self-right}
 use native.Mathlib.Numerals.{add-one}
 use native.Mathlib.Decide.{decLt}
 use native.Mathlib.Omega.{arith}

@@ -44,7 +44,7 @@ returns-2 c =
     let at-start = at-shared-slice-known .before in
     let a = at-start .args in
     let l = located (a .s .now) (a .frame) (a .channel) _ (at-look-up .look-up .ensures) (at-v .v .given .1) in
-    let e = read-located (λ i. at-shared-slice-known .shared-slice-known .given i .fits) l (a .first) (length (a .out .now)) in
+    let e = read-located l (a .first) (length (a .out .now)) in
     (at-seen .seen .ensures .0 ∙ ap (mapAnswer length) e, at-seen .seen .ensures .1 ∙ ap (λ (b : Answer (List ℕ)). leftBy b (a .out .now)) e)
 
 pub samples-spec : {M : Type 1} → statement M

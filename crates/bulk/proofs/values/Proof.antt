@@ -47,7 +47,7 @@ returns-2 c =
     let at-start = at-shared-slice-known .before in
     let a = at-start .args in
     let l = located (a .s .now) (a .frame) (a .channel) _ (at-look-up .look-up .ensures) (at-v .v .given .1) in
-    let e = values-located (λ i. at-shared-slice-known .shared-slice-known .given i .fits) l (a .first) (min (length (a .kinds .now)) (length (a .wholes .now))) in (
+    let e = values-located l (a .first) (min (length (a .kinds .now)) (length (a .wholes .now))) in (
       at-values-seen .values-seen .ensures .0 ∙ ap (mapAnswer length) e,
       (
         at-values-seen .values-seen .ensures .1 .0 ∙ ap (λ (b : Answer (List Said)). leftBy (kindsIn b) (a .kinds .now)) e,

@@ -1,12 +1,10 @@
 -- All channels have one width.
-use mathlib.Core.Path.{_≡_, sym, _∙_, ap}
-use mathlib.Core.Bool.{false}
-use Prim.Native.Nat.{_-_, _*_, _%_, _<_}
+use Prim.Native.Nat.{_-_}
 use lib.ListN.{take, replicate}
 use native.Mathlib.Nat.{mod-le}
 use native.Mathlib.Omega.{arith}
 use Rattle.settings.specs.Settings.{channelLimit}
-use Rattle.layout.specs.Frame.{widthIn, sequenceOctets}
+use Rattle.layout.specs.Frame.{widthIn}
 use Rattle.framing.specs.Framing.{channelsOf}
 use Rattle.there.proofs.Partial.{cut-some, there-even}
 use Rattle.pass.proofs.Cut.{root-even, even-some, held-fits, held-there, held-cut}

@@ -1,6 +1,6 @@
 -- The frame is kept where it is the one that is asked for, and its octets are added up.
 use mathlib.Core.Path.{_∙_, ap}
-use Prim.Native.Nat.{_+_, _*_}
+use Prim.Native.Nat.{_+_}
 use Rattle.layout.proofs.Laws.{frame-few}
 use Rattle.pass.specs.declared.Found.{Found}
 use Rattle.pass.specs.Passing.{viewMet}

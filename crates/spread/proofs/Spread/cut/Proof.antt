@@ -1,6 +1,6 @@
 -- By how much of the block is there in the sequence that is cut off.
-use mathlib.Core.Path.{_≡_, sym, _∙_, ap}
-use Prim.Native.Nat.{ℕ, _-_, _/_, _%_, _≤_}
+use mathlib.Core.Path.{_≡_}
+use Prim.Native.Nat.{_-_, _/_, _%_, _≤_}
 use native.Mathlib.Nat.{mul-le-mul}
 use native.Mathlib.Omega.{arith}
 use Rattle.spread.specs.Spread.{widthSpread}
@@ -8,12 +8,6 @@ use Rattle.spread.proofs.Counting.{counted-all, counted-some, counted-b
 use borrow.Author.Needs.{needs}
 use Rattle.spread.proofs.Spread.cut.Statement.{statement}
 use Rattle.spread.proofs.Spread.cut.Tie as tie
-use Rattle.spread.proofs.Spread.cut.Reads as reads
-use Rattle.spread.proofs.Spread.cut.Lts as lts
-use Rattle.spread.proofs.behind.Reads as behind-reads
-use Rattle.spread.proofs.rest.Reads as rest-reads
-use Rattle.spread.proofs.times.Reads as times-reads
-use Rattle.values.proofs.width.Reads as width-reads
 
 cast-block : tie.Need-cast-block
 cast-block c = search needs
