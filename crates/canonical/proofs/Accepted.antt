@@ -1,8 +1,10 @@
--- The recording of an accepted file has each number in its range, and each list as long as the counts say.
+-- The recording of an accepted file has each number in its range, and of each channel the samples that are there.
 --     tabulate-length, tabulate-at    a list of values by number
---     reported-good          a channel's attributes as a recording has them
+--     reported-good         a channel's attributes as a recording has them
+--     width-at              its sample width
+--     samples-sized, sample-at    the samples of a frame
 --     frame-recorded        one frame
---     accepted-recorded     all frames of an accepted file
+--     accepted-recorded, accepted-wide    all frames of an accepted file
 -- Assumes nothing.
 use mathlib.Core.Path.{_≡_, refl, sym, ap, _∙_}
 use mathlib.Core.Logic.{_⊎_, inl, inr}
@@ -13,7 +15,7 @@ use native.Mathlib.Nat.{not-suc-le-zero, le-of-suc-le-suc}
 use native.Mathlib.Omega.{arith}
 use borrow.Author.Tests.{eqb-true}
 use lib.Dec.{eqb}
-use lib.ListN.{length, getD, drop, length-map}
+use lib.ListN.{length, getD, take, drop, length-map}
 use Rattle.octets.specs.Number.{Octets}
 use Rattle.octets.specs.Pick.{pick, either}
 use Rattle.octets.proofs.Pick.{both-split}
@@ -21,13 +23,15 @@ use Rattle.octets.proofs.Laws.{drop-octets, range-pos}
 use Rattle.values.specs.declared.Bits.{Bits}
 use Rattle.settings.specs.declared.Settings.{Settings}
 use Rattle.settings.specs.Settings.{zeroSettings}
-use Rattle.layout.specs.Frame.{offsetBits, Frame, widthIn, channelIn, samplesOf, widthAgrees, channelAgrees, offsetOf, reported}
+use Rattle.layout.specs.Frame.{offsetBits, Frame, widthIn, blockOctets, sequenceOctets, octetsBelow, channelIn, widthAgrees, channelAgrees, offsetOf, reported}
 use Rattle.laid.specs.Laid.{sampleBits}
+use Rattle.there.specs.There.{countThere, thereOf, thereIn, Wide}
 use Rattle.verdict.specs.Verdict.{accepted, verdict}
-use Rattle.verdict.proofs.Every.{Every}
+use Rattle.verdict.proofs.Every.{Every, every-imp}
 use Rattle.reader.proofs.Ordered.{Lies, every-lies}
 use Rattle.reader.proofs.Good.{GoodSettings, GoodFrame, number-first, agree-every, every-good}
 use Rattle.canonical.specs.Recording.{tabulate, recordedFrame, recording}
+use Rattle.canonical.proofs.Waveform.{SamplesSized}
 use Rattle.canonical.proofs.Good.{GoodReported, AllReported, GoodRecorded, AllRecorded}
 
 -- ---- lists by number
@@ -102,9 +106,43 @@ block-at : (cs : List Settings) (c : ℕ) → c < length cs → channelIn c (map
 unfolding reported
 block-at cs c h = ap (λ (x : Settings). x .block) (map-at reported cs c zeroSettings zeroSettings h)
 
-width-at : (cs : List Settings) (c : ℕ) → c < length cs → widthIn (channelIn c (map reported cs)) ≡ widthIn (channelIn c cs)
+pub width-at : (cs : List Settings) (c : ℕ) → c < length cs → widthIn (channelIn c (map reported cs)) ≡ widthIn (channelIn c cs)
 unfolding reported
 width-at cs c h = ap widthIn (map-at reported cs c zeroSettings zeroSettings h)
+
+octets-reported : (cs : List Settings) → sequenceOctets (map reported cs) ≡ sequenceOctets cs
+unfolding sequenceOctets blockOctets reported
+octets-reported [] = refl
+octets-reported (c ∷ cs) = rw (octets-reported cs)
+
+below-reported : (c : ℕ) (cs : List Settings) → octetsBelow c (map reported cs) ≡ octetsBelow c cs
+unfolding octetsBelow
+below-reported c cs = ap sequenceOctets (take-map c cs) ∙ octets-reported (take c cs)
+  where
+    take-map : (n : ℕ) (l : List Settings) → take n (map reported l) ≡ map reported (take n l)
+    take-map zero l = refl
+    take-map (suc n) [] = refl
+    take-map (suc n) (x ∷ l) = ap (λ (u : List Settings). reported x ∷ u) (take-map n l)
+
+-- As many of its samples are there.
+there-reported : (cs : List Settings) (sequences long c : ℕ) → c < length cs → thereOf (map reported cs) sequences long c ≡ thereOf cs sequences long c
+unfolding thereOf
+there-reported cs sequences long c h =
+    λ i. countThere sequences (block-at cs c h i) (width-at cs c h i) (octets-reported cs i) (below-reported c cs i) long
+
+-- ---- the samples of a frame
+
+module _ (f : Frame) where
+  samples-at : (c : ℕ) → c < length (f .channels) → getD (recordedFrame f .samples) c [] ≡ tabulate (thereIn c f) (sampleBits f c)
+  unfolding recordedFrame
+  samples-at c h = tabulate-at (length (f .channels)) (λ k. tabulate (thereIn k f) (sampleBits f k)) c [] h
+
+  pub samples-sized : SamplesSized (f .channels) (f .sequences) (length (f .waveform)) (recordedFrame f .samples)
+  unfolding thereIn
+  samples-sized c h = rw (samples-at c h) (tabulate-length (thereIn c f) (sampleBits f c))
+
+  pub sample-at : (c n : ℕ) → c < length (f .channels) → n < thereIn c f → getD (getD (recordedFrame f .samples) c []) n 0 ≡ sampleBits f c n
+  sample-at c n h l = rw (samples-at c h) (tabulate-at (thereIn c f) (sampleBits f c) n 0 l)
 
 -- ---- frames
 
@@ -116,13 +154,8 @@ sample-bits f channel n octets =
     number-first (f .little) (drop o (f .waveform)) (drop-octets o (f .waveform) octets) (widthIn (channelIn channel (f .channels)))
 
 module _ (s : List ℕ) (f : Frame) (l : Lies s f) (g : GoodFrame f) where
-  -- The samples of a channel.
-  samples-at : (c : ℕ) → c < length (f .channels) → getD (recordedFrame f .samples) c [] ≡ tabulate (samplesOf c f) (sampleBits f c)
-  unfolding recordedFrame
-  samples-at c h = tabulate-at (length (f .channels)) (λ k. tabulate (samplesOf k f) (sampleBits f k)) c [] h
-
   pub frame-recorded : GoodRecorded (recordedFrame f)
-  unfolding recordedFrame samplesOf
+  unfolding recordedFrame thereIn
   frame-recorded =
       let cs = f .channels in
       let k : length (map reported cs) ≡ length cs = length-map cs reported in
@@ -132,14 +165,15 @@ module _ (s : List ℕ) (f : Frame) (l : Lies s f) (g : GoodFrame f) where
         some = rw k (l .some);
         few = rw k (l .few);
         channels = all-reported cs (g .channels) (agree-every cs (g .agree));
-        counted = tabulate-length (length cs) (λ c. tabulate (samplesOf c f) (sampleBits f c)) ∙ sym k;
+        counted = tabulate-length (length cs) (λ c. tabulate (thereIn c f) (sampleBits f c)) ∙ sym k;
+        long = length (f .waveform);
         sized = λ c h.
             let i : c < length cs = omega arith in
-            rw (samples-at c i, block-at cs c i) (tabulate-length (samplesOf c f) (sampleBits f c));
-        bits = λ c n h.
-            let i : c < length cs = omega (arith, h .channel) in
-            let j : n < samplesOf c f = rw (block-at cs c i) at (h .number) in
-            rw (samples-at c i, width-at cs c i, tabulate-at (samplesOf c f) (sampleBits f c) n 0 j) (sample-bits f c n (g .octets));
+            samples-sized f c i ∙ sym (there-reported cs (f .sequences) (length (f .waveform)) c i);
+        bits = λ c n h m.
+            let i : c < length cs = omega arith in
+            let j : n < thereIn c f = rw (samples-sized f c i) at m in
+            rw (sample-at f c n i j, width-at cs c i) (sample-bits f c n (g .octets));
       }
 
 all-recorded : (s : List ℕ) (fs : List Frame) → Every (Lies s) fs → Every GoodFrame fs → AllRecorded (map recordedFrame fs)
@@ -151,3 +185,7 @@ module _ (s : List ℕ) (octets : Octets s) (fs : List Frame) (e : verdict s ≡
   unfolding recording
   accepted-recorded =
       all-recorded s fs (every-lies s fs e) (every-good s octets fs e)
+
+-- Samples have octets.
+pub accepted-wide : (s : List ℕ) (fs : List Frame) → verdict s ≡ accepted fs → Every (λ f. Wide (f .channels)) fs
+accepted-wide s fs e = every-imp (Lies s) (λ f. Wide (f .channels)) (λ f l. l .wide) fs (every-lies s fs e)

@@ -1,6 +1,6 @@
 -- The octets of a recorded frame, read.
 --     groups-led      the groups make the channels' records
---     frame-taken     its waveform passes the tests 11 to 14
+--     frame-taken     its waveform passes the tests 11 to 13
 --     waveform-led    the waveform makes the frame
 --     opening-led, closing-led    what stands ahead of the groups, and what follows them
 --     frame-led       the octets of a frame lead to one frame more, which is the recorded one
@@ -10,7 +10,7 @@ use mathlib.Core.Path.{_≡_, refl, sym, _∙_, ap}
 use mathlib.Core.List.{List, [], _∷_, _++_, append-assoc}
 use mathlib.Core.Bool.{true, false}
 use native.Mathlib.Omega.{arith}
-use borrow.Author.Tests.{le-ltb, ne-eqb}
+use borrow.Author.Tests.{ne-eqb}
 use lib.Dec.{eqb}
 use lib.IntN.{ℤ}
 use lib.ListN.{length, set, take, drop, length-set}
@@ -23,6 +23,7 @@ use Rattle.settings.specs.declared.Settings.{Settings}
 use Rattle.settings.specs.Settings.{channelLimit, defaultTable}
 use Rattle.definitions.specs.Define.{tagged}
 use Rattle.layout.specs.Frame.{Frame, sequenceOctets, allAgree}
+use Rattle.there.proofs.Places.{there-declared}
 use Rattle.standing.specs.declared.Standing.{Standing}
 use Rattle.framing.specs.declared.Framed.the-variants.{Taken}
 use Rattle.standing.specs.Standing.{octetsLimit, framesLimit, withContinued}
@@ -30,17 +31,16 @@ use Rattle.effects.specs.Effects.{rootEffect}
 use Rattle.framing.specs.Framing.{channelsOf, pointerAfter, framedAs}
 use Rattle.verdict.specs.Verdict.{State, state, goes, frameChannels, withFrame, carried}
 use Rattle.framing.proofs.Framings.{pointer-small, framed-taken}
-use Rattle.groups.proofs.Sizes.{length-item}
 use Rattle.canonical.specs.Recording.{Recorded}
 use Rattle.groups.specs.Item.{itemOctets, numberItem, unsignedOf}
 use Rattle.groups.specs.Head.{sequencesItem, headItems}
 use Rattle.groups.specs.Group.{groupOctets, groupsOctets}
 use Rattle.canonical.specs.Canonical.{waveformOf, frameOctets}
 use Rattle.canonical.proofs.Good.{AllReported, GoodRecorded}
-use Rattle.canonical.proofs.Known.{usual, group, startAt, value-known, part-inside}
+use Rattle.canonical.proofs.Known.{usual, group, startAt, value-known}
 use Rattle.canonical.proofs.Steps.{Led, led-then, plain-led, group-led, definitionsOctets}
 use Rattle.canonical.proofs.Effects.{definitions, item-picked, items-are, changes-are, define-all, standing, count-is, sequences-is, start-is}
-use Rattle.canonical.proofs.Recordings.{frameOf, all-agree, sequence-some, sequences-back, waveform-long}
+use Rattle.canonical.proofs.Recordings.{frameOf, all-agree, sequences-back, waveform-long}
 
 group-octets-are : (k : ℕ) (c : Settings) → groupOctets k c ≡ group k (definitionsOctets (definitions c))
 unfolding groupOctets
@@ -116,15 +116,14 @@ module _ (s : List ℕ) (short : length s ≤ octetsLimit) (fs : List Frame) whe
           let none : length (r .channels) ≡ 0 → ⊥ = λ z. omega (arith, good .some) in
           rw (ne-eqb (length (r .channels)) 0 none) known
 
-      -- The tests 11 to 14 pass.
-      frame-taken : length (waveformOf r) ≤ octetsLimit → framedAs (length fs) (standingAt r continued) (allAgree (r .channels)) (sequenceOctets (r .channels)) (length (waveformOf r)) ≡ Taken (r .sequences) (standingBehind r continued)
-      frame-taken long =
+      -- The tests 11 to 13 pass.
+      frame-taken : framedAs (length fs) (standingAt r continued) (allAgree (r .channels)) (sequenceOctets (r .channels)) (length (waveformOf r)) ≡ Taken (r .sequences) (standingBehind r continued)
+      frame-taken =
           let octets = sequenceOctets (r .channels) in
-          let some = sequence-some (r .channels) (good .channels) (good .some) in
-          let enough = le-ltb (r .sequences * octets) (r .sequences * octets) (omega arith) in
+          let inside : length (waveformOf r) ≤ r .sequences * octets = omega (arith, waveform-long r good, there-declared (r .channels) (r .sequences) (good .long)) in
           rw (all-agree (r .channels) (good .channels))
           (sym (framed-taken (length fs) (standingAt r continued) true octets (length (waveformOf r)) few refl (good .start)
-          (r .sequences) (rw waveform-long (sequences-back (r .sequences) octets)) (rw waveform-long enough)))
+          (r .sequences) (sequences-back (r .sequences) (length (waveformOf r)) octets inside)))
 
       waveform-led : (at : ℕ) (post : List ℕ) → drop at s ≡ itemOctets 0x1E (waveformOf r) ++ post → Led s (state (standingAt r continued) table fs) (cursor at Root) (state (standingBehind r continued) table (fs ++ (frameOf r (startAt at (length (waveformOf r))) ∷ []))) post
       unfolding usual tagged rootEffect carried withFrame
@@ -134,8 +133,7 @@ module _ (s : List ℕ) (short : length s ≤ octetsLimit) (fs : List Frame) whe
           let x = state (standingAt r continued) table fs in
           let behind = standingBehind r continued in
           let waveform = value-known s short at 0x1E v post e in
-          let taken = frame-taken (omega (arith, part-inside s at (itemOctets 0x1E v) post e, length-item 0x1E v)) in
-          let framed : framedAs (length fs) (x .standing) (allAgree (frameChannels x)) (sequenceOctets (frameChannels x)) (length v) ≡ Taken (r .sequences) behind = rw channels-known taken in
+          let framed : framedAs (length fs) (x .standing) (allAgree (frameChannels x)) (sequenceOctets (frameChannels x)) (length v) ≡ Taken (r .sequences) behind = rw channels-known frame-taken in
           plain-led s short x (state behind table (fs ++ (frameOf r place ∷ []))) at 0x1E v post e refl refl
           (ap (withFrame s x place (length v)) framed ∙ λ i. goes (state behind table (fs ++ (recordedAt r place (channels-known i) (waveform i) ∷ []))))
 

@@ -31,6 +31,7 @@ use Rattle.canonical.specs.Recording.{recording}
 use Rattle.canonical.specs.Canonical.{canonical}
 use Rattle.canonical.specs.Write.{framesIn, canonicalOf, writtenSays, outputIn, outputLength, writtenOf, canonicalLengthOf, leftOf, Ready, Wrote}
 use Rattle.canonical.proofs.Written.{the-type}
+use Rattle.canonical.proofs.Accepted.{accepted-wide}
 use Rattle.canonical.proofs.Octets.{canonical-long, canonical-none}
 use Rattle.canonical.proofs.Room.{TooLong, writes, output-fits, output-short}
 
@@ -84,7 +85,7 @@ module _ (s : List ℕ) (q : Asked) (r : Scan) (e : r ≡ scanOf q s) where
 
     module _ (some : n ≡ 0 → ⊥) where
       long-is : length (canonical (recording (framesIn (verdict s)))) ≡ r .size + 3
-      long-is = canonical-long (framesIn (verdict s)) (λ z. some (taken-is .1 ∙ z)) ∙ omega (arith, taken-is .2)
+      long-is = canonical-long (framesIn (verdict s)) (accepted-wide s (framesIn (verdict s)) (taken-is .0)) (λ z. some (taken-is .1 ∙ z)) ∙ omega (arith, taken-is .2)
 
       -- It is longer than a file may be.
       pub sized-long : octetsLimit < r .size + 3 → refusedAs noRoom 0 ≡ canonicalLengthOf s
@@ -200,7 +201,7 @@ module _ {s d : List ℕ} (octets : Octets s) where
           let m = measured-by e b in
           let frames = framesIn (verdict s) in
           let none : length frames ≡ 0 → ⊥ = λ z. some (sym (m .long) ∙ ap length (canonical-none frames z)) in
-          record { is = m .is; some = none; room = omega (arith, canonical-long frames none, m .long) }
+          record { is = m .is; some = none; room = omega (arith, canonical-long frames (accepted-wide s frames (m .is)) none, m .long) }
 
       -- It fits, and is written.
       pub written-whole : {k : ℕ} {f : List ℕ} → Put d 0 (canonicalOf s) k f → Wrote s d (answered k) f

@@ -1,9 +1,10 @@
 -- The octets of a canonical file, as a writer puts them: the samples as runs of the file's octets, and how many octets there are.
 --     be-little       octets that stand lowest first, written highest first
---     waveform-big, waveform-little    a waveform's samples: as they stand, or each turned about
+--     waveform-octets    how many octets a frame's samples there take
+--     waveform-big, waveform-little    these samples: as they stand, or each turned about
 --     frame-long, frames-long, canonical-long, canonical-none    frames and the file
 -- Assumes nothing.
-use Prim.Native.Nat.{ℕ, zero, suc, _+_, _*_, _/_, _%_, _<_}
+use Prim.Native.Nat.{ℕ, zero, suc, _+_, _*_, _/_, _%_, _<_, min}
 use mathlib.Core.Path.{_≡_, refl, sym, ap, _∙_}
 use mathlib.Core.List.{List, [], _∷_, map, reverse, reverseAux-eq}
 use mathlib.Core.Bool.{Bool, true, false}
@@ -15,21 +16,20 @@ use Rattle.octets.proofs.Laws.{take-octets, drop-octets}
 use Rattle.stores.specs.Number.{be}
 use Rattle.stores.proofs.Number.{octets-back}
 use Rattle.settings.specs.declared.Settings.{Settings}
-use Rattle.settings.specs.Settings.{zeroSettings}
-use Rattle.layout.specs.Frame.{Frame, widthIn, blockOctets, sequenceOctets, channelIn, samplesOf, offsetOf, reported, samplesOctets, octetsSampled}
+use Rattle.layout.specs.Frame.{Frame, widthIn, channelIn, offsetOf, reported}
 use Rattle.sizes.specs.Size.{frameSize}
-use Rattle.laid.specs.Laid.{Named, sequence, laidFrom, laid, sampleOctets, sampleBits}
-use Rattle.laid.specs.Turned.{turnedAll}
-use Rattle.laid.proofs.Places.{offset-inside}
-use Rattle.laid.proofs.Laid.{laid-same, laid-self}
-use Rattle.laid.proofs.Turned.{laid-turned}
+use Rattle.laid.specs.Laid.{sequence, laidFrom, laid, sampleOctets, sampleBits}
+use Rattle.laid.proofs.Laid.{laid-same}
+use Rattle.there.specs.There.{thereIn, octetsThere, Wide, There}
+use Rattle.there.specs.Turned.{turnedThere}
+use Rattle.there.proofs.Places.{there-counted}
 use Rattle.pass.specs.Scan.{sizeOf, sizes}
-use Rattle.reader.proofs.Ordered.{Lies}
-use Rattle.canonical.specs.Recording.{tabulate, recordedFrame, recording}
-use Rattle.canonical.specs.Canonical.{waveformOf, frameOctets, framesOctets, canonical}
+use Rattle.verdict.proofs.Every.{Every}
+use Rattle.canonical.specs.Recording.{recordedFrame, recording}
+use Rattle.canonical.specs.Canonical.{octetsIn, longest, waveformOf, frameOctets, framesOctets, canonical}
 use Rattle.groups.proofs.Sizes.{length-item, head-long, groups-long}
-use Rattle.canonical.proofs.Recordings.{waveform-long}
-use Rattle.canonical.proofs.Accepted.{tabulate-at, map-at}
+use Rattle.canonical.proofs.Waveform.{laidThere, there-big, there-little, there-length}
+use Rattle.canonical.proofs.Accepted.{width-at, samples-sized, sample-at}
 
 -- ---- the octets of a number
 
@@ -59,14 +59,6 @@ laid-reported : (g : ℕ → ℕ → List ℕ) (cs : List Settings) (S : ℕ) �
 unfolding laid
 laid-reported g cs S = laid-from-reported g cs 0 S
 
-octets-reported : (cs : List Settings) → sequenceOctets (map reported cs) ≡ sequenceOctets cs
-unfolding sequenceOctets blockOctets reported
-octets-reported [] = refl
-octets-reported (c ∷ cs) = rw (octets-reported cs)
-
-pub sampled-reported : (f : Frame) → samplesOctets (map reported (f .channels)) (f .sequences) ≡ octetsSampled f
-sampled-reported f = ap (λ (n : ℕ). f .sequences * n) (octets-reported (f .channels))
-
 -- ---- a waveform
 
 -- Octets as they stand, or turned about where they stand lowest first.
@@ -78,53 +70,70 @@ unfolding numberOf
 number-written true w v e o = rw (← e) (be-little v o)
 number-written false w v e o = rw (← e) (octets-back v o)
 
-module _ (s : List ℕ) (f : Frame) (l : Lies s f) (octets : Octets (f .waveform)) where
-  sample-octets : (c n : ℕ) → Octets (sampleOctets (f .channels) (f .waveform) c n)
-  sample-octets c n =
-      let o = offsetOf (f .channels) c n in
-      take-octets (widthIn (channelIn c (f .channels))) (drop o (f .waveform)) (drop-octets o (f .waveform) octets)
+module _ (f : Frame) (wide : Wide (f .channels)) where
+  abbrev cs : List Settings
+  cs = f .channels
 
-  sample-long : (c n : ℕ) → Named (f .channels) (f .sequences) c n → length (sampleOctets (f .channels) (f .waveform) c n) ≡ widthIn (channelIn c (f .channels))
-  sample-long c n h = simp (length-take, length-drop) (omega (arith, offset-inside h, l .fits))
+  abbrev samples : List (List ℕ)
+  samples = recordedFrame f .samples
 
-  -- A sample's octets in the canonical file are those of the waveform, highest first.
-  sample-written : (c n : ℕ) → Named (f .channels) (f .sequences) c n → be (widthIn (channelIn c (map reported (f .channels)))) (getD (getD (recordedFrame f .samples) c []) n 0) ≡ highestFirst (f .little) (sampleOctets (f .channels) (f .waveform) c n)
-  unfolding recordedFrame samplesOf reported sampleBits
-  sample-written c n h =
-      rw (
-        map-at reported (f .channels) c zeroSettings zeroSettings (h .channel),
-        tabulate-at (length (f .channels)) (λ k. tabulate (samplesOf k f) (sampleBits f k)) c [] (h .channel),
-        tabulate-at (samplesOf c f) (sampleBits f c) n 0 (h .number),
-      )
-      (number-written (f .little) _ (sampleOctets (f .channels) (f .waveform) c n) (sample-long c n h) (sample-octets c n))
+  -- A sample has the same octets by the frame's channels.
+  octets-same : (c n : ℕ) → c < length cs → octetsIn (map reported cs) samples c n ≡ octetsIn cs samples c n
+  unfolding octetsIn
+  octets-same c n h = rw (width-at cs c h)
 
-  waveform-written : waveformOf (recordedFrame f) ≡ laid (λ c n. highestFirst (f .little) (sampleOctets (f .channels) (f .waveform) c n)) (f .channels) (f .sequences)
+  waveform-there : waveformOf (recordedFrame f) ≡ laidThere cs (f .sequences) samples
   unfolding waveformOf recordedFrame
-  waveform-written = laid-reported _ (f .channels) (f .sequences) ∙ laid-same _ _ (f .channels) (f .sequences) sample-written
+  waveform-there =
+      let m = min (f .sequences) (longest samples) in
+      laid-reported (octetsIn (map reported cs) samples) cs m ∙ laid-same _ _ cs m (λ c n h. octets-same c n (h .channel))
 
-  pub waveform-big : f .little ≡ false → waveformOf (recordedFrame f) ≡ take (octetsSampled f) (f .waveform)
-  waveform-big e = waveform-written ∙ rw e (laid-self (f .channels) (f .sequences) (f .waveform))
+  pub waveform-octets : length (waveformOf (recordedFrame f)) ≡ octetsThere f
+  unfolding octetsThere
+  waveform-octets = ap length waveform-there ∙ there-length cs wide (f .sequences) (length (f .waveform)) samples (samples-sized f)
 
-  pub waveform-little : f .little ≡ true → waveformOf (recordedFrame f) ≡ turnedAll (f .channels) (f .sequences) (f .waveform)
-  waveform-little e = waveform-written ∙ rw e (laid-turned (f .channels) (f .sequences) (f .waveform))
+  module _ (octets : Octets (f .waveform)) where
+    -- A sample's octets in the canonical file are those of the waveform, highest first.
+    sample-written : (c n : ℕ) → There cs (f .sequences) (length (f .waveform)) c n → be (widthIn (channelIn c cs)) (getD (getD samples c []) n 0) ≡ highestFirst (f .little) (sampleOctets cs (f .waveform) c n)
+    unfolding sampleBits thereIn
+    sample-written c n h =
+        let w = widthIn (channelIn c cs) in
+        let o = offsetOf cs c n in
+        let v = sampleOctets cs (f .waveform) c n in
+        let long : length v ≡ w = simp (length-take, length-drop) (omega (arith, h .inside)) in
+        let there = there-counted (h .named) (wide c (h .named .channel)) .0 (h .inside) in
+        ap (be w) (sample-at f c n (h .named .channel) there)
+        ∙ number-written (f .little) w v long (take-octets w (drop o (f .waveform)) (drop-octets o (f .waveform) octets))
+
+    pub waveform-big : f .little ≡ false → waveformOf (recordedFrame f) ≡ take (octetsThere f) (f .waveform)
+    unfolding octetsThere
+    waveform-big e =
+        waveform-there
+        ∙ there-big cs wide (f .sequences) (length (f .waveform)) samples (samples-sized f) (f .waveform)
+        (λ c n h. sample-written c n h ∙ ap (λ (b : Bool). highestFirst b (sampleOctets cs (f .waveform) c n)) e)
+
+    pub waveform-little : f .little ≡ true → waveformOf (recordedFrame f) ≡ turnedThere cs (octetsThere f) (f .waveform)
+    unfolding octetsThere
+    waveform-little e =
+        waveform-there
+        ∙ there-little cs wide (f .sequences) (length (f .waveform)) samples (samples-sized f) (f .waveform)
+        (λ c n h. sample-written c n h ∙ ap (λ (b : Bool). highestFirst b (sampleOctets cs (f .waveform) c n)) e)
 
 -- ---- how many octets
 
-pub frame-long : (f : Frame) → length (frameOctets (recordedFrame f)) ≡ sizeOf f
+pub frame-long : (f : Frame) → Wide (f .channels) → length (frameOctets (recordedFrame f)) ≡ sizeOf f
 unfolding frameOctets recordedFrame sizeOf frameSize
-frame-long f =
-    let waveform : length (waveformOf (recordedFrame f)) ≡ octetsSampled f = waveform-long (recordedFrame f) ∙ sampled-reported f in
-    simp (length-append, head-long, groups-long, length-item, waveform) (omega arith)
+frame-long f wide = simp (length-append, head-long, groups-long, length-item, waveform-octets f wide) (omega arith)
 
-pub frames-long : (fs : List Frame) → length (framesOctets (recording fs)) ≡ sizes fs
+pub frames-long : (fs : List Frame) → Every (λ f. Wide (f .channels)) fs → length (framesOctets (recording fs)) ≡ sizes fs
 unfolding framesOctets recording sizes
-frames-long [] = refl
-frames-long (f ∷ fs) = rw (length-append, frame-long, frames-long fs)
+frames-long [] w = refl
+frames-long (f ∷ fs) w = rw (length-append, frame-long f (w .0), frames-long fs (w .1))
 
-pub canonical-long : (fs : List Frame) → (length fs ≡ 0 → ⊥) → length (canonical (recording fs)) ≡ 3 + sizes fs
+pub canonical-long : (fs : List Frame) → Every (λ f. Wide (f .channels)) fs → (length fs ≡ 0 → ⊥) → length (canonical (recording fs)) ≡ 3 + sizes fs
 unfolding canonical recording
-canonical-long [] h = absurd (h refl)
-canonical-long (f ∷ fs) h = omega (arith, frames-long (f ∷ fs))
+canonical-long [] w h = absurd (h refl)
+canonical-long (f ∷ fs) w h = omega (arith, frames-long (f ∷ fs) w)
 
 pub canonical-none : (fs : List Frame) → length fs ≡ 0 → canonical (recording fs) ≡ []
 unfolding canonical recording

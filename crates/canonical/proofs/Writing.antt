@@ -14,7 +14,7 @@ use native.Mathlib.Omega.{arith}
 use types.Run.{OneOf, miss}
 use denote.Enum.Declared.{tagOf}
 use lib.ListN.{length, getD, take, drop, length-append, length-map}
-use lib.Seq.{getD-append-seam}
+use lib.Seq.{getD-append-seam, take-append-seam}
 use lib.IntN.{ℤ}
 use lib.Signed.{mag}
 use mir.Syntax.{w32, w64}
@@ -24,17 +24,19 @@ use Rattle.octets.specs.Number.{Octets}
 use Rattle.octets.proofs.Laws.{take-octets, drop-octets}
 use Rattle.heads.specs.declared.Refusal.{Refusal}
 use Rattle.items.specs.Walk.{cursor}
-use Rattle.stores.specs.Length.{shortest}
 use Rattle.stores.specs.Storing.{Put, Putting, put-fits}
 use Rattle.stores.proofs.Stores.{put-then, put-long}
 use Rattle.settings.specs.declared.Settings.{Settings}
 use Rattle.settings.specs.Settings.{channelLimit}
-use Rattle.layout.specs.Frame.{Frame, samplesOctets, reported}
+use Rattle.layout.specs.Frame.{Frame, reported}
+use Rattle.there.specs.There.{octetsThere, Wide}
+use Rattle.there.proofs.Places.{there-le}
 use Rattle.sizes.specs.Size.{frameSize}
 use Rattle.layout.specs.Measure.{groupsSize}
 use Rattle.standing.specs.Standing.{octetsLimit}
 use Rattle.effects.specs.Effects.{valueAt}
 use Rattle.verdict.specs.Verdict.{accepted, refused, verdict}
+use Rattle.verdict.proofs.Every.{Every, every-take}
 use Rattle.pass.specs.Scan.{zeroFrame, sizeOf, sizes}
 use Rattle.framing.proofs.Framings.{pointer-small}
 use Rattle.dated.specs.Dated.{held}
@@ -55,32 +57,31 @@ use Rattle.frames.specs.Parts.{samplesTurned, waveformHead, frameParts, frameGi
 use Rattle.frames.proofs.Given.{frame-put}
 use Rattle.canonical.specs.Recording.{Recorded, recordedFrame, recording}
 use Rattle.canonical.specs.Canonical.{waveformOf, frameOctets, framesOctets, canonical}
-use Rattle.canonical.specs.Write.{framesIn, canonicalOf, fits, Ready}
-use Rattle.canonical.proofs.Octets.{waveform-big, waveform-little, frames-long, sampled-reported}
-use Rattle.canonical.proofs.Recordings.{waveform-long}
+use Rattle.canonical.specs.Write.{framesIn, canonicalOf, Ready}
+use Rattle.canonical.proofs.Accepted.{accepted-wide}
+use Rattle.canonical.proofs.Octets.{waveform-big, waveform-little, frames-long}
 
 -- ---- a frame's octets, in the parts in which it is written
 
 recorded-is : (r : Recorded)
-    → frameOctets r ≡ ((headItems (length (r .channels)) (r .sequences) (r .start) ++ groupsOctets 0 (r .channels)) ++ waveformHead (samplesOctets (r .channels) (r .sequences))) ++ waveformOf r
+    → frameOctets r ≡ ((headItems (length (r .channels)) (r .sequences) (r .start) ++ groupsOctets 0 (r .channels)) ++ waveformHead (length (waveformOf r))) ++ waveformOf r
 unfolding frameOctets itemOctets
-recorded-is r =
-    let l : shortest (length (waveformOf r)) ≡ shortest (samplesOctets (r .channels) (r .sequences)) = ap shortest (waveform-long r) in
-    rw l (simp append-assoc)
+recorded-is r = simp append-assoc
 
 pub frame-is : (f : Frame) → frameOctets (recordedFrame f) ≡ frameParts (f .start) (f .sequences) (f .channels) (waveformOf (recordedFrame f))
 unfolding recordedFrame
 frame-is f =
+    let v = waveformOf (recordedFrame f) in
     recorded-is (recordedFrame f)
-    ∙ (λ i. ((headItems (length-map (f .channels) reported i) (f .sequences) (f .start) ++ groupsOctets 0 (map reported (f .channels))) ++ waveformHead (sampled-reported f i)) ++ waveformOf (recordedFrame f))
+    ∙ (λ i. ((headItems (length-map (f .channels) reported i) (f .sequences) (f .start) ++ groupsOctets 0 (map reported (f .channels))) ++ waveformHead (length v)) ++ v)
 
 -- The samples of a frame, as they are written.
-pub samples-are : (s : List ℕ) (f : Frame) → Lies s f → Octets (f .waveform) → samplesTurned (f .little) (f .channels) (f .sequences) (f .waveform) ≡ waveformOf (recordedFrame f)
-samples-are s f l o = by (f .little) refl
+pub samples-are : (f : Frame) → Wide (f .channels) → Octets (f .waveform) → samplesTurned (f .little) (f .channels) (octetsThere f) (f .waveform) ≡ waveformOf (recordedFrame f)
+samples-are f wide o = by (f .little) refl
   where
-    by : (b : Bool) → f .little ≡ b → samplesTurned (f .little) (f .channels) (f .sequences) (f .waveform) ≡ waveformOf (recordedFrame f)
-    by false e = ap (λ (b : Bool). samplesTurned b (f .channels) (f .sequences) (f .waveform)) e ∙ sym (waveform-big s f l o e)
-    by true e = ap (λ (b : Bool). samplesTurned b (f .channels) (f .sequences) (f .waveform)) e ∙ sym (waveform-little s f l o e)
+    by : (b : Bool) → f .little ≡ b → samplesTurned (f .little) (f .channels) (octetsThere f) (f .waveform) ≡ waveformOf (recordedFrame f)
+    by false e = ap (λ (b : Bool). samplesTurned b (f .channels) (octetsThere f) (f .waveform)) e ∙ sym (waveform-big f wide o e)
+    by true e = ap (λ (b : Bool). samplesTurned b (f .channels) (octetsThere f) (f .waveform)) e ∙ sym (waveform-little f wide o e)
 
 -- A start pointer within 32 bits, as it is handed on.
 abbrev pub readWide : ℤ → ℤ
@@ -221,25 +222,32 @@ module _ {s d : List ℕ} {x : Stand} {at : ℕ} {e : List ℕ} (p : Writing s d
     abbrev channels : List Settings
     channels = frame-there .channels
 
+    -- Samples of the frames met have octets.
+    met-wide : Every (λ f. Wide (f .channels)) (p .met)
+    met-wide =
+        let n = length (p .met) in
+        subst (Every (λ f. Wide (f .channels))) (ap (take n) split ∙ take-append-seam (p .met) (frame-there ∷ (grown .0))) (every-take (λ f. Wide (f .channels)) n all (accepted-wide s all (p .is)))
+
     -- Where the frame is written it fits.
-    frame-room : at + frameSize (v .sequences) (groupsSize 0 channels) (samplesOctets channels (v .sequences)) ≤ length e
+    frame-room : at + frameSize (v .sequences) (groupsSize 0 channels) (octetsThere frame-there) ≤ length e
     unfolding sizeOf
     frame-room =
-        let g : frameSize (v .sequences) (groupsSize 0 channels) (samplesOctets channels (v .sequences)) ≡ sizeOf frame-there = refl in
-        omega (arith, p .room, sized, put-long (p .put), p .put .next, frames-long (p .met))
+        let g : frameSize (v .sequences) (groupsSize 0 channels) (octetsThere frame-there) ≡ sizeOf frame-there = refl in
+        omega (arith, p .room, sized, put-long (p .put), p .put .next, frames-long (p .met) met-wide)
 
     -- The frame written.
     pub writing-frame : {w : List ℕ} {at' : ℕ} {e' : List ℕ} → Octets s → w ≡ valueAt s (v .place) (v .len)
         → Putting e at (frameGiven (narrowed (v .start)) (v .little) (v .sequences) (take (min (v .channels) channelLimit) (held (y .records))) w) at' e' → Writing s d y at' e'
+    unfolding octetsThere
     writing-frame {w} {at'} {e'} o ew q =
         let full = held-long (y .records) ∙ after .full in
-        let q' = subst (λ (cs : List Settings). Putting e at (frameGiven (narrowed (v .start)) (v .little) (v .sequences) cs w) at' e') (take-few (v .channels) (held (y .records)) full) q in
-        let l : length w ≡ length (frame-there .waveform) = ap length ew in
-        let inside : samplesOctets channels (v .sequences) ≤ length w = omega (arith, lies .fits) in
-        let few : samplesOctets channels (v .sequences) ≤ octetsLimit = omega (arith, lies .fits, lies .inside, after .long) in
-        let parts : frameParts (narrowed (v .start)) (v .sequences) channels (samplesTurned (v .little) channels (v .sequences) w) ≡ frameOctets (recordedFrame frame-there) =
-        (λ i. frameParts (narrow-is (v .start) start-small i) (v .sequences) channels (samplesTurned (v .little) channels (v .sequences) (ew i)))
-        ∙ ap (frameParts (v .start) (v .sequences) channels) (samples-are s frame-there lies (take-octets (v .len) (drop (v .place) s) (drop-octets (v .place) s o)))
+        let x = valueAt s (v .place) (v .len) in
+        let given : (u : List ℕ) → List Settings → List ℕ = λ u cs. frameGiven (narrowed (v .start)) (v .little) (v .sequences) cs u in
+        let q' = subst (λ (u : List ℕ). Putting e at u at' e') (λ i. given (ew i) (take-few (v .channels) (held (y .records)) full i)) q in
+        let few : octetsThere frame-there ≤ octetsLimit = omega (arith, there-le channels (v .sequences) (length x), lies .inside, after .long) in
+        let parts : frameParts (narrowed (v .start)) (v .sequences) channels (samplesTurned (v .little) channels (octetsThere frame-there) x) ≡ frameOctets (recordedFrame frame-there) =
+        ap (λ (z : ℤ). frameParts z (v .sequences) channels (samplesTurned (v .little) channels (octetsThere frame-there) x)) (narrow-is (v .start) start-small)
+        ∙ ap (frameParts (v .start) (v .sequences) channels) (samples-are frame-there (lies .wide) (take-octets (v .len) (drop (v .place) s) (drop-octets (v .place) s o)))
         ∙ sym (frame-is frame-there) in
         record {
           is = p .is;
@@ -247,5 +255,5 @@ module _ {s d : List ℕ} {x : Stand} {at : ℕ} {e : List ℕ} (p : Writing s d
           room = p .room;
           met = p .met ++ (frame-there ∷ []);
           reaches = after;
-          put = put-as (so-far-more (p .met) frame-there) (put-then (p .put) (put-as parts (frame-put (narrowed (v .start)) (v .little) (v .sequences) channels w inside few frame-room q')));
+          put = put-as (so-far-more (p .met) frame-there) (put-then (p .put) (put-as parts (frame-put (narrowed (v .start)) (v .little) (v .sequences) channels x few frame-room q')));
         }

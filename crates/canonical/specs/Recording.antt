@@ -4,11 +4,12 @@ use Prim.Native.Nat.{ℕ, zero, suc}
 use lib.IntN.{ℤ}
 use lib.ListN.{length}
 use Rattle.settings.specs.declared.Settings.{Settings}
-use Rattle.layout.specs.Frame.{Frame, samplesOf, reported}
+use Rattle.layout.specs.Frame.{Frame, reported}
 use Rattle.laid.specs.Laid.{sampleBits}
+use Rattle.there.specs.There.{thereIn}
 
 -- A frame of a recording: start pointer and sequences; the channels' attributes, as many as the channel count; and for each channel the bits
--- of its samples by number.
+-- of its samples that are there, by number: the others are declared and lacking.
 pub record Recorded : Type 0 where
   pub start : ℤ
   pub sequences : ℕ
@@ -27,7 +28,7 @@ recordedFrame f =
       start = f .start;
       sequences = f .sequences;
       channels = map reported (f .channels);
-      samples = tabulate (length (f .channels)) (λ channel. tabulate (samplesOf channel f) (sampleBits f channel));
+      samples = tabulate (length (f .channels)) (λ channel. tabulate (thereIn channel f) (sampleBits f channel));
     }
 
 -- A recording is the list of frames.

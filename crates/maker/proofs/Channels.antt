@@ -5,7 +5,7 @@
 --     scale-at                 a scale of a row, by its place
 --     row-there                one of the rows that there are
 --     all-fit, one-outside, fit-at    every row in the table, and one that is not
---     made-long, made-at       the channels of the rows
+--     made-long, made-at, made-wide    the channels of the rows
 --     octets-few               their sequences have few octets
 --     Measuring, measuring-..  the loop over the rows
 -- Assumes nothing.
@@ -25,7 +25,7 @@ use Rattle.octets.specs.Pick.{both}
 use Rattle.octets.specs.Number.{lowOf}
 use Rattle.octets.proofs.Pick.{both-split, both-false}
 use Rattle.octets.proofs.Laws.{range-pos}
-use Rattle.values.proofs.Laws.{width-le}
+use Rattle.values.proofs.Laws.{width-le, width-some}
 use Rattle.values.specs.declared.Bits.{Bits}
 use Rattle.settings.specs.declared.Scale.{Scale}
 use Rattle.settings.specs.declared.Settings.{Settings}
@@ -33,6 +33,7 @@ use Rattle.settings.specs.Settings.{blockLimit, lastDataType, lastIntervalUnit,
 use Rattle.layout.specs.declared.Layout.{Layout}
 use Rattle.layout.specs.Frame.{blockOctets, sequenceOctets}
 use Rattle.layout.specs.Measure.{layoutOf, noLayout, More}
+use Rattle.there.specs.There.{Wide}
 use Rattle.layout.proofs.Laws.{Summing, summing-start, summing-more, summed-up}
 use Rattle.canonical.specs.Recording.{tabulate}
 use Rattle.canonical.proofs.Accepted.{tabulate-length, tabulate-at, map-at}
@@ -177,6 +178,15 @@ module _ (n : ℕ) (numbers : List ℤ) (bits : List ℕ) where
   made-at i h =
       map-at settingsMade (givensIn n numbers bits) i (givenAt numbers bits 0) zeroSettings (omega (arith, tabulate-length n (givenAt numbers bits)))
       ∙ ap settingsMade (tabulate-at n (givenAt numbers bits) i (givenAt numbers bits 0) h)
+
+-- Samples have octets.
+pub made-wide : (n : ℕ) (numbers : List ℤ) (bits : List ℕ) → allInTable (givensIn n numbers bits) ≡ true → Wide (channelsMade n numbers bits)
+unfolding settingsMade
+made-wide n numbers bits e c h =
+    let i : c < n = rw (made-long n numbers bits) at h in
+    let row = row-split (givenAt numbers bits c) (fit-at n (givenAt numbers bits) e c i) in
+    let datatype = numbers-split (givenAt numbers bits c) (row .numbers) .datatype in
+    rw (made-at n numbers bits c i) (width-some (naturalOf (givenAt numbers bits c .datatype)) datatype)
 
 -- A row of the table has a block of few octets.
 pub block-few : (g : Given) → inTable g ≡ true → blockOctets (settingsMade g) ≤ blockLimit * 8

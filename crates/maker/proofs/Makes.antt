@@ -4,6 +4,7 @@
 --     setting-refused, samples-refused, room-refused, made-answered    the ways of the answer
 --     room-yes, room-short, room-limit    the test of the room
 --     made-lies                 the frame's samples lie in what is handed over
+--     made-wide, made-there     they have octets, and all are there
 --     made-waveform, made-parts, made-size    its octets, as they are written, and how many
 --     rows-are, measured-out, measured-in, Found, found    what is found on the way
 --     product-small, groups-small, samples-other, samples-same, size-is, samples-long-out, store-asked    what follows from it
@@ -31,7 +32,9 @@ use Rattle.stores.specs.Storing.{Put}
 use Rattle.stores.proofs.Stores.{sets-front}
 use Rattle.settings.specs.Settings.{channelLimit}
 use Rattle.layout.specs.declared.Layout.{Layout}
-use Rattle.layout.specs.Frame.{sequenceOctets, samplesOctets, octetsSampled}
+use Rattle.layout.specs.Frame.{sequenceOctets, samplesOctets}
+use Rattle.there.specs.There.{octetsThere, Wide}
+use Rattle.there.proofs.Places.{there-whole}
 use Rattle.sizes.specs.Size.{frameSize}
 use Rattle.layout.specs.Measure.{groupsSize, layoutOf}
 use Rattle.layout.proofs.Laws.{groups-few}
@@ -178,30 +181,38 @@ module _ (m : Making) (s : settingsFit m ≡ true) (f : samplesFit m ≡ true) w
   abbrev channels-long : length (channelsIn m) ≡ m .channels
   channels-long = channels.made-long (m .channels) (m .numbers) (m .bits)
 
+  made-wide : Wide (channelsIn m)
+  made-wide = channels.made-wide (m .channels) (m .numbers) (m .bits) (settings-split m s .1)
+
   pub made-lies : Lies (m .samples) (frameMade m)
   made-lies =
       record {
-        fits = omega (arith, samples-long);
         inside = omega arith;
         octets = sym (take-all (length (m .samples)) (m .samples) (omega arith));
         some = omega (arith, channels-long, own .some);
         few = omega (arith, channels-long, own .few);
+        wide = made-wide;
         pointer = own .pointer;
       }
+
+  -- All its samples are there.
+  made-there : octetsThere (frameMade m) ≡ length (m .samples)
+  unfolding octetsThere
+  made-there = there-whole (channelsIn m) (m .sequences) (length (m .samples)) (omega (arith, samples-long)) ∙ sym samples-long
 
   -- Its canonical waveform is the samples as they are handed over.
   pub made-waveform : Octets (m .samples) → waveformOf (recordMade m) ≡ m .samples
   unfolding recordMade
   made-waveform o =
-      waveform-big (m .samples) (frameMade m) made-lies o refl ∙ take-all (octetsSampled (frameMade m)) (m .samples) (omega (arith, samples-long))
+      waveform-big (frameMade m) made-wide o refl ∙ take-all (octetsThere (frameMade m)) (m .samples) (omega (arith, made-there))
 
   pub made-parts : Octets (m .samples) → frameParts (m .start) (m .sequences) (channelsIn m) (m .samples) ≡ frameOctets (recordMade m)
   unfolding recordMade
   made-parts o = sym (frame-is (frameMade m) ∙ ap (frameParts (m .start) (m .sequences) (channelsIn m)) (made-waveform o))
 
-pub made-size : (m : Making) → length (frameOctets (recordMade m)) ≡ frameSize (m .sequences) (groupsSize 0 (channelsIn m)) (samplesOctets (channelsIn m) (m .sequences))
-unfolding recordMade sizeOf
-made-size m = frame-long (frameMade m)
+  made-size : length (frameOctets (recordMade m)) ≡ frameSize (m .sequences) (groupsSize 0 (channelsIn m)) (length (m .samples))
+  unfolding recordMade sizeOf
+  made-size = frame-long (frameMade m) made-wide ∙ ap (frameSize (m .sequences) (groupsSize 0 (channelsIn m))) made-there
 
 -- ---- by what is found on the way
 
@@ -281,22 +292,22 @@ module _ {m : Making} {l : Layout} (p : Found m l) where
 
     -- The frame's length.
     pub size-is : {size : ℕ} → size ≡ frameSize (m .sequences) (l .groups) (length (m .samples)) → length (octets m) ≡ size
-    size-is q = made-size m ∙ sym (q ∙ (λ i. frameSize (m .sequences) (groups-are i) ((e ∙ sampled) i)))
+    size-is q = made-size m (p .fit) samples-same ∙ sym (q ∙ ap (λ (n : ℕ). frameSize (m .sequences) n (length (m .samples))) groups-are)
 
     -- The samples alone are longer than a file may be.
     pub samples-long-out : (room : ℕ) → octetsLimit < length (m .samples) → roomFits (length (octets m)) room ≡ false
     unfolding frameSize
-    samples-long-out room h = room-limit (length (octets m)) room (omega (arith, made-size m, e, sampled))
+    samples-long-out room h = room-limit (length (octets m)) room (omega (arith, made-size m (p .fit) samples-same))
 
 -- What is asked of `store_frame`.
 abbrev pub StoreAsked : Making → ℕ → Type 0
 StoreAsked m room =
-    (RowsFit (m .numbers) (m .bits) (m .channels) × (length (m .samples) ≡ samplesOctets (channelsIn m) (m .sequences)))
+    RowsFit (m .numbers) (m .bits) (m .channels)
     × ((length (m .samples) ≤ octetsLimit) × (frameSize (m .sequences) (groupsSize 0 (channelsIn m)) (length (m .samples)) ≤ room))
 
-pub store-asked : {m : Making} {l : Layout} {size : ℕ} → Found m l → length (m .samples) ≡ m .sequences * l .octets → length (m .samples) ≤ octetsLimit
+pub store-asked : {m : Making} {l : Layout} {size : ℕ} → Found m l → length (m .samples) ≤ octetsLimit
     → size ≡ frameSize (m .sequences) (l .groups) (length (m .samples)) → (room : ℕ) → size ≤ room → StoreAsked m room
-store-asked {m} p e k q room h = ((p .rows, e ∙ sampled p), (k, rw (← groups-are p) (rw q at h)))
+store-asked {m} p k q room h = (p .rows, (k, rw (← groups-are p) (rw q at h)))
 
 -- ---- the calls
 

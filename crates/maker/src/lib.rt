@@ -14,7 +14,7 @@ ghost use lib.ListN.{length};
 ghost use Rattle.stores.specs.Storing.{Put};
 ghost use Rattle.heads.specs.Answer.{refusedAs};
 ghost use Rattle.standing.specs.Standing.{octetsLimit};
-ghost use Rattle.layout.specs.Frame.{samplesOctets, reported};
+ghost use Rattle.layout.specs.Frame.{reported};
 ghost use Rattle.sizes.specs.Size.{frameSize};
 ghost use Rattle.layout.specs.Measure.{groupsSize};
 ghost use Rattle.groups.specs.Group.{groupsOctets};
@@ -82,7 +82,7 @@ fn store_frame(
     samples: &[u8],
     out: &mut [u8],
 ) -> usize
-    requires { ⌜ RowsFit (now numbers) (now bits) n × (length (now samples) ≡ samplesOctets (channelsMade n (now numbers) (now bits)) sequences) ⌝ }
+    requires { ⌜ RowsFit (now numbers) (now bits) n ⌝ }
     requires { ⌜ (length (now samples) ≤ octetsLimit) × (frameSize sequences (groupsSize 0 (channelsMade n (now numbers) (now bits))) (length (now samples)) ≤ length (now out)) ⌝ }
     ensures { λ r. ⌜ Put (now (out .entry)) 0 (frameParts start sequences (channelsMade n (now (numbers .entry)) (now (bits .entry))) (now (samples .entry))) r (now (out .exit)) ⌝ }
 {

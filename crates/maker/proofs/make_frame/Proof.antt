@@ -173,7 +173,7 @@ cast-store-frame-2 c = record { fits = omega (arith, laid-out (at-known c) .own 
 store-frame-requires : tie.Need-store-frame-requires
 store-frame-requires c κs =
     let at-else = c .before in
-    store-asked (laid-out (at-known at-else)) (at-samples at-else .if2 .left) (at-size at-else .before .before .if3 .left) (at-size at-else .frame-size .ensures .0) _ (at-else .if5 .left)
+    store-asked (laid-out (at-known at-else)) (at-size at-else .before .before .if3 .left) (at-size at-else .frame-size .ensures .0) _ (at-else .if5 .left)
 
 same-length : tie.Need-same-length
 same-length c = search needs

@@ -13,7 +13,7 @@ use Rattle.settings.specs.declared.Settings.{Settings}
 use mir.Facts.{toZ-ofZ}
 use lib.ListN.{length}
 use mathlib.Core.List.{List}
-use mathlib.Core.Path.{_≡_}
+use mathlib.Core.Path.{_≡_, refl}
 use borrow.Author.Needs.{needs}
 use Rattle.maker.proofs.store_frame.Statement.{statement}
 use Rattle.maker.proofs.store_frame.Tie as tie
@@ -40,7 +40,7 @@ put-rows-requires c κs =
     let at-start = at-put-head .before .before .before .before .before in
     let a = at-start .args in
     let pre = at-start .pre in
-    (pre .0 .0, groups-room (channels at-start) (a .sequences) (counted at-start) (pre .0 .1) (toZ-ofZ (at-start .fits .start)) (room at-start) (at-put-head .put-head .ensures))
+    (pre .0, groups-room (channels at-start) (a .sequences) (length (a .samples .now)) (counted at-start) (toZ-ofZ (at-start .fits .start)) (room at-start) (at-put-head .put-head .ensures))
 
 cast-open-waveform : tie.Need-cast-open-waveform
 cast-open-waveform c = search needs
@@ -64,10 +64,10 @@ returns c =
     let a = at-start .args in
     let start = toZ-ofZ (at-start .fits .start) in
     let all = take-all (length (a .samples .now)) (a .samples .now) (omega arith) in
-    let fits = samples-room (channels at-start) (a .sequences) (counted at-start) (at-start .pre .0 .1) start (room at-start) (at-put-head .put-head .ensures)
+    let fits = samples-room (channels at-start) (a .sequences) (length (a .samples .now)) (counted at-start) start (room at-start) (at-put-head .put-head .ensures)
     (at-put-rows .put-rows .ensures) (at-open .open-waveform .ensures) in
-    frame-stored (channels at-start) (a .sequences) (counted at-start) (at-start .pre .0 .1) start (room at-start) (at-put-head .put-head .ensures)
-    (at-put-rows .put-rows .ensures) (at-open .open-waveform .ensures)
+    frame-stored (channels at-start) (a .sequences) (length (a .samples .now)) (counted at-start) start (room at-start) (at-put-head .put-head .ensures)
+    (at-put-rows .put-rows .ensures) (at-open .open-waveform .ensures) refl
     (put-as all (put-fits (rw all fits) (at-copy .copy .ensures)))
 
 pub store-frame-spec : {M : Type 1} → statement M
