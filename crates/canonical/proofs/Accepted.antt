@@ -29,7 +29,8 @@ use Rattle.there.specs.There.{countThere, thereOf, thereIn, Wide}
 use Rattle.verdict.specs.Verdict.{accepted, verdict}
 use Rattle.verdict.proofs.Every.{Every, every-imp}
 use Rattle.reader.proofs.Ordered.{Lies, every-lies}
-use Rattle.reader.proofs.Good.{GoodSettings, GoodFrame, number-first, agree-every, every-good}
+use Rattle.reader.proofs.Good.{GoodSettings, GoodFrame, agree-every, every-good}
+use Rattle.verdict.proofs.Steps.{number-first}
 use Rattle.canonical.specs.Recording.{tabulate, recordedFrame, recording}
 use Rattle.canonical.proofs.Waveform.{SamplesSized}
 use Rattle.canonical.proofs.Good.{GoodReported, AllReported, GoodRecorded, AllRecorded}
