@@ -8,7 +8,7 @@ ghost use mathlib.Core.Path.{_≡_};
 ghost use Rattle.heads.specs.Answer.{mapAnswer, leftBy};
 ghost use Rattle.verdict.specs.Verdict.{checkOf};
 ghost use Rattle.reader.specs.Answer.{attributesOf, sampleOf};
-ghost use Rattle.bulk.specs.Samples.{readOf, valuesOf, kindsIn, wholesIn, countRead};
+ghost use Rattle.bulk.specs.Samples.{thereAt, readOf, valuesOf, kindsIn, wholesIn, countRead};
 ghost use Rattle.canonical.specs.Write.{canonicalLengthOf};
 ghost use Rattle.outputs.specs.Outputs.{outputs, countOut, attributesValues, attributesOut, sampleValues, sampleOut};
 ghost use Rattle.maker.specs.Make.{making};
@@ -43,8 +43,8 @@ pub extern "C" fn mfer_attributes(
     outputs::described_out(reader::describe(file, frame, channel), numbers, bits, place)
 }
 
-// A sample: its place in the file, its kind (0 whole, 1 status, 2 single, 3 double, 4 not-a-number, 5 null), its number where it is
-// whole, and its bits as the file has them.
+// A sample: its place in the file, its kind (0 whole, 1 status, 2 single, 3 double, 4 not-a-number, 5 null, 6 no data), its number where it is
+// whole, and its bits as the file has them. No data is the kind of a sample that is declared and not there: its place and its bits are 0.
 #[no_mangle]
 pub extern "C" fn mfer_sample(
     file: &[u8],
@@ -67,7 +67,21 @@ pub extern "C" fn mfer_sample(
     )
 }
 
-// The bits of a channel's samples from number `first` on, as the file has them, at the front of `out`: as many as fit or there are, and
+// How many samples of a channel are there.
+#[no_mangle]
+pub extern "C" fn mfer_samples_there(
+    file: &[u8],
+    frame: u32,
+    channel: u32,
+    count: &mut u64,
+    place: &mut u64,
+) -> u32
+    ensures { λ r. ⌜ outputs r (now (place .exit)) (now (count .exit)) ≡ countOut (thereAt (now (file .entry)) frame channel) ⌝ }
+{
+    outputs::read_out(bulk::there(file, frame, channel), count, place)
+}
+
+// The bits of a channel's samples from number `first` on, as the file has them, at the front of `out`: as many as fit or are there, and
 // how many. The rest of `out`, and at a refusal all of it, keeps what it held.
 #[no_mangle]
 pub extern "C" fn mfer_samples(
@@ -90,7 +104,7 @@ pub extern "C" fn mfer_samples(
 }
 
 // The values of a channel's samples from number `first` on, at the fronts of `kinds` and `wholes`: each sample's kind, as `mfer_sample` numbers
-// them, and its number where it is whole, else 0; as many as fit in both or there are, and how many. The rest of both, and at a refusal all of them,
+// them, and its number where it is whole, else 0; as many as fit in both or are there, and how many. The rest of both, and at a refusal all of them,
 // keeps what it held.
 #[no_mangle]
 pub extern "C" fn mfer_values(

@@ -1,7 +1,7 @@
 // A walk over a file, held by a caller in C as an array of words.
 //
-// `mfer_walk_open` checks the file and begins the walk, `mfer_walk_next` goes to its next frame, `mfer_walk_channel`, `mfer_walk_samples` and `mfer_walk_values` tell of
-// a channel of the frame that it stands behind and `mfer_walk_frame` of all of them, with nothing read again. Any words at all are some walk.
+// `mfer_walk_open` checks the file and begins the walk, `mfer_walk_next` goes to its next frame, `mfer_walk_channel`, `mfer_walk_samples_there`, `mfer_walk_samples` and
+// `mfer_walk_values` tell of a channel of the frame that it stands behind and `mfer_walk_frame` of all of them, with nothing read again. Any words at all are some walk.
 // Read first: specs/Walks.antt, specs/Steps.antt and specs/Views.antt of crate walking, and specs/Tour.antt of crate tour.
 ghost use mathlib.Core.Path.{_≡_};
 ghost use Prim.Native.Nat.{min};
@@ -14,7 +14,7 @@ ghost use Rattle.walking.specs.Views.{viewIn};
 ghost use Rattle.sweep.specs.Sweep.{sweepIn};
 ghost use Rattle.outputs.specs.Outputs.{outputs, countOut};
 ghost use Rattle.outputs.specs.Walks.{frameValues, channelValues, channelOut};
-ghost use Rattle.tour.specs.Tour.{walkRead, walkValues};
+ghost use Rattle.tour.specs.Tour.{walkThere, walkRead, walkValues};
 ghost use Rattle.mfer.specs.Walks.{WalkNext};
 use walking::Walking;
 
@@ -62,6 +62,19 @@ pub extern "C" fn mfer_walk_channel(
     outputs::looked_up_out(walking::view_at(walk, channel), numbers, bits, below, place)
 }
 
+// How many samples of a channel are there, of the frame that a walk stands behind.
+#[no_mangle]
+pub extern "C" fn mfer_walk_samples_there(
+    walk: &[u64; Walking::WORDS],
+    channel: u32,
+    count: &mut u64,
+    place: &mut u64,
+) -> u32
+    ensures { λ r. ⌜ outputs r (now (place .exit)) (now (count .exit)) ≡ countOut (walkThere (now (walk .entry)) channel) ⌝ }
+{
+    outputs::read_out(tour::there(walk, channel), count, place)
+}
+
 // The bits of a channel's samples as mfer_samples tells them, of the frame that a walk stands behind. Nothing of the file is read but these samples.
 #[no_mangle]
 pub extern "C" fn mfer_walk_samples(
@@ -79,7 +92,7 @@ pub extern "C" fn mfer_walk_samples(
     outputs::read_out(tour::samples(file, walk, channel, first, out), count, place)
 }
 
-// The bits of all samples of the frame that a walk stands behind: those of channel 0, then those of channel 1, at the front of `out`, as many as fit or there are.
+// The bits of all samples there of the frame that a walk stands behind: those of channel 0, then those of channel 1, at the front of `out`, as many as fit or are there.
 // Nothing of the file is read but these samples.
 #[no_mangle]
 pub extern "C" fn mfer_walk_frame(
