@@ -17,13 +17,12 @@ use lib.ListN.{length, getD, set, take, drop, length-set, length-map, length-app
 use lib.Seq.{sets, length-sets, drop-cons}
 use Rattle.octets.specs.Pick.{pick}
 use Rattle.octets.specs.Number.{Octets, range}
-use Rattle.octets.proofs.Laws.{drop-octets}
+use Rattle.octets.proofs.Laws.{number-first, drop-octets}
 use Rattle.values.specs.declared.Telling.{Telling}
 use Rattle.values.specs.Sample.{Said, valueOf}
 use Rattle.values.specs.Told.{toldAs, toldOf}
 use Rattle.values.proofs.Told.{told-is}
 use Rattle.layout.specs.Frame.{widthIn}
-use Rattle.verdict.proofs.Steps.{number-first}
 use Rattle.heads.specs.Refusals.{noFrame, noSample}
 use Rattle.heads.specs.Answer.{Answer, answered, refusedAs, leftBy}
 use Rattle.view.specs.declared.View.{View}

@@ -19,7 +19,7 @@ use lib.ListN.{length, getD, take, drop, length-map}
 use Rattle.octets.specs.Number.{Octets}
 use Rattle.octets.specs.Pick.{pick, either}
 use Rattle.octets.proofs.Pick.{both-split}
-use Rattle.octets.proofs.Laws.{drop-octets, range-pos}
+use Rattle.octets.proofs.Laws.{number-first, drop-octets, range-pos}
 use Rattle.values.specs.declared.Bits.{Bits}
 use Rattle.settings.specs.declared.Settings.{Settings}
 use Rattle.settings.specs.Settings.{zeroSettings}
@@ -30,7 +30,6 @@ use Rattle.verdict.specs.Verdict.{accepted, verdict}
 use Rattle.verdict.proofs.Every.{Every, every-imp}
 use Rattle.reader.proofs.Ordered.{Lies, every-lies}
 use Rattle.reader.proofs.Good.{GoodSettings, GoodFrame, agree-every, every-good}
-use Rattle.verdict.proofs.Steps.{number-first}
 use Rattle.canonical.specs.Recording.{tabulate, recordedFrame, recording}
 use Rattle.canonical.proofs.Waveform.{SamplesSized}
 use Rattle.canonical.proofs.Good.{GoodReported, AllReported, GoodRecorded, AllRecorded}

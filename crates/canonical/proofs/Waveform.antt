@@ -4,7 +4,7 @@
 --     there-at        a sample that is there stands at its offset
 --     there-same      as many are there
 -- Assumes nothing.
-use Prim.Native.Nat.{ℕ, zero, suc, _+_, _*_, _/_, _≤_, _<_, min}
+use Prim.Native.Nat.{ℕ, zero, suc, _*_, _/_, _≤_, _<_, min}
 use mathlib.Core.Path.{_≡_, refl, sym, _∙_, ap}
 use mathlib.Core.Logic.{_⊎_, inl, inr}
 use mathlib.Core.List.{List, [], _∷_, reverse}
@@ -13,7 +13,8 @@ use native.Mathlib.Decide.{decLt}
 use native.Mathlib.Omega.{arith}
 use borrow.Author.Tests.{lt-ltb, le-ltb}
 use lib.ListN.{length, getD, take, drop, length-take, drop-of-length-le}
-use lib.Seq.{take-take, take-nil, take-all}
+use lib.Seq.{take-nil, take-all}
+use Rattle.octets.proofs.Laws.{part-of}
 use Rattle.stores.specs.Number.{be, length-be}
 use Rattle.settings.specs.declared.Settings.{Settings}
 use Rattle.layout.specs.Frame.{widthIn, sequenceOctets, channelIn, offsetOf}
@@ -29,13 +30,6 @@ use Rattle.there.proofs.Turned.{turned-enough, there-turned}
 use Rattle.canonical.specs.Canonical.{octetsIn, longest}
 
 -- ---- parts of a list
-
--- A part that does not run past the end.
-part-of : (w o l : ℕ) (u : List ℕ) → o + w ≤ l → take w (drop o (take l u)) ≡ take w (drop o u)
-part-of w zero l u h = take-take w l u (omega arith)
-part-of w (suc o) zero u h = let z : ⊥ = omega arith in absurd z
-part-of w (suc o) (suc l) [] h = refl
-part-of w (suc o) (suc l) (a ∷ u) h = part-of w o l u (omega arith)
 
 -- Nothing stands behind the end.
 part-behind : (w o l : ℕ) (u : List ℕ) → l ≤ o → take w (drop o (take l u)) ≡ []

@@ -1,9 +1,10 @@
 -- Laws of the numbers of octets, each stated once for any width.
 --     part-past, part-rest, part-whole, take-length-le, part-short    a part that runs past the end
+--     drop-take, part-of    a part of a part
 --     take-octets, drop-octets, read-all    a part of octets, and octets that are no more than eight
 --     range-suc, range-bits, range-pos, push, push-back, cap, push-fits    one octet more
 --     big-turn, big-end, little-start, little-turn, little-end    a loop that reads octets from the front, and from the back
---     big-below, little-below, number-below    a number is one of its width
+--     big-below, little-below, number-below, number-first    a number is one of its width
 --     number-one    the number of one octet
 --     twos-low, twos-high    what the machine reads back from a signed local's bits is the two's complement number
 -- Assumes nothing.
@@ -19,7 +20,7 @@ use lib.Arith.{digits-lt}
 use lib.Dec.{lit<}
 use lib.Pow.{pow-add}
 use lib.ListN.{length, getD, take, drop, length-take, length-drop, drop-of-length-le}
-use lib.Seq.{drop-cons, drop-length, getD-drop, take-all, take-nil}
+use lib.Seq.{drop-cons, drop-length, getD-drop, take-all, take-nil, take-take}
 use mir.Syntax.{Width}
 use mir.Val.{bits, hbits, toZ}
 use mir.Facts.{toZ-pos, toZ-neg}
@@ -45,6 +46,17 @@ take-length-le n s = rw length-take (min-le-left n (length s))
 
 pub part-short : (n : ℕ) (s x : List ℕ) → x ≡ take n s → length x ≤ n
 part-short n s x e = rw e (take-length-le n s)
+
+-- What stands behind k in the first m octets.
+pub drop-take : (k m : ℕ) (l : List ℕ) → drop k (take m l) ≡ take (m - k) (drop k l)
+drop-take zero m l = ap (λ (j : ℕ). take j l) (let e : m ≡ m - 0 = omega arith in e)
+drop-take (suc k) zero l = ap (λ (j : ℕ). take j (drop (suc k) l)) (let e : 0 ≡ 0 - suc k = omega arith in e)
+drop-take (suc k) (suc m) [] = sym (take-nil (suc m - suc k))
+drop-take (suc k) (suc m) (x ∷ l) = drop-take k m l ∙ ap (λ (j : ℕ). take j (drop k l)) (let e : m - k ≡ suc m - suc k = omega arith in e)
+
+-- A part of the first m octets that does not run past their end.
+pub part-of : (n k m : ℕ) (l : List ℕ) → k + n ≤ m → take n (drop k (take m l)) ≡ take n (drop k l)
+part-of n k m l h = ap (take n) (drop-take k m l) ∙ take-take n (m - k) (drop k l) (omega arith)
 
 -- A part of octets is octets.
 pub take-octets : (n : ℕ) (s : List ℕ) → Octets s → Octets (take n s)
@@ -138,6 +150,10 @@ number-below true s h = little-below s h
 number-below false s h =
     let e : 0 + length s ≡ length s = omega arith in
     rw e at (big-below s 0 0 h (lit< tt))
+
+-- So is the number of the first n.
+pub number-first : (little : Bool) (s : List ℕ) → Octets s → (n : ℕ) → numberOf little (take n s) < range n
+number-first little s h n = lt-of-lt-of-le (number-below little (take n s) (take-octets n s h)) (cap (length (take n s)) n (take-length-le n s))
 
 -- The number of one octet, in either byte order.
 pub number-one : (little : Bool) (b : ℕ) → numberOf little (b ∷ []) ≡ b

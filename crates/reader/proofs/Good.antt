@@ -17,7 +17,7 @@ use lib.Seq.{take-all}
 use Rattle.octets.specs.Pick.{pick, either}
 use Rattle.octets.specs.Number.{Octets, range, numberOf, twos, signedOf}
 use Rattle.octets.proofs.Pick.{both-split}
-use Rattle.octets.proofs.Laws.{take-octets, drop-octets, take-length-le, cap, number-below}
+use Rattle.octets.proofs.Laws.{number-first, take-octets, drop-octets, take-length-le, cap, number-below}
 use Rattle.values.specs.declared.Bits.{Bits}
 use Rattle.items.specs.declared.Item.{Item}
 use Rattle.settings.specs.declared.Scale.{Scale}
@@ -35,7 +35,7 @@ use Rattle.verdict.specs.Verdict.{State, firstState, frameChannels, frameAt, ac
 use Rattle.pass.specs.Scan.{zeroFrame}
 use Rattle.verdict.proofs.Keeps.{Keeps, accepted-by, accepted-kept}
 use Rattle.framing.proofs.Framings.{sequences-small}
-use Rattle.verdict.proofs.Steps.{number-first, Small, Waveform, waveform-short, TakenBy, ItemStep, passes, stands, resets, changes, sets, frames, meaning-steps}
+use Rattle.verdict.proofs.Steps.{Small, Waveform, waveform-short, TakenBy, ItemStep, passes, stands, resets, changes, sets, frames, meaning-steps}
 use Rattle.verdict.proofs.Every.{Every, every-at, every-snoc, every-take, every-imp}
 use Rattle.verdict.proofs.Tables.{EachAttribute, Table, table-step, table-first}
 

@@ -40,33 +40,33 @@ pub record Lies (s : List ℕ) (f : Frame) : Type 0 where
   pub pointer : pointerFits (f .start) ≡ true
 
 -- The place behind a frame's waveform.
-abbrev pub endOf : Frame → ℕ
-endOf f = f .place + length (f .waveform)
+abbrev pub waveformEnd : Frame → ℕ
+waveformEnd f = f .place + length (f .waveform)
 
 -- No frame starts before the end of one before it.
 abbrev pub InOrder : List Frame → Type 0
-InOrder fs = (i j : ℕ) → i < j → j < length fs → endOf (getD fs i zeroFrame) ≤ getD fs j zeroFrame .place
+InOrder fs = (i j : ℕ) → i < j → j < length fs → waveformEnd (getD fs i zeroFrame) ≤ getD fs j zeroFrame .place
 
 -- What every item keeps.
 pub record Lying (s : List ℕ) (x : State) (c : Cursor) : Type 0 where
   pub bounded : Bounded x
   pub lies : Every (Lies s) (x .frames)
-  pub behind : Every (λ f. endOf f ≤ c .at) (x .frames)
+  pub behind : Every (λ f. waveformEnd f ≤ c .at) (x .frames)
   pub order : InOrder (x .frames)
 
 -- ---- one frame more
 
-order-snoc : (fs : List Frame) (f : Frame) → InOrder fs → Every (λ g. endOf g ≤ f .place) fs → InOrder (fs ++ (f ∷ []))
+order-snoc : (fs : List Frame) (f : Frame) → InOrder fs → Every (λ g. waveformEnd g ≤ f .place) fs → InOrder (fs ++ (f ∷ []))
 order-snoc fs f o e i j h l =
     let n : length (fs ++ (f ∷ [])) ≡ length fs + 1 = length-append fs (f ∷ []) in
     let first : getD (fs ++ (f ∷ [])) i zeroFrame ≡ getD fs i zeroFrame = List·getD-append fs (f ∷ []) zeroFrame i (omega arith) in
     by first (decLt j (length fs))
   where
-    by : getD (fs ++ (f ∷ [])) i zeroFrame ≡ getD fs i zeroFrame → Dec (j < length fs) → endOf (getD (fs ++ (f ∷ [])) i zeroFrame) ≤ getD (fs ++ (f ∷ [])) j zeroFrame .place
+    by : getD (fs ++ (f ∷ [])) i zeroFrame ≡ getD fs i zeroFrame → Dec (j < length fs) → waveformEnd (getD (fs ++ (f ∷ [])) i zeroFrame) ≤ getD (fs ++ (f ∷ [])) j zeroFrame .place
     by first (yes k) = rw (first, List·getD-append fs (f ∷ []) zeroFrame j k) (o i j h k)
     by first (no k) =
         let n : length (fs ++ (f ∷ [])) ≡ length fs + 1 = length-append fs (f ∷ []) in
-        rw (first, getD-at fs f [] zeroFrame j (omega arith)) (every-at (λ g. endOf g ≤ f .place) fs e zeroFrame i (omega arith))
+        rw (first, getD-at fs f [] zeroFrame j (omega arith)) (every-at (λ g. waveformEnd g ≤ f .place) fs e zeroFrame i (omega arith))
 
 module _ (s : List ℕ) (x : State) (c d : Cursor) (p : Lying s x c) where
   -- An item that gives no frame.
@@ -75,7 +75,7 @@ module _ (s : List ℕ) (x : State) (c d : Cursor) (p : Lying s x c) where
       record {
         bounded = b;
         lies = p .lies;
-        behind = every-imp (λ f. endOf f ≤ c .at) (λ f. endOf f ≤ d .at) (λ f q. omega arith) (x .frames) (p .behind);
+        behind = every-imp (λ f. waveformEnd f ≤ c .at) (λ f. waveformEnd f ≤ d .at) (λ f q. omega arith) (x .frames) (p .behind);
         order = p .order;
       }
 
@@ -105,8 +105,8 @@ module _ (s : List ℕ) (x : State) (c d : Cursor) (p : Lying s x c) where
         record {
           bounded = b;
           lies = every-snoc (Lies s) (x .frames) new (p .lies) new-lies;
-          behind = every-snoc (λ f. endOf f ≤ d .at) (x .frames) new (every-imp (λ f. endOf f ≤ c .at) (λ f. endOf f ≤ d .at) (λ f q. omega arith) (x .frames) (p .behind)) (rw long-is (omega arith));
-          order = order-snoc (x .frames) new (p .order) (every-imp (λ f. endOf f ≤ c .at) (λ f. endOf f ≤ start) (λ f q. omega arith) (x .frames) (p .behind));
+          behind = every-snoc (λ f. waveformEnd f ≤ d .at) (x .frames) new (every-imp (λ f. waveformEnd f ≤ c .at) (λ f. waveformEnd f ≤ d .at) (λ f q. omega arith) (x .frames) (p .behind)) (rw long-is (omega arith));
+          order = order-snoc (x .frames) new (p .order) (every-imp (λ f. waveformEnd f ≤ c .at) (λ f. waveformEnd f ≤ start) (λ f q. omega arith) (x .frames) (p .behind));
         }
 
 -- ---- all items

@@ -3,29 +3,23 @@
 --     test-there, counts-inside   it is there exactly when its number is below the channel's count
 -- Assumes nothing.
 use mathlib.Core.Path.{_≡_, refl, sym, ap, _∙_}
-use mathlib.Core.List.{List, [], _∷_}
+use mathlib.Core.List.{List}
 use mathlib.Core.Bool.{Bool, true, false}
 use mathlib.Core.Logic.{_↔_}
-use Prim.Native.Nat.{ℕ, zero, suc, _+_, _≤_, _<_}
+use Prim.Native.Nat.{ℕ, _+_, _≤_, _<_}
 use native.Mathlib.Decide.{decLt}
 use borrow.Author.Tests.{ltb-true, ltb-false, le-leb, lt-leb}
 use lib.Dec.{ltb, leb}
 use native.Mathlib.Omega.{arith}
 use lib.ListN.{length, take, drop}
-use lib.Seq.{take-take, drop-drop}
+use lib.Seq.{drop-drop}
+use Rattle.octets.proofs.Laws.{part-of}
 use Rattle.octets.specs.Number.{numberOf}
 use Rattle.layout.specs.Frame.{Frame, widthIn, channelIn, placeOf}
 use Rattle.laid.specs.Laid.{Named, sampleOctets, sampleBits}
 use Rattle.there.specs.There.{endOf, isThere, thereIn, There}
 use Rattle.there.proofs.Places.{there-counted}
 use Rattle.reader.proofs.Ordered.{Lies}
-
--- A part of a part that does not run past its end.
-part-of : (w o l : ℕ) (u : List ℕ) → o + w ≤ l → take w (drop o (take l u)) ≡ take w (drop o u)
-part-of w zero l u h = take-take w l u (omega arith)
-part-of w (suc o) zero u h = let z : ⊥ = omega arith in absurd z
-part-of w (suc o) (suc l) [] h = refl
-part-of w (suc o) (suc l) (a ∷ u) h = part-of w o l u (omega arith)
 
 -- A part of octets of the file is there in the file.
 part-there : (s x : List ℕ) (p o w : ℕ) → x ≡ take (length x) (drop p s) → o + w ≤ length x → take w (drop (p + o) s) ≡ take w (drop o x)

@@ -8,12 +8,13 @@ use mathlib.Core.Path.{_≡_, refl, sym, ap, subst, _∙_}
 use mathlib.Core.List.{List, [], _∷_}
 use mathlib.Core.Bool.{Bool, true, false}
 use mathlib.Core.Logic.{_⊎_, inl, inr}
-use Prim.Native.Nat.{ℕ, zero, suc, _+_, _-_, _/_, _%_, _≤_, _<_}
+use Prim.Native.Nat.{ℕ, _+_, _-_, _/_, _%_, _≤_, _<_}
 use native.Mathlib.Omega.{arith}
 use borrow.Author.Tests.{lt-ltb, le-ltb, ltb-false, eqb-true, eqb-false, ne-eqb}
 use lib.Dec.{eqb, ltb}
 use lib.ListN.{length, getD, take, drop, length-take, length-drop}
-use lib.Seq.{getD-drop, drop-drop, take-take, take-nil}
+use lib.Seq.{getD-drop, drop-drop, take-take}
+use Rattle.octets.proofs.Laws.{drop-take}
 use Rattle.octets.specs.Pick.{pick, both}
 use Rattle.octets.proofs.Pick.{pick-cases, both-false}
 use Rattle.items.specs.declared.Item.{Item}
@@ -186,12 +187,6 @@ next-short s at w o l h =
     ∙ next-head at w (extent s at w) (omega arith)
     ∙ ap (itemOf at w) (head-short (isInside w) (extent s at w) o l h)
     ∙ item-there at w (getD (extent s at w) 0 0) (getD (extent s at w) 1 0) (o .nonzero)
-
-drop-take : (k m : ℕ) (l : List ℕ) → drop k (take m l) ≡ take (m - k) (drop k l)
-drop-take zero m l = ap (λ (j : ℕ). take j l) (let e : m ≡ m - 0 = omega arith in e)
-drop-take (suc k) zero l = ap (λ (j : ℕ). take j (drop (suc k) l)) (let e : 0 ≡ 0 - suc k = omega arith in e)
-drop-take (suc k) (suc m) [] = sym (take-nil (suc m - suc k))
-drop-take (suc k) (suc m) (x ∷ l) = drop-take k m l ∙ ap (λ (j : ℕ). take j (drop k l)) (let e : m - k ≡ suc m - suc k = omega arith in e)
 
 -- Its value.
 pub value-ahead : (s : List ℕ) (at : ℕ) (w : Within) (n : ℕ) → 2 + n ≤ length (extent s at w) → take n (drop (at + 2) s) ≡ take n (drop 2 (extent s at w))

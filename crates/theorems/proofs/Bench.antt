@@ -22,12 +22,13 @@ use Rattle.reader.specs.declared.Attributes.{Attributes}
 use Rattle.framing.specs.Framing.{channelsOf, sequencesOf, pointerFits, pointerAfter, framedAs}
 use Rattle.effects.specs.Effects.{orderEffect, countEffect, sequencesEffect, startEffect, compressedEffect, allEffect, oneEffect, rootEffect, plainEffect, memberEffect, groupEffect, effectOf}
 use Rattle.verdict.specs.Verdict.{State, firstState, Outcome, goes, refuses, oneChanged, withFrame, carried, placeAt, afterItem, interpret, verdict, checkedAs, checkOf}
-use Rattle.reader.specs.Answer.{FoundSample, foundSample, attributesIn, attributesOf, sampleIn, sampleOf}
+use Rattle.there.specs.There.{isThere, countThere, thereOf, thereIn}
+use Rattle.reader.specs.Answer.{FoundSample, foundSample, noData, attributesIn, attributesOf, sampleIn, sampleOf}
 use Rattle.groups.specs.Item.{itemOctets, numberItem, unsignedOf}
 use Rattle.groups.specs.Head.{sequencesItem, headItems}
 use Rattle.groups.specs.Group.{channelOctets, scaleItem, nullItem, groupItems, groupOctets, groupsOctets}
 use Rattle.canonical.specs.Recording.{tabulate, recordedFrame, recording}
-use Rattle.canonical.specs.Canonical.{waveformOf, frameOctets, framesOctets, canonical}
+use Rattle.canonical.specs.Canonical.{octetsIn, longest, waveformOf, frameOctets, framesOctets, canonical}
 use Rattle.canonical.specs.Write.{framesIn, canonicalOf}
 use Rattle.line.specs.Line.{decimalIn, decimalOf, ascii, lineOf}
 
@@ -101,11 +102,11 @@ unfolding bigFrom littleOf numberOf twos signedOf widthOf plainOf isNull valueOf
     allEffect oneEffect plainEffect memberEffect groupEffect effectOf
     channelsOf sequencesOf pointerFits pointerAfter framedAs
     oneChanged withFrame carried placeAt afterItem interpret verdict checkedAs checkOf
-    offsetBits attributesIn attributesOf sampleIn sampleOf
+    isThere countThere thereOf thereIn offsetBits attributesIn attributesOf sampleIn sampleOf
     reported sampleBits tabulate recordedFrame recording
     be holding shortest block sequence laidFrom laid
     itemOctets numberItem unsignedOf channelOctets scaleItem nullItem groupItems groupOctets groupsOctets
-    sequencesItem headItems waveformOf frameOctets framesOctets canonical
+    sequencesItem headItems octetsIn longest waveformOf frameOctets framesOctets canonical
     named standsAfter framesIn canonicalOf decimalIn decimalOf lineOf
 computed cs = map caseOf cs
 
@@ -152,6 +153,18 @@ canonical2 =
     ∷ 0x0B ∷ 0x06 ∷ 0x00 ∷ 0x00 ∷ 0x00 ∷ 0x00 ∷ 0x03 ∷ 0xE8 ∷ 0x0C ∷ 0x06 ∷ 0x00 ∷ 0xFA ∷ 0x00 ∷ 0x00 ∷ 0x00 ∷ 0x01
     ∷ 0x0D ∷ 0x02 ∷ 0x00 ∷ 0x00 ∷ 0x12 ∷ 0x00
     ∷ 0x1E ∷ 0x06 ∷ 0x00 ∷ 0x01 ∷ 0x00 ∷ 0x02 ∷ 0xFF ∷ 0xFF
+    ∷ []
+
+-- P9's canonical file, 67 octets: two sequences are declared, and one sample is there.
+abbrev pub canonical9 : List ℕ
+canonical9 =
+    0x01 ∷ 0x01 ∷ 0x00
+    ∷ 0x05 ∷ 0x04 ∷ 0x00 ∷ 0x00 ∷ 0x00 ∷ 0x01 ∷ 0x06 ∷ 0x04 ∷ 0x00 ∷ 0x00 ∷ 0x00 ∷ 0x02 ∷ 0x07 ∷ 0x04 ∷ 0x00 ∷ 0x00 ∷ 0x00 ∷ 0x00
+    ∷ 0x3F ∷ 0x00 ∷ 0x27
+    ∷ 0x04 ∷ 0x04 ∷ 0x00 ∷ 0x00 ∷ 0x00 ∷ 0x01 ∷ 0x08 ∷ 0x02 ∷ 0x00 ∷ 0x00 ∷ 0x09 ∷ 0x02 ∷ 0x00 ∷ 0x00 ∷ 0x0A ∷ 0x01 ∷ 0x00
+    ∷ 0x0B ∷ 0x06 ∷ 0x00 ∷ 0x00 ∷ 0x00 ∷ 0x00 ∷ 0x03 ∷ 0xE8 ∷ 0x0C ∷ 0x06 ∷ 0x00 ∷ 0xFA ∷ 0x00 ∷ 0x00 ∷ 0x00 ∷ 0x01
+    ∷ 0x0D ∷ 0x02 ∷ 0x00 ∷ 0x00 ∷ 0x12 ∷ 0x00
+    ∷ 0x1E ∷ 0x02 ∷ 0x00 ∷ 0x05
     ∷ []
 
 -- The files P1 to P11 and what document 01 says of each.
@@ -214,8 +227,19 @@ cases =
     ∷ refusedAt (0x0A ∷ 0x80 ∷ []) 2 0 "refused 2 at 0\n"
     -- P8
     ∷ refusedAt (0x3F ∷ 0x00 ∷ 0x80 ∷ []) 10 0 "refused 10 at 0\n"
-    -- P9
-    ∷ refusedAt (0x06 ∷ 0x01 ∷ 0x02 ∷ 0x1E ∷ 0x02 ∷ 0x00 ∷ 0x05 ∷ []) 14 3 "refused 14 at 3\n"
+    -- P9, which request 2 of document 02 makes one frame with 5 and then no data
+    ∷ record {
+      input = 0x06 ∷ 0x01 ∷ 0x02 ∷ 0x1E ∷ 0x02 ∷ 0x00 ∷ 0x05 ∷ [];
+      checked = answered 1;
+      line = ascii "frames 1\n";
+      facts =
+          attributes 0 0 (typed 1 2 0 2)
+          ∷ sample 0 0 0 (wholeAt 5 5 (pos 5))
+          ∷ sample 0 0 1 (answered noData)
+          ∷ sample 0 0 2 (refusedAs 22 0)
+          ∷ rewritten 67 canonical9
+          ∷ [];
+    }
     -- P10
     ∷ refusedAt (0x0D ∷ 0x01 ∷ 0x01 ∷ 0x1E ∷ 0x02 ∷ 0x00 ∷ 0x05 ∷ []) 12 3 "refused 12 at 3\n"
     -- P11
@@ -232,7 +256,11 @@ pub bench-files : computed cases ≡ cases
 unfolding computed
 bench-files = refl
 
--- P2's canonical file, rewritten, gives the same octets.
+-- P2's canonical file, rewritten, gives the same octets; so does P9's.
 pub rewrites-itself : canonicalOf canonical2 ≡ canonical2
 unfolding computed
 rewrites-itself = refl
+
+pub rewrites-cut : canonicalOf canonical9 ≡ canonical9
+unfolding computed
+rewrites-cut = refl

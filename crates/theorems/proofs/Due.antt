@@ -15,7 +15,7 @@ use lib.Dec.{leb}
 use Rattle.octets.specs.Pick.{pick, both}
 use Rattle.octets.proofs.Pick.{both-split}
 use Rattle.heads.specs.declared.Refusal.{Refusal}
-use Rattle.heads.specs.Refusals.{longFile}
+use Rattle.heads.specs.Refusals.{startRange}
 use Rattle.items.specs.declared.Within.{Within}
 use Rattle.verdict.specs.Verdict.{State}
 use Rattle.theorems.specs.Attributes.{between}
@@ -56,10 +56,10 @@ first-append (r ∷ rs) bs = by (r .holds) (first-append rs bs)
 
 -- ---- numbers
 
--- Every row has a number from 1 to 15.
+-- Every row has a number from 1 to 13: 14 is retired, and 15 comes before the rows.
 abbrev numbered : List Row → Bool
 numbered [] = true
-numbered (r ∷ rs) = both (between 1 longFile (r .gives .number)) (numbered rs)
+numbered (r ∷ rs) = both (between 1 startRange (r .gives .number)) (numbered rs)
 
 rows-numbered : (x : State) (at : ℕ) (w : Within) (u : List ℕ) → numbered (rowsAt x at w u) ≡ true
 unfolding rowsAt itemRows
@@ -68,12 +68,12 @@ rows-numbered x at (Within.Definite channel end) [] = refl
 rows-numbered x at (Within.Open channel place) [] = refl
 rows-numbered x at w (tag ∷ u) = refl
 
-numbered-due : (rs : List Row) (q : Refusal) → numbered rs ≡ true → Due rs q → (0 < q .number) × (q .number ≤ longFile)
+numbered-due : (rs : List Row) (q : Refusal) → numbered rs ≡ true → Due rs q → (0 < q .number) × (q .number ≤ startRange)
 numbered-due _ _ n (here r rs e) =
     let k = r .gives .number in
-    let b = both-split (leb 1 k) (leb k longFile) (both-split (between 1 longFile k) (numbered rs) n .0) in
-    (leb-true 1 k (b .0), leb-true k longFile (b .1))
-numbered-due _ _ n (later r rs q e d) = numbered-due rs q (both-split (between 1 longFile (r .gives .number)) (numbered rs) n .1) d
+    let b = both-split (leb 1 k) (leb k startRange) (both-split (between 1 startRange k) (numbered rs) n .0) in
+    (leb-true 1 k (b .0), leb-true k startRange (b .1))
+numbered-due _ _ n (later r rs q e d) = numbered-due rs q (both-split (between 1 startRange (r .gives .number)) (numbered rs) n .1) d
 
-pub due-numbered : (x : State) (at : ℕ) (w : Within) (u : List ℕ) (q : Refusal) → Due (rowsAt x at w u) q → (0 < q .number) × (q .number ≤ longFile)
+pub due-numbered : (x : State) (at : ℕ) (w : Within) (u : List ℕ) (q : Refusal) → Due (rowsAt x at w u) q → (0 < q .number) × (q .number ≤ startRange)
 due-numbered x at w u q = numbered-due (rowsAt x at w u) q (rows-numbered x at w u)

@@ -20,14 +20,14 @@ use Rattle.verdict.specs.Verdict.{Verdict, refused, verdict, checkedAs, checkOf
 use Rattle.reader.specs.Answer.{attributesOf, sampleOf, seenOf, placedOf}
 use Rattle.reader.proofs.Order.{asked-refused}
 use Rattle.canonical.specs.Write.{outputIn, writtenOf, canonicalLengthOf, leftOf, Wrote}
-use Rattle.bulk.specs.Samples.{readOf, valuesOf, kindsIn, wholesIn, countRead}
+use Rattle.bulk.specs.Samples.{thereAt, readOf, valuesOf, kindsIn, wholesIn, countRead}
 use Rattle.walk.specs.Says.{stepSays}
 use Rattle.walking.specs.Steps.{stepIn}
 use Rattle.walking.specs.Views.{viewIn}
 use Rattle.sweep.specs.Sweep.{sweepIn}
 use Rattle.outputs.specs.Outputs.{Outputs, outputs, handedOut, countOut, zeroAttributes, attributesOut, zeroSample, sampleOut}
 use Rattle.outputs.specs.Walks.{frameOut, noFrameValues, zeroChannel, channelOut}
-use Rattle.tour.specs.Tour.{walkRead, walkValues}
+use Rattle.tour.specs.Tour.{walkThere, walkRead, walkValues}
 use Rattle.maker.specs.Make.{Making, madeIn, Made}
 use Rattle.mfer.specs.Answers.{CanonicalOut, MadeOut}
 
@@ -38,6 +38,7 @@ pub record AnsweredBy (s : List ℕ) (r : Refusal) : Type 0 where
   pub check : checkOf s ≡ refusedBy r
   pub attributes : (i c : ℕ) → attributesOf s i c ≡ refusedBy r
   pub channel : (i c : ℕ) → seenOf s i c ≡ refusedBy r
+  pub there : (i c : ℕ) → thereAt s i c ≡ refusedBy r
   pub sample : (i c n : ℕ) → sampleOf s i c n ≡ refusedBy r
   pub place : (i c n : ℕ) → placedOf s i c n ≡ refusedBy r
   pub samples : (i c n room : ℕ) → readOf s i c n room ≡ refusedBy r
@@ -46,12 +47,13 @@ pub record AnsweredBy (s : List ℕ) (r : Refusal) : Type 0 where
   pub written : (d : List ℕ) → writtenOf s d ≡ refusedBy r
 
 pub refused-answers : (s : List ℕ) (r : Refusal) → verdict s ≡ refused r → AnsweredBy s r
-unfolding checkOf checkedAs attributesOf seenOf sampleOf placedOf readOf valuesOf writtenOf canonicalLengthOf outputIn
+unfolding checkOf checkedAs attributesOf seenOf thereAt sampleOf placedOf readOf valuesOf writtenOf canonicalLengthOf outputIn
 refused-answers s r e =
     record {
       check = ap checkedAs e;
       attributes = λ i c. asked-refused i c _ e;
       channel = λ i c. asked-refused i c _ e;
+      there = λ i c. asked-refused i c _ e;
       sample = λ i c n. asked-refused i c _ e;
       place = λ i c n. asked-refused i c _ e;
       samples = λ i c n room. asked-refused i c _ e;
@@ -78,6 +80,7 @@ pub record HandedOut (s : List ℕ) : Type 0 where
   pub check : HandedExactly (countOut (checkOf s)) 0 (checkOf s)
   pub attributes : (i c : ℕ) → HandedExactly (attributesOut (attributesOf s i c)) zeroAttributes (attributesOf s i c)
   pub sample : (i c n : ℕ) → HandedExactly (sampleOut (sampleOf s i c n)) zeroSample (sampleOf s i c n)
+  pub there : (i c : ℕ) → HandedExactly (countOut (thereAt s i c)) 0 (thereAt s i c)
   pub samples : (i c n room : ℕ) → HandedExactly (countOut (countRead s i c n room)) 0 (countRead s i c n room)
   pub canonicalLength : HandedExactly (countOut (canonicalLengthOf s)) 0 (canonicalLengthOf s)
   pub values : (i c n room : ℕ) → HandedExactly (countOut (mapAnswer length (valuesOf s i c n room))) 0 (mapAnswer length (valuesOf s i c n room))
@@ -85,6 +88,7 @@ pub record HandedOut (s : List ℕ) : Type 0 where
   pub makeFrame : (m : Making) (room : ℕ) → HandedExactly (countOut (mapAnswer length (madeIn room m))) 0 (mapAnswer length (madeIn room m))
   pub walkNext : (u : List ℕ) → HandedExactly (frameOut (stepSays (stepIn s u .step))) noFrameValues (stepSays (stepIn s u .step))
   pub walkChannel : (u : List ℕ) (c : ℕ) → HandedExactly (channelOut (viewIn u c)) zeroChannel (viewIn u c)
+  pub walkThere : (u : List ℕ) (c : ℕ) → HandedExactly (countOut (walkThere u c)) 0 (walkThere u c)
   pub walkSamples : (u : List ℕ) (c n room : ℕ) → HandedExactly (countOut (mapAnswer length (walkRead s u c n room))) 0 (mapAnswer length (walkRead s u c n room))
   pub walkFrame : (u : List ℕ) (room : ℕ) → HandedExactly (countOut (mapAnswer length (sweepIn s u room))) 0 (mapAnswer length (sweepIn s u room))
   pub walkValues : (u : List ℕ) (c n room : ℕ) → HandedExactly (countOut (mapAnswer length (walkValues s u c n room))) 0 (mapAnswer length (walkValues s u c n room))
@@ -95,6 +99,7 @@ handed-out s =
       check = handed-exactly _ _ _ (checkOf s);
       attributes = λ i c. handed-exactly _ _ _ (attributesOf s i c);
       sample = λ i c n. handed-exactly _ _ _ (sampleOf s i c n);
+      there = λ i c. handed-exactly _ _ _ (thereAt s i c);
       samples = λ i c n room. handed-exactly _ _ _ (countRead s i c n room);
       canonicalLength = handed-exactly _ _ _ (canonicalLengthOf s);
       values = λ i c n room. handed-exactly _ _ _ (mapAnswer length (valuesOf s i c n room));
@@ -102,6 +107,7 @@ handed-out s =
       makeFrame = λ m room. handed-exactly _ _ _ (mapAnswer length (madeIn room m));
       walkNext = λ u. handed-exactly _ _ _ (stepSays (stepIn s u .step));
       walkChannel = λ u c. handed-exactly _ _ _ (viewIn u c);
+      walkThere = λ u c. handed-exactly _ _ _ (walkThere u c);
       walkSamples = λ u c n room. handed-exactly _ _ _ (mapAnswer length (walkRead s u c n room));
       walkFrame = λ u room. handed-exactly _ _ _ (mapAnswer length (sweepIn s u room));
       walkValues = λ u c n room. handed-exactly _ _ _ (mapAnswer length (walkValues s u c n room));

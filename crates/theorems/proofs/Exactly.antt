@@ -19,7 +19,7 @@ use Rattle.octets.specs.Pick.{pick}
 use Rattle.octets.proofs.Pick.{pick-cases, both-split}
 use Rattle.heads.specs.declared.Head.{Head}
 use Rattle.heads.specs.declared.Refusal.{Refusal}
-use Rattle.heads.specs.Refusals.{longFile}
+use Rattle.heads.specs.Refusals.{shortWaveform, longFile}
 use Rattle.heads.specs.Head.{headOf}
 use Rattle.items.specs.declared.Item.{Item}
 use Rattle.items.specs.declared.Cursor.{Cursor}
@@ -182,10 +182,10 @@ module _ (s : List ℕ) where
   pub refused-exactly : (r : Refusal) → (verdict s ≡ refused r) ↔ Refusing s r
   refused-exactly r = (refused-refusing r (ltb octetsLimit (length s)) refl, refusing-refused r)
 
-  -- Its number is one of the table's, 1 to 15.
-  pub refused-numbered : (r : Refusal) → verdict s ≡ refused r → (0 < r .number) × (r .number ≤ longFile)
+  -- Its number is one of the table's, 1 to 15, and not 14, which is retired.
+  pub refused-numbered : (r : Refusal) → verdict s ≡ refused r → (0 < r .number) × (r .number ≤ longFile) × (r .number ≡ shortWaveform → ⊥)
   refused-numbered r e = by r (refused-exactly r .0 e)
     where
-      by : (q : Refusal) → Refusing s q → (0 < q .number) × (q .number ≤ longFile)
-      by _ (overLimit h) = omega arith
-      by _ (stops x c q h p d) = due-numbered x (c .at) (around c) (ahead s c) q d
+      by : (q : Refusal) → Refusing s q → (0 < q .number) × (q .number ≤ longFile) × (q .number ≡ shortWaveform → ⊥)
+      by _ (overLimit h) = (omega arith, omega arith, λ k. omega arith)
+      by _ (stops x c q h p d) = let n = due-numbered x (c .at) (around c) (ahead s c) q d in (n .0, omega arith, λ k. omega arith)

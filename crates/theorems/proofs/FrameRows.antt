@@ -1,4 +1,4 @@
--- A waveform is refused by the first of its rows, 11, 12, 13, 14, which are the tests that it meets.
+-- A waveform is refused by the first of its rows, 11, 12, 13, which are the tests that it meets.
 -- Assumes nothing.
 use Prim.Native.Nat.{ℕ, _-_}
 use mathlib.Core.Path.{_≡_, refl}
@@ -9,7 +9,7 @@ use lib.Dec.{leb}
 use lib.ListN.{length, drop}
 use Rattle.octets.specs.Pick.{pick}
 use Rattle.heads.specs.declared.Refusal.{Refusal}
-use Rattle.heads.specs.Refusals.{manyFrames, sampleWidth, startRange, shortWaveform}
+use Rattle.heads.specs.Refusals.{manyFrames, sampleWidth, startRange}
 use Rattle.items.specs.Walk.{refusal}
 use Rattle.layout.specs.Frame.{allAgree}
 use Rattle.standing.specs.Standing.{framesLimit}
@@ -17,7 +17,7 @@ use Rattle.framing.specs.declared.Framed.{Framed}
 use Rattle.framing.specs.Framing.{pointerFits, framedAs}
 use Rattle.effects.specs.declared.Effect.{Effect}
 use Rattle.verdict.specs.Verdict.{State, Outcome, goes, refuses, frameChannels, withFrame, carried}
-use Rattle.theorems.specs.Rows.{valueIn, isShort, itemRows}
+use Rattle.theorems.specs.Rows.{valueIn, itemRows}
 use Rattle.theorems.proofs.Due.{firstDue}
 
 -- What an outcome gives at a place.
@@ -38,5 +38,4 @@ module _ (s : List ℕ) (x : State) (at start : ℕ) where
       let long = length (valueIn u) in
       framed-pick long (leb framesLimit (length (x .frames))) manyFrames _ _
       (framed-pick long (not (allAgree (frameChannels x))) sampleWidth _ _
-      (framed-pick long (not (pointerFits (x .standing .start))) startRange _ _
-      (framed-pick long (isShort x (valueIn u)) shortWaveform _ none refl)))
+      (framed-pick long (not (pointerFits (x .standing .start))) startRange _ none refl))

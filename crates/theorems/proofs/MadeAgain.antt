@@ -2,11 +2,13 @@
 --     rows-long, rows-at    rows one behind the other
 --     row-says         the row of a channel of a recording
 --     row-fits, row-back    it is in the table, and says that channel's settings
+--     all-there        where all declared samples are there, so are their octets
 --     record-again     a frame that is made of a frame of a recording is that frame
+--     exactly-there, frame-again, frame-lacking    it is made exactly where its declared samples are all there
 --     made-again       so is each frame of the canonical file
 -- Assumes nothing.
 use mathlib.Core.Path.{_≡_, refl, sym, ap, _∙_}
-use mathlib.Core.Logic.{_⊎_, inl, inr}
+use mathlib.Core.Logic.{_↔_, _⊎_, inl, inr}
 use mathlib.Core.Bool.{true, false}
 use mathlib.Core.List.{List, [], _∷_, _++_, map}
 use Prim.Native.Nat.{ℕ, zero, suc, _+_, _*_, _^_, _≤_, _<_}
@@ -19,11 +21,16 @@ use lib.Seq.{getD-append-add}
 use lib.Signed.{mag}
 use Rattle.octets.specs.Number.{Octets}
 use Rattle.octets.specs.Pick.{pick, either}
-use Rattle.heads.specs.Answer.{answered}
+use native.Mathlib.Decide.{decLt}
+use Rattle.heads.specs.Refusals.{samplesLength}
+use Rattle.heads.specs.Answer.{answered, refusedAs}
 use Rattle.settings.specs.declared.Scale.{Scale}
 use Rattle.settings.specs.declared.Settings.{Settings}
 use Rattle.settings.specs.Settings.{zeroSettings, blockLimit, lastDataType, lastIntervalUnit, lastResolutionUnit}
 use Rattle.layout.specs.Frame.{widthIn, samplesOctets, channelIn}
+use Rattle.laid.proofs.Places.{offset-covers}
+use Rattle.there.specs.There.{thereOf, thereOctets, Wide}
+use Rattle.there.proofs.Places.{there-le, there-declared, there-ends, there-counted, there-all}
 use Rattle.standing.specs.Standing.{octetsLimit}
 use Rattle.verdict.specs.Verdict.{accepted, verdict}
 use Rattle.layout.specs.Frame.{Frame}
@@ -32,17 +39,17 @@ use Rattle.canonical.specs.Canonical.{waveformOf, frameOctets, framesOctets, ca
 use Rattle.canonical.specs.Write.{recordingOf, canonicalOf}
 use Rattle.canonical.proofs.Good.{GoodScale, GoodReported, AllReported, GoodRecorded, AllRecorded}
 use Rattle.canonical.proofs.Effects.{width-good}
-use Rattle.canonical.proofs.Recordings.{frameOf, waveform-long, tabulate-is, recorded-back}
+use Rattle.canonical.proofs.Recordings.{frameOf, all-wide, waveform-long, tabulate-is, recorded-back}
 use Rattle.canonical.proofs.Accepted.{accepted-recorded}
 use Rattle.numbers.specs.Numbers.{attributeNumbers, numbersOf, bitPairOf}
 use Rattle.maker.specs.Given.{Given, GivenScale, bitNumbers, givenAt, lastCode, lastMantissa, within, exponentFits, scaleInTable, bitsFit, noNull, numbersInTable, scalesInTable, bitsInTable, inTable, bitsMade, nullMade, settingsMade}
-use Rattle.maker.specs.Make.{Making, settingsFit, samplesFit, channelsIn, frameMade, recordMade, orderOctets, madeIn}
+use Rattle.maker.specs.Make.{Making, settingsFit, channelsIn, frameMade, recordMade, orderOctets, madeIn}
 use Rattle.maker.proofs.Channels.{all-fit}
 use Rattle.maker.proofs.Makes.{frame-by-bits, all-inside, made-answered, room-yes}
 use Rattle.theorems.specs.Told.{attributesRecorded, zeroRecorded}
-use Rattle.theorems.specs.Making.{concatenated, fileOf, rowsOf, bitRowsOf, makingOf, MadeAgain}
+use Rattle.theorems.specs.Making.{SamplesExact, concatenated, fileOf, AllThere, rowsOf, bitRowsOf, makingOf, MadeAgain}
 use Rattle.theorems.proofs.Canonical.{recording-is}
-use Rattle.theorems.proofs.Allowed.{bits-by, samples-by}
+use Rattle.theorems.proofs.Allowed.{bits-by, allowed-by, samples-by, made-exactly}
 
 -- ---- rows one behind the other
 
@@ -202,6 +209,19 @@ unfolding tabulate
 map-tabulate f zero g = refl
 map-tabulate f (suc k) g = ap (λ (l : List _). f (g 0) ∷ l) (map-tabulate f k (λ i. g (suc i)))
 
+-- Where all declared samples are there, so are their octets.
+all-there : (cs : List Settings) → Wide cs → (S long : ℕ) → ((c : ℕ) → c < length cs → thereOf cs S long c ≡ S * channelIn c cs .block) → thereOctets cs S long ≡ samplesOctets cs S
+all-there cs wide S long a = by (decLt (thereOctets cs S long) (samplesOctets cs S))
+  where
+    by : Dec (thereOctets cs S long < samplesOctets cs S) → thereOctets cs S long ≡ samplesOctets cs S
+    by (yes l) =
+        let k = offset-covers cs S (thereOctets cs S long) l in
+        let h = k .named in
+        let inside = there-counted h (wide (k .channel) (h .channel)) .1 (omega (arith, a (k .channel) (h .channel), h .number)) in
+        let z : ⊥ = omega (arith, k .place, k .inside, there-ends cs S long (k .channel) (k .n) h .0 inside) in
+        absurd z
+    by (no l) = omega (arith, there-declared cs S long)
+
 module _ (r : Recorded) (good : GoodRecorded r) where
   abbrev m : Making
   m = makingOf r
@@ -222,8 +242,16 @@ module _ (r : Recorded) (good : GoodRecorded r) where
       ∙ eq-eqb (length (bitRowsOf r)) (length (r .channels) * bitNumbers) (rows-long bitNumbers (length (r .channels)) (bitRow r) (bits-long r)))
       (all-fit (length (r .channels)) (givenAt (rowsOf r) (bitRowsOf r)) (λ c h. ap inTable (row-says r c h) ∙ row-fits (channelIn c (r .channels)) (at-good c h)))
 
-  samples-fit : samplesFit m ≡ true
-  samples-fit = samples-by m .1 (waveform-long r ∙ ap (λ (cs : List Settings). samplesOctets cs (r .sequences)) (sym channels-back))
+  -- The sample octets are exactly the declared ones where all declared samples are there, and only there.
+  exactly-there : SamplesExact m ↔ AllThere r
+  exactly-there =
+      let cs = r .channels in
+      let S = r .sequences in
+      let wide = all-wide cs (good .channels) in
+      let made = ap (λ (ds : List Settings). samplesOctets ds S) channels-back in (
+        λ e c h. good .sized c h ∙ there-all cs wide S (good .long) (omega (arith, e, made, waveform-long r good, there-le cs S (good .long))) c h,
+        λ a. waveform-long r good ∙ all-there cs wide S (good .long) (λ c h. sym (good .sized c h) ∙ a c h) ∙ sym made,
+      )
 
   frame-back : frameMade m ≡ frameOf r 0
   frame-back = λ i. record { start = r .start; place = 0; little = false; sequences = r .sequences; channels = channels-back i; waveform = waveformOf r }
@@ -232,10 +260,13 @@ module _ (r : Recorded) (good : GoodRecorded r) where
   unfolding recordMade
   record-again = ap recordedFrame frame-back ∙ recorded-back r good 0
 
-  frame-again : (room : ℕ) → length (frameOctets r) ≤ room → orderOctets + length (frameOctets r) ≤ octetsLimit → madeIn room m ≡ answered (frameOctets r)
-  frame-again room h k =
+  frame-again : AllThere r → (room : ℕ) → length (frameOctets r) ≤ room → orderOctets + length (frameOctets r) ≤ octetsLimit → madeIn room m ≡ answered (frameOctets r)
+  frame-again a room h k =
       let e : frameOctets (recordMade m) ≡ frameOctets r = ap frameOctets record-again in
-      made-answered m room settings-fit samples-fit (rw e (room-yes (length (frameOctets r)) room h k)) ∙ ap answered e
+      made-answered m room settings-fit (samples-by m .1 (exactly-there .1 a)) (rw e (room-yes (length (frameOctets r)) room h k)) ∙ ap answered e
+
+  frame-lacking : (AllThere r → ⊥) → (room : ℕ) → madeIn room m ≡ refusedAs samplesLength 0
+  frame-lacking n room = made-exactly m room .samples .1 (allowed-by m .0 settings-fit, λ e. n (exactly-there .0 e))
 
 -- ---- a file
 
@@ -273,6 +304,7 @@ made-again s o fs e short =
     let good : AllRecorded rs = rw (recording-is s fs e) (accepted-recorded s o fs e) in
     record {
       file = file-pieces rs;
-      frames = λ i h room l.
-          frame-again (getD rs i zeroRecorded) (recorded-at rs good i h) room l (omega (arith, piece-short rs i h, file-long rs (omega arith)));
+      frames = λ i h a room l.
+          frame-again (getD rs i zeroRecorded) (recorded-at rs good i h) a room l (omega (arith, piece-short rs i h, file-long rs (omega arith)));
+      lacking = λ i h n room. frame-lacking (getD rs i zeroRecorded) (recorded-at rs good i h) n room;
     }

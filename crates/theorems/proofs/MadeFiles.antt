@@ -19,7 +19,9 @@ use Rattle.values.specs.declared.Bits.{Bits}
 use Rattle.settings.specs.declared.Settings.{Settings}
 use Rattle.settings.specs.Settings.{blockLimit, lastDataType, lastIntervalUnit, lastResolutionUnit}
 use Rattle.definitions.specs.Define.{bitsLength}
-use Rattle.layout.specs.Frame.{widthIn, samplesOf}
+use Rattle.layout.specs.Frame.{widthIn, channelIn}
+use Rattle.there.specs.There.{thereIn}
+use Rattle.there.proofs.Places.{there-all}
 use Rattle.laid.specs.Laid.{Named, sampleBits}
 use Rattle.standing.specs.Standing.{octetsLimit, framesLimit}
 use Rattle.verdict.proofs.Every.{Every}
@@ -31,7 +33,7 @@ use Rattle.canonical.specs.Write.{recordingOf, canonicalOf}
 use Rattle.canonical.proofs.Good.{GoodScale, GoodReported, AllReported, GoodRecorded, AllRecorded}
 use Rattle.canonical.proofs.Effects.{width-good}
 use Rattle.canonical.proofs.Recordings.{all-agree, reported-again}
-use Rattle.canonical.proofs.Accepted.{tabulate-at, frame-recorded}
+use Rattle.canonical.proofs.Accepted.{tabulate-length, tabulate-at, frame-recorded}
 use Rattle.canonical.proofs.ReadBack.{Reads, read-back}
 use Rattle.maker.specs.Given.{GivenScale, Given, givenAt, lastCode, lastMantissa, within, naturalOf, widthGiven, scaleInTable, bitsFit, noNull, numbersInTable, bitsInTable, inTable, allInTable, scaleMade, bitsMade, nullMade, settingsMade}
 use Rattle.maker.specs.Make.{Making, settingsFit, samplesFit, channelsIn, frameMade, recordMade}
@@ -39,7 +41,7 @@ use Rattle.maker.proofs.Numbers.{within-low, within-high, exponent-small}
 use Rattle.maker.proofs.Channels.{numbers-split, ScaleFits, scale-split, row-split, fit-at, made-long, made-at}
 use Rattle.maker.proofs.Makes.{frame-split, settings-split, made-lies, made-waveform}
 use Rattle.theorems.specs.Told.{zeroRecorded}
-use Rattle.theorems.specs.Making.{MadeFrame, AllMade, concatenated, fileOf, ScaleSays, ChannelSays, WentIn, noMaking, ReadsBack}
+use Rattle.theorems.specs.Making.{MadeFrame, AllMade, concatenated, fileOf, ScaleSays, ChannelSays, AllThere, WentIn, noMaking, ReadsBack}
 use Rattle.theorems.proofs.Canonical.{recording-is, recording-long}
 use Rattle.theorems.proofs.Allowed.{allowed-by, samples-by, bits-by, none-by, made-exactly}
 
@@ -153,7 +155,7 @@ module _ (m : Making) (s : settingsFit m ≡ true) (f : samplesFit m ≡ true) (
         start = m .start;
         sequences = m .sequences;
         channels = channelsIn m;
-        samples = tabulate (length (channelsIn m)) (λ c. tabulate (samplesOf c (frameMade m)) (sampleBits (frameMade m) c));
+        samples = tabulate (length (channelsIn m)) (λ c. tabulate (thereIn c (frameMade m)) (sampleBits (frameMade m) c));
       }
 
   plain-is : recordMade m ≡ plain
@@ -204,12 +206,24 @@ module _ (m : Making) (s : settingsFit m ≡ true) (f : samplesFit m ≡ true) (
   abbrev made : Recorded
   made = plain m s f o
 
+  -- All samples are there.
+  there-in : (c : ℕ) → c < length (channelsIn m) → thereIn c (frameMade m) ≡ m .sequences * channelIn c (channelsIn m) .block
+  unfolding thereIn
+  there-in c h = there-all (channelsIn m) (made-lies m s f .wide) (m .sequences) (length (m .samples)) (omega (arith, samples-by m .0 f)) c h
+
+  samples-in : (c : ℕ) → c < length (channelsIn m) → getD (made .samples) c [] ≡ tabulate (thereIn c (frameMade m)) (sampleBits (frameMade m) c)
+  unfolding plain
+  samples-in c h = tabulate-at (length (channelsIn m)) (λ k. tabulate (thereIn k (frameMade m)) (sampleBits (frameMade m) k)) c [] h
+
+  all-there : AllThere made
+  unfolding plain
+  all-there c h = rw (samples-in c h) (tabulate-length (thereIn c (frameMade m)) (sampleBits (frameMade m) c) ∙ there-in c h)
+
   -- The bits of a sample.
   bits-in : (c n : ℕ) → Named (channelsIn m) (m .sequences) c n → getD (getD (made .samples) c []) n 0 ≡ sampleBits (frameMade m) c n
-  unfolding plain samplesOf
   bits-in c n h =
-      rw (tabulate-at (length (channelsIn m)) (λ k. tabulate (samplesOf k (frameMade m)) (sampleBits (frameMade m) k)) c [] (h .channel))
-      (tabulate-at (samplesOf c (frameMade m)) (sampleBits (frameMade m) c) n 0 (h .number))
+      rw (samples-in c (h .channel))
+      (tabulate-at (thereIn c (frameMade m)) (sampleBits (frameMade m) c) n 0 (omega (arith, there-in c (h .channel), h .number)))
 
   plain-went : WentIn m made
   unfolding plain sampleBits
@@ -221,6 +235,7 @@ module _ (m : Making) (s : settingsFit m ≡ true) (f : samplesFit m ≡ true) (
         settings = λ c h.
             rw (made-at (m .channels) (m .numbers) (m .bits) c h)
             (channel-says (givenAt (m .numbers) (m .bits) c) (fit-at (m .channels) (givenAt (m .numbers) (m .bits)) (settings-split m s .1) c h));
+        there = all-there;
         bits = bits-in;
         waveform = ap waveformOf (sym (plain-is m s f o)) ∙ made-waveform m s f o;
       }

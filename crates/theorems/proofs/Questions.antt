@@ -4,13 +4,14 @@
 --     limit-exactly, limit-place    15 comes first
 --     ByChannel, by-channel    on an accepted file a question that names a channel answers 20, 21, or what is asked for
 --     BySample, by-sample      one that names a sample answers 20, 21, 22, or what is asked for
---     attributes-answered, channel-answered, sample-answered, place-answered, samples-answered, values-answered    so each question
+--     attributes-answered, channel-answered, there-answered, sample-answered, place-answered, samples-answered, values-answered    so each question
 --     same-place         the questions for a place and for a sample answer the same place
 -- Assumes nothing.
 use Prim.Native.Nat.{ℕ, _-_, _≤_, _<_, min}
 use mathlib.Core.Path.{_≡_, refl, ap, _∙_}
 use mathlib.Core.Logic.{_↔_, _⊎_, inl, inr}
 use mathlib.Core.List.{List}
+use mathlib.Core.Option.{Option, none, some}
 use mathlib.Core.Bool.{Bool, true, false}
 use native.Mathlib.Omega.{arith}
 use borrow.Author.Tests.{ltb-true, ltb-false, lt-ltb, le-ltb}
@@ -28,11 +29,13 @@ use Rattle.reader.proofs.Never.{only-limit}
 use Rattle.reader.proofs.Checks.{check-refused}
 use Rattle.reader.proofs.Order.{sample-both}
 use Rattle.pass.specs.Scan.{zeroFrame}
+use Rattle.view.specs.declared.View.{View}
 use Rattle.view.specs.View.{viewOf}
-use Rattle.reader.specs.Answer.{FoundSample, FoundPlace, foundPlace, asked, askedSample, attributesIn, attributesOf, sampleIn, sampleOf, seenOf, placedOf}
+use Rattle.reader.specs.Answer.{FoundSample, foundSample, noData, FoundPlace, foundPlace, ifThere, asked, askedSample, attributesIn, attributesOf, sampleIn, sampleOf, seenOf, placedOf}
 use Rattle.values.specs.Sample.{Said}
+use Rattle.there.specs.There.{thereIn}
 use Rattle.strides.specs.Laying.{bitsFrom}
-use Rattle.bulk.specs.Samples.{readOf, valuesBy, valuesOf}
+use Rattle.bulk.specs.Samples.{thereAt, readOf, valuesBy, valuesOf}
 use Rattle.laid.specs.Laid.{sampleBits}
 
 -- ---- three tests
@@ -200,13 +203,17 @@ module _ {A : Type 0} (g : Frame → A) (v : Verdict) (fs : List Frame) (e : v �
 
 -- ---- the questions
 
--- The bits of samples n and on of channel c of a frame, as many as there is room for or as there are.
+-- The bits of samples n and on of channel c of a frame, as many as there is room for or are there.
 abbrev pub bitsRead : ℕ → ℕ → ℕ → Frame → List ℕ
-bitsRead c n room f = bitsFrom (sampleBits f c) n (min room (samplesOf c f - n))
+bitsRead c n room f = bitsFrom (sampleBits f c) n (min room (thereIn c f - n))
 
 -- Their values.
 abbrev pub valuesRead : ℕ → ℕ → ℕ → Frame → List Said
 valuesRead c n room f = valuesBy (channelIn c (f .channels)) (bitsRead c n room f)
+
+-- The place of sample n of channel c of a frame, with its channel; none where it is not there.
+abbrev pub placeRead : ℕ → ℕ → Frame → Option FoundPlace
+placeRead c n f = ifThere c n f (some (foundPlace (placeOf c n f) (viewOf c f))) none
 
 module _ (s : List ℕ) (fs : List Frame) (e : verdict s ≡ accepted fs) (i c : ℕ) where
   pub attributes-answered : ByChannel (attributesOf s i c) (attributesIn c) fs i c
@@ -217,14 +224,18 @@ module _ (s : List ℕ) (fs : List Frame) (e : verdict s ≡ accepted fs) (i c :
   unfolding seenOf
   channel-answered = by-channel (viewOf c) (verdict s) fs e i c
 
+  pub there-answered : ByChannel (thereAt s i c) (thereIn c) fs i c
+  unfolding thereAt
+  there-answered = by-channel (thereIn c) (verdict s) fs e i c
+
   module _ (n : ℕ) where
     pub sample-answered : BySample (sampleOf s i c n) (sampleIn c n) fs i c n
     unfolding sampleOf
     sample-answered = by-sample (sampleIn c n) (verdict s) fs e i c n
 
-    pub place-answered : BySample (placedOf s i c n) (λ f. foundPlace (placeOf c n f) (viewOf c f)) fs i c n
+    pub place-answered : BySample (placedOf s i c n) (placeRead c n) fs i c n
     unfolding placedOf
-    place-answered = by-sample (λ f. foundPlace (placeOf c n f) (viewOf c f)) (verdict s) fs e i c n
+    place-answered = by-sample (placeRead c n) (verdict s) fs e i c n
 
     pub samples-answered : (room : ℕ) → BySample (readOf s i c n room) (bitsRead c n room) fs i c n
     unfolding readOf
@@ -234,8 +245,18 @@ module _ (s : List ℕ) (fs : List Frame) (e : verdict s ≡ accepted fs) (i c :
     unfolding valuesOf
     values-answered room = by-sample (valuesRead c n room) (verdict s) fs e i c n
 
+-- The place that is told of a sample: 0 where it is not there.
+abbrev pub placeTold : Option FoundPlace → ℕ
+placeTold (some x) = x .place
+placeTold none = 0
+
 -- The questions for a place and for a sample answer the same place, or the same refusal.
-pub same-place : (s : List ℕ) (i c n : ℕ) → mapAnswer (λ x. x .place) (placedOf s i c n) ≡ mapAnswer (λ x. x .place) (sampleOf s i c n)
+pub same-place : (s : List ℕ) (i c n : ℕ) → mapAnswer placeTold (placedOf s i c n) ≡ mapAnswer (λ x. x .place) (sampleOf s i c n)
 unfolding placedOf sampleOf sampleIn
 same-place s i c n =
-    sample-both (λ x y. mapAnswer (λ (z : FoundPlace). z .place) x ≡ mapAnswer (λ (z : FoundSample). z .place) y) (λ number place. refl) i c _ _ n (verdict s) (λ fs e h k l. refl)
+    sample-both (λ x y. mapAnswer placeTold x ≡ mapAnswer (λ (z : FoundSample). z .place) y) (λ number place. refl) i c _ _ n (verdict s)
+    (λ fs e h k l. ap answered (by _ _ _ _ _))
+  where
+    by : (t : Bool) (p b : ℕ) (v : View) (x : Said) → placeTold (pick t (some (foundPlace p v)) none) ≡ pick t (foundSample p b x) noData .place
+    by true p b v x = refl
+    by false p b v x = refl

@@ -1,4 +1,4 @@
--- All samples of a frame, read by the words of a walk, are those that the questions tell.
+-- All samples there of a frame, read by the words of a walk, are those that the questions tell.
 --     same-frames    the frames of an accepted file are its own
 --     held-there     words that tell of a frame of the file have a record for each of its channels
 --     swept-whole    what is read of the frame
@@ -11,17 +11,17 @@ use native.Mathlib.Omega.{arith}
 use borrow.Author.Tests.{le-leb}
 use lib.ListN.{length, take, drop, getD, length-take}
 use Rattle.octets.specs.Pick.{pick}
-use Rattle.octets.specs.Number.{Octets}
 use Rattle.heads.specs.Refusals.{noFrame}
 use Rattle.heads.specs.Answer.{answered, refusedAs}
-use Rattle.layout.specs.Frame.{Frame, samplesOf}
+use Rattle.layout.specs.Frame.{Frame}
+use Rattle.there.specs.There.{thereIn}
 use Rattle.laid.specs.Laid.{sampleBits}
 use Rattle.dated.specs.Dated.{held}
 use Rattle.dated.proofs.Refreshed.{held-long}
 use Rattle.words.specs.Words.{recordsIn, recordsHeld}
 use Rattle.words.proofs.Laws.{records-long}
 use Rattle.spread.specs.declared.Spread.{Spread}
-use Rattle.spread.specs.Spread.{countSpread, liesSpread, bitsSpread}
+use Rattle.spread.specs.Spread.{thereSpread, liesSpread, bitsSpread}
 use Rattle.strides.specs.Laying.{bitsFrom}
 use Rattle.strides.specs.Channels.{spreadAt, spreadsFrom, allLie, sweptBits, sweptOf}
 use Rattle.strides.proofs.Walks.{bits-same}
@@ -32,7 +32,7 @@ use Rattle.pass.specs.Scan.{zeroFrame}
 use Rattle.reader.specs.declared.LookedUp.{LookedUp}
 use Rattle.reader.specs.Answer.{asked, seenOf}
 use Rattle.reader.proofs.Order.{asked-found}
-use Rattle.reader.proofs.Answers.{Located, located, frameIn, count-seen, located-lies, bits-seen}
+use Rattle.reader.proofs.Answers.{Located, located, frameIn, there-seen, located-lies, bits-seen}
 use Rattle.canonical.specs.Write.{framesIn}
 use Rattle.walk.specs.declared.Waveform.{Waveform}
 use Rattle.walk.specs.declared.Step.{Step}
@@ -59,7 +59,7 @@ held-there {v = v} {x = x} p g =
     let all = held-long (recordsIn (drop headWords v)) ∙ records-long (drop headWords v) in
     sym (frame-held v (walked-room p g) (λ e. omega (arith, walked-some p g, walked-counts p g .channels, n, e))) ∙ le-leb (waveformIn v .channels) (recordsHeld (drop headWords v)) (omega (arith, n, long, all))
 
-module _ (s : List ℕ) (o : Octets s) (i : ℕ) (w : List ℕ) (there : holdsFrame w ≡ true) (same : (c : ℕ) → viewIn w c ≡ seenOf s i c) where
+module _ (s : List ℕ) (i : ℕ) (w : List ℕ) (there : holdsFrame w ≡ true) (same : (c : ℕ) → viewIn w c ≡ seenOf s i c) where
   abbrev many : ℕ
   many = waveformIn w .channels
 
@@ -83,15 +83,15 @@ module _ (s : List ℕ) (o : Octets s) (i : ℕ) (w : List ℕ) (there : holdsFr
 
   lies : (c : ℕ) → c < many → liesSpread (length s) (spread c) ≡ true
   unfolding liesIn
-  lies c h = located-lies (found c h) o
+  lies c h = located-lies (found c h)
 
-  count : (c : ℕ) → c < many → countSpread (spread c) ≡ samplesOf c frame
-  count c h = count-seen (found c h) ∙ ap (samplesOf c) (same-frame c h)
+  count : (c : ℕ) → c < many → thereSpread (spread c) ≡ thereIn c frame
+  count c h = there-seen (found c h) ∙ ap (thereIn c) (same-frame c h)
 
-  bits : (c : ℕ) → c < many → bitsFrom (bitsSpread s (spread c)) 0 (countSpread (spread c)) ≡ bitsFrom (sampleBits frame c) 0 (samplesOf c frame)
+  bits : (c : ℕ) → c < many → bitsFrom (bitsSpread s (spread c)) 0 (thereSpread (spread c)) ≡ bitsFrom (sampleBits frame c) 0 (thereIn c frame)
   unfolding placeSeen
   bits c h =
-      bits-same (bitsSpread s (spread c)) (sampleBits frame c) 0 0 (countSpread (spread c)) (λ j l. bits-seen (found c h) {n = 0 + j} (omega arith) ∙ ap (λ (f : Frame). sampleBits f c (0 + j)) (same-frame c h))
+      bits-same (bitsSpread s (spread c)) (sampleBits frame c) 0 0 (thereSpread (spread c)) (λ j l. bits-seen (found c h) {n = 0 + j} (omega arith) ∙ ap (λ (f : Frame). sampleBits f c (0 + j)) (same-frame c h))
       ∙ ap (bitsFrom (sampleBits frame c) 0) (count c h)
 
   all-lie : (k n : ℕ) → k + n ≤ many → allLie (length s) (spreadsFrom (drop headWords w) (sequencesBy (waveformIn w)) k n) ≡ true

@@ -6,27 +6,33 @@ use Prim.Native.Nat.{ℕ, _≤_, _<_}
 use mathlib.Core.Path.{_≡_, refl, sym, ap, _∙_}
 use mathlib.Core.Logic.{_↔_}
 use mathlib.Core.List.{List, []}
+use mathlib.Core.Option.{Option, none, some}
 use mathlib.Core.Bool.{Bool, true, false}
 use native.Mathlib.Omega.{arith}
 use native.Mathlib.Decide.{decLt}
-use borrow.Author.Tests.{ltb-true, lt-ltb, le-ltb}
+use borrow.Author.Tests.{ltb-true, lt-ltb, le-ltb, ne-eqb}
 use lib.Dec.{ltb}
 use lib.ListN.{length, getD, length-map}
 use lib.Seq.{ext-getD}
 use Rattle.octets.specs.Pick.{pick}
+use Rattle.values.specs.Sample.{noDataSaid, valueOf}
+use Rattle.values.proofs.Exact.{value-some}
 use Rattle.heads.specs.Refusals.{noFrame, noChannel, noSample}
 use Rattle.heads.specs.Answer.{Answer, answered, refusedAs, mapAnswer}
 use Rattle.settings.specs.Settings.{zeroSettings}
-use Rattle.layout.specs.Frame.{Frame, samplesOf, reported}
+use Rattle.layout.specs.Frame.{Frame, channelIn, samplesOf, placeOf, reported}
+use Rattle.there.specs.There.{isThere, thereIn}
+use Rattle.there.proofs.Places.{there-few}
 use Rattle.laid.specs.Laid.{sampleBits}
 use Rattle.verdict.specs.Verdict.{Verdict, accepted, verdict, checkedAs, checkOf}
 use Rattle.reader.specs.declared.Attributes.{Attributes}
-use Rattle.reader.specs.Answer.{FoundSample, asked, askedSample, attributesIn, attributesOf, sampleIn, sampleOf}
-use Rattle.reader.proofs.Ordered.{accepted-lies}
+use Rattle.reader.specs.Answer.{foundSample, noData, asked, askedSample, attributesIn, attributesOf, sampleIn, sampleOf}
+use Rattle.reader.proofs.Ordered.{Lies, accepted-lies}
+use Rattle.reader.proofs.There.{test-there}
 use Rattle.canonical.specs.Recording.{Recorded, tabulate, recordedFrame, recording}
 use Rattle.canonical.specs.Write.{recordingOf}
 use Rattle.canonical.proofs.Accepted.{tabulate-length, tabulate-at, map-at}
-use Rattle.theorems.specs.Told.{zeroRecorded, frameRecorded, attributesRecorded, samplesRecorded, said, channelSaid, channelTold, attributesTold, bitsTold}
+use Rattle.theorems.specs.Told.{zeroRecorded, frameRecorded, attributesRecorded, samplesRecorded, declaredRecorded, bitsSaid, said, channelSaid, channelTold, attributesTold, bitsFound, bitsTold}
 use Rattle.theorems.proofs.Questions.{frameNumber}
 use Rattle.theorems.proofs.Canonical.{recording-is, recording-long}
 
@@ -34,7 +40,7 @@ use Rattle.theorems.proofs.Canonical.{recording-is, recording-long}
 pub record RecordingTold (s : List ℕ) : Type 0 where
   pub count : checkOf s ≡ answered (length (recordingOf s))
   pub attributes : (i c : ℕ) → attributesOf s i c ≡ attributesTold (recordingOf s) i c
-  pub bits : (i c n : ℕ) → mapAnswer (λ x. x .bits) (sampleOf s i c n) ≡ bitsTold (recordingOf s) i c n
+  pub bits : (i c n : ℕ) → mapAnswer bitsFound (sampleOf s i c n) ≡ bitsTold (recordingOf s) i c n
 
 -- ---- an entry
 
@@ -66,20 +72,56 @@ module _ (f : Frame) where
     unfolding attributesIn recordedFrame
     attributes-recorded = rw (length-map, map-at reported (f .channels) c zeroSettings zeroSettings h)
 
-    samples-recorded : samplesRecorded c (recordedFrame f) ≡ tabulate (samplesOf c f) (sampleBits f c)
+    samples-recorded : samplesRecorded c (recordedFrame f) ≡ tabulate (thereIn c f) (sampleBits f c)
     unfolding recordedFrame
-    samples-recorded = tabulate-at (length (f .channels)) (λ k. tabulate (samplesOf k f) (sampleBits f k)) c [] h
+    samples-recorded = tabulate-at (length (f .channels)) (λ k. tabulate (thereIn k f) (sampleBits f k)) c [] h
 
--- An entry with a channel, and with samples for each channel.
+    declared-recorded : declaredRecorded c (recordedFrame f) ≡ samplesOf c f
+    unfolding recordedFrame samplesOf reported
+    declared-recorded = rw (map-at reported (f .channels) c zeroSettings zeroSettings h)
+
+    -- What is answered of a declared sample is what its entry says.
+    module _ (s : List ℕ) (l : Lies s f) (n : ℕ) (k : n < samplesOf c f) where
+      there : isThere (f .channels) (length (f .waveform)) c n ≡ ltb n (thereIn c f)
+      unfolding samplesOf
+      there = sym (test-there s f l (record { channel = h; number = k }))
+
+      bits-recorded : bitsFound (sampleIn c n f) ≡ bitsSaid (samplesRecorded c (recordedFrame f)) n
+      unfolding sampleIn
+      bits-recorded = rw (there, samples-recorded, tabulate-length) (by (ltb n (thereIn c f)) refl)
+        where
+          by : (t : Bool) → ltb n (thereIn c f) ≡ t
+              → let x = channelIn c (f .channels) in bitsFound (pick t (foundSample (placeOf c n f) (sampleBits f c n) (valueOf (x .datatype) (x .null) (sampleBits f c n))) noData) ≡ pick t (some (getD (tabulate (thereIn c f) (sampleBits f c)) n 0)) none
+          by true e =
+              let x = channelIn c (f .channels) in
+              let z : valueOf (x .datatype) (x .null) (sampleBits f c n) .kind ≡ noDataSaid .kind → ⊥ = λ q. omega (arith, value-some (x .datatype) (x .null) (sampleBits f c n)) in
+              rw (ne-eqb _ _ z) (ap some (sym (tabulate-at (thereIn c f) (sampleBits f c) n 0 (ltb-true n (thereIn c f) e))))
+          by false e = refl
+
+-- An entry with a channel, and with samples for each channel, no more than are declared.
 record Shaped (r : Recorded) : Type 0 where
-  some : 0 < length (r .channels)
+  first : 0 < length (r .channels)
   counted : length (r .samples) ≡ length (r .channels)
+  few : (c : ℕ) → c < length (r .channels) → length (samplesRecorded c r) ≤ declaredRecorded c r
+
+-- Its lists are as many as its channels, and no sample is there that is not declared.
+counted-in : (f : Frame) → length (recordedFrame f .samples) ≡ length (f .channels)
+unfolding recordedFrame
+counted-in f = tabulate-length (length (f .channels)) _
+
+least : (f : Frame) (c : ℕ) → thereIn c f ≤ samplesOf c f
+unfolding thereIn samplesOf
+least f c = there-few (f .channels) (f .sequences) (length (f .waveform)) c
 
 frame-shaped : (f : Frame) → 0 < length (f .channels) → Shaped (recordedFrame f)
-unfolding recordedFrame
 frame-shaped f h =
-    let k = length-map (f .channels) reported in
-    record { some = omega arith; counted = tabulate-length (length (f .channels)) _ ∙ sym k }
+    record {
+      first = omega (arith, channels-recorded f);
+      counted = counted-in f ∙ sym (channels-recorded f);
+      few = λ c k.
+          let l : c < length (f .channels) = omega (arith, channels-recorded f) in
+          rw (samples-recorded f c l, tabulate-length, declared-recorded f c l) (least f c);
+    }
 
 -- ---- an accepted file
 
@@ -94,26 +136,26 @@ module _ (s : List ℕ) (fs : List Frame) (e : verdict s ≡ accepted fs) where
 
   -- What is asked of a channel of the file and of its recording, where the answers agree.
   frame-told : {A : Type 0} (i c : ℕ) (x : Answer A) (g : Recorded → Answer A)
-      → (c < length (frameNumber fs i .channels) → x ≡ g (recordedFrame (frameNumber fs i)))
+      → (i < length fs → c < length (frameNumber fs i .channels) → x ≡ g (recordedFrame (frameNumber fs i)))
       → pick (ltb i (length fs)) (pick (ltb c (length (frameNumber fs i .channels))) x (refusedAs noChannel 0)) (refusedAs noFrame 0) ≡ channelTold g (recordingOf s) i c
   frame-told i c x g h =
-      rw as-long (under (ltb i (length fs)) _ _ _ (λ t. rw (entry-is i (ltb-true i (length fs) t)) (channel-recorded (frameNumber fs i) c x g h)))
+      rw as-long (under (ltb i (length fs)) _ _ _ (λ t. rw (entry-is i (ltb-true i (length fs) t)) (channel-recorded (frameNumber fs i) c x g (h (ltb-true i (length fs) t)))))
 
   attributes-told : (i c : ℕ) → attributesOf s i c ≡ attributesTold (recordingOf s) i c
   unfolding attributesOf attributesTold
   attributes-told i c =
       ap (asked (λ f. answered (attributesIn c f)) i c) e
-      ∙ frame-told i c _ (λ r. answered (attributesRecorded c r)) (λ h. ap answered (attributes-recorded (frameNumber fs i) c h))
+      ∙ frame-told i c _ (λ r. answered (attributesRecorded c r)) (λ k h. ap answered (attributes-recorded (frameNumber fs i) c h))
 
-  bits-told : (i c n : ℕ) → mapAnswer (λ x. x .bits) (sampleOf s i c n) ≡ bitsTold (recordingOf s) i c n
-  unfolding sampleOf sampleIn bitsTold
+  bits-told : (i c n : ℕ) → mapAnswer bitsFound (sampleOf s i c n) ≡ bitsTold (recordingOf s) i c n
+  unfolding sampleOf bitsTold
   bits-told i c n =
       let f = frameNumber fs i in
-      ap (λ (v : Verdict). mapAnswer (λ (x : FoundSample). x .bits) (askedSample (sampleIn c n) i c n v)) e
+      ap (λ (v : Verdict). mapAnswer bitsFound (askedSample (sampleIn c n) i c n v)) e
       ∙ simp map-pick
-      (frame-told i c _ (λ r. said (samplesRecorded c r) n) (λ h.
-      rw (samples-recorded f c h, tabulate-length)
-      (under (ltb n (samplesOf c f)) _ _ _ (λ w. ap answered (sym (tabulate-at (samplesOf c f) (sampleBits f c) n 0 (ltb-true n _ w)))))))
+      (frame-told i c _ (λ r. said (declaredRecorded c r) (samplesRecorded c r) n) (λ k h.
+      rw (declared-recorded f c h)
+      (under (ltb n (samplesOf c f)) _ _ _ (λ w. ap answered (bits-recorded f c h s (accepted-lies s fs e i k) n (ltb-true n _ w))))))
 
   count-told : checkOf s ≡ answered (length (recordingOf s))
   unfolding checkOf checkedAs
@@ -130,35 +172,36 @@ module _ (s : List ℕ) (fs : List Frame) (e : verdict s ≡ accepted fs) where
 
 -- ---- equal recordings
 
--- What a list says inside it, and past its end.
-said-there : (a : List ℕ) (n : ℕ) → n < length a → said a n ≡ answered (getD a n 0)
-said-there a n h = rw (lt-ltb n (length a) h)
+-- What samples say where they are there, and past the last of them.
+said-there : (d : ℕ) (a : List ℕ) (n : ℕ) → n < length a → length a ≤ d → said d a n ≡ answered (some (getD a n 0))
+said-there d a n h k = rw (lt-ltb n d (omega arith), lt-ltb n (length a) h)
 
-said-past : (a : List ℕ) (n : ℕ) → length a ≤ n → said a n ≡ refusedAs noSample 0
-said-past a n h = rw (le-ltb n (length a) h)
-
--- Lists that say the same are as long,
-no-longer : (a b : List ℕ) → ((n : ℕ) → said a n ≡ said b n) → length a < length b → ⊥
-no-longer a b same h =
-    let x = said-past a (length a) (omega arith) in
-    let y = said-there b (length a) h in
-    let z : _≡_ {A = ℕ} 0 1 = cc (same (length a)) in
-    omega arith
+-- Samples that say the same are as many,
+no-longer : (d g : ℕ) (a b : List ℕ) → length b ≤ g → ((n : ℕ) → said d a n ≡ said g b n) → length a < length b → ⊥
+no-longer d g a b k same h = by (ltb (length a) d) (sym (rw (le-ltb (length a) (length a) (omega arith)) at (same (length a))) ∙ refl) (said-there g b (length a) h k)
+  where
+    by : (t : Bool) → said g b (length a) ≡ pick t (answered none) (refusedAs noSample 0) → said g b (length a) ≡ answered (some (getD b (length a) 0)) → ⊥
+    by true p q = let z : _≡_ {A = ℕ} 0 1 = cc in omega arith
+    by false p q = let z : _≡_ {A = ℕ} 0 1 = cc in omega arith
 
 -- and equal.
-said-same : (a b : List ℕ) → ((n : ℕ) → said a n ≡ said b n) → a ≡ b
-said-same a b same = by (decLt (length a) (length b)) (decLt (length b) (length a))
+said-same : (d g : ℕ) (a b : List ℕ) → length a ≤ d → length b ≤ g → ((n : ℕ) → said d a n ≡ said g b n) → a ≡ b
+said-same d g a b k l same = by (decLt (length a) (length b)) (decLt (length b) (length a))
   where
     by : Dec (length a < length b) → Dec (length b < length a) → a ≡ b
-    by (yes h) k = absurd (no-longer a b same h)
-    by (no h) (yes k) = absurd (no-longer b a (λ n. sym (same n)) k)
-    by (no h) (no k) =
+    by (yes h) m = absurd (no-longer d g a b l same h)
+    by (no h) (yes m) = absurd (no-longer g d b a k (λ n. sym (same n)) m)
+    by (no h) (no m) =
         ext-getD 0 a b (omega arith)
-        (λ n l. let x = said-there a n l in let y = said-there b n (omega arith) in let z : answered (getD a n 0) ≡ answered (getD b n 0) = cc (same n) in cc)
+        (λ n j.
+        let x = said-there d a n j k in
+        let y = said-there g b n (omega arith) l in
+        let z : answered (some (getD a n 0)) ≡ answered (some (getD b n 0)) = cc (same n) in
+        cc)
 
 module _ (r q : Recorded) (x : Shaped r) (y : Shaped q)
     (attributes : (c : ℕ) → channelSaid (λ z. answered (attributesRecorded c z)) r c ≡ channelSaid (λ z. answered (attributesRecorded c z)) q c)
-    (bits : (c n : ℕ) → channelSaid (λ z. said (samplesRecorded c z) n) r c ≡ channelSaid (λ z. said (samplesRecorded c z) n) q c) where
+    (bits : (c n : ℕ) → channelSaid (λ z. said (declaredRecorded c z) (samplesRecorded c z) n) r c ≡ channelSaid (λ z. said (declaredRecorded c z) (samplesRecorded c z) n) q c) where
   there : {A : Type 0} (g : Recorded → Answer A) (z : Recorded) (c : ℕ) → c < length (z .channels) → channelSaid g z c ≡ g z
   there g z c h = rw (lt-ltb c (length (z .channels)) h)
 
@@ -170,7 +213,7 @@ module _ (r q : Recorded) (x : Shaped r) (y : Shaped q)
       cc
 
   same-count : length (r .channels) ≡ length (q .channels)
-  same-count = ap (λ (a : Attributes). a .channels) (same-attributes 0 (x .some) (y .some))
+  same-count = ap (λ (a : Attributes). a .channels) (same-attributes 0 (x .first) (y .first))
 
   same-settings : r .channels ≡ q .channels
   same-settings = ext-getD zeroSettings (r .channels) (q .channels) same-count (λ c h. ap (λ (a : Attributes). a .settings) (same-attributes c h (omega (arith, same-count))))
@@ -181,12 +224,13 @@ module _ (r q : Recorded) (x : Shaped r) (y : Shaped q)
       (λ c h.
       let i : c < length (r .channels) = omega (arith, x .counted) in
       let j : c < length (q .channels) = omega (arith, same-count, x .counted) in
-      said-same (samplesRecorded c r) (samplesRecorded c q)
-      (λ n. sym (there (λ z. said (samplesRecorded c z) n) r c i) ∙ bits c n ∙ there (λ z. said (samplesRecorded c z) n) q c j))
+      let g : ℕ → Recorded → Answer (Option ℕ) = λ n z. said (declaredRecorded c z) (samplesRecorded c z) n in
+      said-same (declaredRecorded c r) (declaredRecorded c q) (samplesRecorded c r) (samplesRecorded c q) (x .few c i) (y .few c j)
+      (λ n. sym (there (g n) r c i) ∙ bits c n ∙ there (g n) q c j))
 
   entry-same : r ≡ q
   entry-same =
-      let a = same-attributes 0 (x .some) (y .some) in
+      let a = same-attributes 0 (x .first) (y .first) in
       λ i. record { start = a i .start; sequences = a i .sequences; channels = same-settings i; samples = same-samples i }
 
 module _ (rs qs : List Recorded) (long : length rs ≡ length qs)
@@ -203,13 +247,13 @@ module _ (rs qs : List Recorded) (long : length rs ≡ length qs)
       let k : i < length qs = omega arith in
       entry-same (frameRecorded rs i) (frameRecorded qs i) (x i h) (y i k)
       (λ c. let g : Recorded → Answer Attributes = λ z. answered (attributesRecorded c z) in sym (found g rs i c h) ∙ attributes i c ∙ found g qs i c k)
-      (λ c n. let g : Recorded → Answer ℕ = λ z. said (samplesRecorded c z) n in sym (found g rs i c h) ∙ bits i c n ∙ found g qs i c k))
+      (λ c n. let g : Recorded → Answer (Option ℕ) = λ z. said (declaredRecorded c z) (samplesRecorded c z) n in sym (found g rs i c h) ∙ bits i c n ∙ found g qs i c k))
 
--- A reader is told the same of the files s and t: as many frames, the attributes of each channel in each frame, the bits of each sample.
+-- A reader is told the same of the files s and t: as many frames, the attributes of each channel in each frame, which samples are there, and the bits of each.
 pub record ToldSame (s t : List ℕ) : Type 0 where
   pub count : checkOf s ≡ checkOf t
   pub attributes : (i c : ℕ) → attributesOf s i c ≡ attributesOf t i c
-  pub bits : (i c n : ℕ) → mapAnswer (λ x. x .bits) (sampleOf s i c n) ≡ mapAnswer (λ x. x .bits) (sampleOf t i c n)
+  pub bits : (i c n : ℕ) → mapAnswer bitsFound (sampleOf s i c n) ≡ mapAnswer bitsFound (sampleOf t i c n)
 
 pub told-same : (s t : List ℕ) (fs gs : List Frame) → verdict s ≡ accepted fs → verdict t ≡ accepted gs → (recordingOf s ≡ recordingOf t) ↔ ToldSame s t
 told-same s t fs gs e g = (λ q. said-alike q, λ h. alike h)

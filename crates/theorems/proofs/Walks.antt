@@ -8,19 +8,19 @@ use mathlib.Core.List.{List, [], _∷_, _++_}
 use Prim.Native.Nat.{ℕ, zero, suc, _≤_, _<_}
 use native.Mathlib.Omega.{arith}
 use lib.ListN.{length, getD, length-append}
-use Rattle.octets.specs.Number.{Octets}
 use Rattle.heads.specs.declared.Refusal.{Refusal}
 use Rattle.heads.specs.Refusals.{noFrame}
 use Rattle.heads.specs.Answer.{Answer, answered, refusedAs, mapAnswer, thenAnswer}
 use Rattle.layout.specs.Frame.{Frame}
 use Rattle.view.specs.declared.View.{View}
+use Rattle.view.specs.View.{thereSeen}
 use Rattle.verdict.specs.Verdict.{accepted, verdict, checkedAs, checkOf}
 use Rattle.pass.specs.Scan.{zeroFrame}
 use Rattle.reader.specs.declared.LookedUp.{LookedUp}
 use Rattle.reader.specs.Answer.{attributesSeen, askedSample, seenOf}
 use Rattle.reader.proofs.Answers.{Located, located, described-is, unseen}
 use Rattle.bulk.specs.Samples.{readSeen, readOf, valuesSeen, valuesOf}
-use Rattle.bulk.proofs.Reading.{read-located, values-located}
+use Rattle.bulk.proofs.Reading.{there-is, read-located, values-located}
 use Rattle.walk.specs.declared.Step.{Step}
 use Rattle.walk.specs.Says.{stepSays}
 use Rattle.walk.specs.Joined.{frameBy}
@@ -56,15 +56,16 @@ module _ (s : List ℕ) (i c n : ℕ) {A : Type 0} (g : View → Answer A) (h : 
       let x : Refusal = record { number = number; place = place } in
       unseen h s i c n x {r = LookedUp.Refused x} e refl
 
-tells : (s : List ℕ) → Octets s → (i : ℕ) (w : List ℕ) → holdsFrame w ≡ true → ((c : ℕ) → viewIn w c ≡ seenOf s i c) → Tells s i w
+tells : (s : List ℕ) (i : ℕ) (w : List ℕ) → holdsFrame w ≡ true → ((c : ℕ) → viewIn w c ≡ seenOf s i c) → Tells s i w
 unfolding readOf valuesOf
-tells s o i w there same =
+tells s i w there same =
     record {
       channel = same;
       attributes = λ c. ap (mapAnswer attributesSeen) (same c) ∙ described-is s i c;
-      samples = λ c first room. seen-asked s i c first (λ v. readSeen s v first room) _ (λ v l. read-located o l first room) (viewIn w c) (same c);
-      values = λ c first room. seen-asked s i c first (λ v. valuesSeen s v first room) _ (λ v l. values-located o l first room) (viewIn w c) (same c);
-      whole = swept-whole s o i w there same;
+      there = λ c. ap (mapAnswer thereSeen) (same c) ∙ there-is s i c;
+      samples = λ c first room. seen-asked s i c first (λ v. readSeen s v first room) _ (λ v l. read-located l first room) (viewIn w c) (same c);
+      values = λ c first room. seen-asked s i c first (λ v. valuesSeen s v first room) _ (λ v l. values-located l first room) (viewIn w c) (same c);
+      whole = swept-whole s i w there same;
     }
 
 -- ---- frame after frame
@@ -74,7 +75,7 @@ abbrev LastTold : List ℕ → ℕ → List ℕ → Type 0
 LastTold s zero w = Unit {0}
 LastTold s (suc i) w = Tells s i w
 
-module _ (s : List ℕ) (o : Octets s) (fs : List Frame) (is : verdict s ≡ accepted fs) where
+module _ (s : List ℕ) (fs : List Frame) (is : verdict s ≡ accepted fs) where
   -- So many frames are met, and the words tell of the last.
   record Met (n : ℕ) (w : List ℕ) : Type 0 where
     met : List Frame
@@ -101,7 +102,7 @@ module _ (s : List ℕ) (o : Octets s) (fs : List Frame) (is : verdict s ≡ acc
           met = m .met ++ (frameBy s x (standIn v) ∷ []);
           long = length-append (m .met) (frameBy s x (standIn v) ∷ []) ∙ omega (arith, m .long);
           walked = walked-frame (m .walked) g;
-          last = tells s o n v (held-there (m .walked) g) (λ c. walked-seen (m .walked) g c ∙ ap (λ (i : ℕ). seenOf s i c) (m .long));
+          last = tells s n v (held-there (m .walked) g) (λ c. walked-seen (m .walked) g c ∙ ap (λ (i : ℕ). seenOf s i c) (m .long));
         }
     by-step Step.Ended g e = let z : ⊥ = omega arith in absurd z
     by-step (Step.Refused r) g e = absurd (walked-never (m .walked) g)

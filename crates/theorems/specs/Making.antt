@@ -24,7 +24,7 @@ use Rattle.canonical.specs.Write.{recordingOf, canonicalOf}
 use Rattle.numbers.specs.Numbers.{attributeNumbers, numbersOf, bitPairOf}
 use Rattle.maker.specs.Given.{GivenScale, Given, bitNumbers, givenAt, lastCode, lastMantissa, widthGiven}
 use Rattle.maker.specs.Make.{Making, making, lastSequences, channelsIn, recordMade, orderOctets, madeIn}
-use Rattle.theorems.specs.Told.{attributesRecorded, frameRecorded}
+use Rattle.theorems.specs.Told.{attributesRecorded, samplesRecorded, declaredRecorded, frameRecorded}
 
 -- ---- the table of attributes
 
@@ -123,12 +123,17 @@ pub record ChannelSays (c : Settings) (g : Given) : Type 0 where
   pub none : g .nullWidth ≡ pos 0 → c .null .width ≡ 0
   pub null : (g .nullWidth ≡ pos 0 → ⊥) → (c .null .width ≡ widthIn c) × (c .null .bits ≡ g .null)
 
+-- All declared samples of a frame of a recording are there.
+abbrev pub AllThere : Recorded → Type 0
+AllThere r = (c : ℕ) → c < length (r .channels) → length (samplesRecorded c r) ≡ declaredRecorded c r
+
 -- A frame of a recording is exactly what went in: each setting, and each bit of each sample.
 pub record WentIn (m : Making) (r : Recorded) : Type 0 where
   pub start : r .start ≡ m .start
   pub sequences : r .sequences ≡ m .sequences
   pub channels : length (r .channels) ≡ m .channels
   pub settings : (c : ℕ) → c < m .channels → ChannelSays (channelIn c (r .channels)) (givenAt (m .numbers) (m .bits) c)
+  pub there : AllThere r
   -- The bits of sample n of channel c are those of the octets that were handed over where document 01 places it.
   pub bits : (c n : ℕ) → Named (r .channels) (r .sequences) c n
       → getD (getD (r .samples) c []) n 0 ≡ numberOf false (take (widthIn (channelIn c (r .channels))) (drop (offsetOf (r .channels) c n) (m .samples)))
@@ -160,8 +165,11 @@ bitRowsOf r = concatenated (tabulate (length (r .channels)) (λ c. bitPairOf (at
 abbrev pub makingOf : Recorded → Making
 makingOf r = making (r .start) (r .sequences) (length (r .channels)) (rowsOf r) (bitRowsOf r) (waveformOf r)
 
--- The canonical file of the accepted file s is 01 01 00 and what the maker makes of each frame of its recording, piece by piece.
+-- The canonical file of the accepted file s is 01 01 00 and its frames, piece by piece; each whose declared samples are all there is what the maker makes of its
+-- recording, and of one that lacks samples the maker makes none: 25.
 pub record MadeAgain (s : List ℕ) : Type 0 where
   pub file : 0 < length (recordingOf s) → canonicalOf s ≡ fileOf (map frameOctets (recordingOf s))
-  pub frames : (i : ℕ) → i < length (recordingOf s) → (room : ℕ) → length (frameOctets (frameRecorded (recordingOf s) i)) ≤ room
+  pub frames : (i : ℕ) → i < length (recordingOf s) → AllThere (frameRecorded (recordingOf s) i) → (room : ℕ) → length (frameOctets (frameRecorded (recordingOf s) i)) ≤ room
       → madeIn room (makingOf (frameRecorded (recordingOf s) i)) ≡ answered (frameOctets (frameRecorded (recordingOf s) i))
+  pub lacking : (i : ℕ) → i < length (recordingOf s) → (AllThere (frameRecorded (recordingOf s) i) → ⊥) → (room : ℕ)
+      → madeIn room (makingOf (frameRecorded (recordingOf s) i)) ≡ refusedAs samplesLength 0

@@ -8,12 +8,12 @@ use lib.ListN.{length, getD, take, drop}
 use Rattle.octets.specs.Pick.{pick, both, either}
 use Rattle.octets.specs.Number.{bigFrom}
 use Rattle.heads.specs.declared.Refusal.{Refusal}
-use Rattle.heads.specs.Refusals.{contextTag, lengthOctet, pastEnd, longChannel, barredTag, unfitLength, unfitValue, channelNumber, compressed, unendedGroup, manyFrames, sampleWidth, startRange, shortWaveform}
+use Rattle.heads.specs.Refusals.{contextTag, lengthOctet, pastEnd, longChannel, barredTag, unfitLength, unfitValue, channelNumber, compressed, unendedGroup, manyFrames, sampleWidth, startRange}
 use Rattle.items.specs.declared.Within.{Within}
 use Rattle.items.specs.Walk.{refusal, isInside}
-use Rattle.layout.specs.Frame.{sequenceOctets, allAgree}
+use Rattle.layout.specs.Frame.{allAgree}
 use Rattle.standing.specs.Standing.{framesLimit}
-use Rattle.framing.specs.Framing.{sequencesOf, pointerFits}
+use Rattle.framing.specs.Framing.{pointerFits}
 use Rattle.verdict.specs.Verdict.{State, frameChannels}
 use Rattle.theorems.specs.Attributes.{among, entryOf}
 
@@ -104,16 +104,10 @@ uncounted x = eqb (x .standing .counted) 0
 abbrev pub given : List ℕ → Bool
 given v = not (eqb (length v) 0)
 
--- The waveform is shorter than sequences times G.
-abbrev pub isShort : State → List ℕ → Bool
-isShort x v =
-    let octets = sequenceOctets (frameChannels x) in
-    ltb (length v) (sequencesOf (x .standing .sequences) (length v) octets * octets)
-
 -- ---- the rows
 
 -- The rows of an item whose tag stands at a place, inside a group or not, in document 01's order: 1, 5, channel number (4 or 3 as met), 2, 3, then 9, 8, 6,
--- 7; at 1Eh 11, 12, 13, 14. In an ignored group only 1 to 5 are looked for. The place is the offset of the item's tag.
+-- 7; at 1Eh 11, 12, 13. 14 is retired (document 02, request 2). In an ignored group only 1 to 5 are looked for. The place is the offset of the item's tag.
 unfoldable pub itemRows : State → ℕ → Bool → ℕ → List ℕ → List Row
 itemRows x at inside tag u =
     let group = isGroup tag in
@@ -134,7 +128,6 @@ itemRows x at inside tag u =
     ∷ row manyFrames at (both frame (leb framesLimit (length (x .frames))))
     ∷ row sampleWidth at (both frame (not (allAgree (frameChannels x))))
     ∷ row startRange at (both frame (not (pointerFits (x .standing .start))))
-    ∷ row shortWaveform at (both frame (isShort x v))
     ∷ []
 
 -- 10: open group: file ends between two of its items. The place is the group's.

@@ -13,6 +13,7 @@ use native.Mathlib.Decide.{decLt}
 use lib.ListN.{length, take, drop, length-drop, length-take, drop-of-length-le}
 use lib.Seq.{take-nil, drop-nil, take-take, drop-drop}
 use borrow.Author.Tests.{le-leb, lt-leb}
+use Rattle.octets.proofs.Laws.{drop-take}
 use Rattle.runs.specs.Turned.{turned}
 use Rattle.settings.specs.declared.Settings.{Settings}
 use Rattle.layout.specs.Frame.{widthIn, blockOctets, sequenceOctets}
@@ -57,13 +58,6 @@ turned-enough cs (suc m) (suc k) y h l =
 
 -- ---- parts
 
--- What stands behind o in the first l octets.
-drop-first : (o l : ℕ) (u : List ℕ) → drop o (take l u) ≡ take (l - o) (drop o u)
-drop-first zero l u = let e : l - 0 ≡ l = omega arith in rw e
-drop-first (suc o) zero u = let e : 0 - suc o ≡ 0 = omega arith in rw e
-drop-first (suc o) (suc l) [] = sym (take-nil (suc l - suc o))
-drop-first (suc o) (suc l) (a ∷ u) = let e : suc l - suc o ≡ l - o = omega arith in rw e (drop-first o l u)
-
 -- Only the octets of the samples matter.
 turned-of : (w k l : ℕ) (x : List ℕ) → k * w ≤ l → turned w k (take l x) ≡ turned w k x
 unfolding turned
@@ -71,7 +65,7 @@ turned-of w zero l x h = refl
 turned-of w (suc k) l x h =
     let e : w ≤ l = omega (arith, suc-mul k w) in
     let r : k * w ≤ l - w = omega (arith, suc-mul k w) in
-    rw (take-take w l x e, drop-first w l x) (ap (λ (u : List ℕ). reverse (take w x) ++ u) (turned-of w k (l - w) (drop w x) r))
+    rw (take-take w l x e, drop-take w l x) (ap (λ (u : List ℕ). reverse (take w x) ++ u) (turned-of w k (l - w) (drop w x) r))
 
 -- Samples behind the last octet turn nothing.
 turned-short : (w j k : ℕ) (x : List ℕ) → j ≤ k → turned w k (take (j * w) x) ≡ turned w j x
@@ -81,7 +75,7 @@ turned-short w (suc j) zero x h = let z : ⊥ = omega arith in absurd z
 turned-short w (suc j) (suc k) x h =
     let e : w ≤ suc j * w = omega (arith, suc-mul j w) in
     let r : suc j * w - w ≡ j * w = omega (arith, suc-mul j w) in
-    rw (take-take w (suc j * w) x e, drop-first w (suc j * w) x, r) (ap (λ (u : List ℕ). reverse (take w x) ++ u) (turned-short w j k (drop w x) (omega arith)))
+    rw (take-take w (suc j * w) x e, drop-take w (suc j * w) x, r) (ap (λ (u : List ℕ). reverse (take w x) ++ u) (turned-short w j k (drop w x) (omega arith)))
 
 block-is : (c : Settings) → blockOctets c ≡ c .block * widthIn c
 unfolding blockOctets
@@ -116,7 +110,7 @@ part-turned (c ∷ cs) rest x = by (decLt rest (blockOctets c)) (part-turned cs 
         let w = widthIn c in
         let h : B ≤ rest = omega arith in
         let k : B + P - B ≡ P = omega arith in
-        rw (le-leb (blockOctets c) rest h, part-block c cs rest h, drop-first B (B + P) x, k, e, turned-of w (c .block) (B + P) x (omega (arith, block-is c)))
+        rw (le-leb (blockOctets c) rest h, part-block c cs rest h, drop-take B (B + P) x, k, e, turned-of w (c .block) (B + P) x (omega (arith, block-is c)))
 
 -- Whole sequences, and then the others.
 all-add : (cs : List Settings) (m k : ℕ) (x : List ℕ) → turnedAll cs (m + k) x ≡ turnedAll cs m x ++ turnedAll cs k (drop (m * sequenceOctets cs) x)
@@ -132,14 +126,14 @@ unfolding turnedSequence sequenceOctets
 sequence-of [] l x h = refl
 sequence-of (c ∷ cs) l x h =
     let B = blockOctets c in
-    rw (turned-of (widthIn c) (c .block) l x (omega (arith, block-is c)), drop-first B l x, sequence-of cs (l - B) (drop B x) (omega arith))
+    rw (turned-of (widthIn c) (c .block) l x (omega (arith, block-is c)), drop-take B l x, sequence-of cs (l - B) (drop B x) (omega arith))
 
 all-of : (cs : List Settings) (m l : ℕ) (x : List ℕ) → m * sequenceOctets cs ≤ l → turnedAll cs m (take l x) ≡ turnedAll cs m x
 unfolding turnedAll
 all-of cs zero l x h = refl
 all-of cs (suc m) l x h =
     let G = sequenceOctets cs in
-    rw (sequence-of cs l x (omega (arith, suc-mul m G)), drop-first G l x, all-of cs m (l - G) (drop G x) (omega (arith, suc-mul m G)))
+    rw (sequence-of cs l x (omega (arith, suc-mul m G)), drop-take G l x, all-of cs m (l - G) (drop G x) (omega (arith, suc-mul m G)))
 
 all-one : (cs : List Settings) (y : List ℕ) → turnedAll cs 1 y ≡ turnedSequence cs y
 unfolding turnedAll
@@ -175,7 +169,7 @@ module _ (cs : List Settings) (S long : ℕ) where
       let r : T - T / G * G ≡ T % G = omega (arith, div-add-mod' T G) in
       sym (turned-enough cs S (T / G + 1) (take T x) (omega (arith, there-declared cs S long)) (omega (arith, next-enough))
       ∙ all-add cs (T / G) 1 (take T x)
-      ∙ rw (all-of cs (T / G) T x (div-mul-le-self T G), drop-first (T / G * G) T x, r, part-turned cs (T % G) (drop (T / G * G) x), left-ends)
+      ∙ rw (all-of cs (T / G) T x (div-mul-le-self T G), drop-take (T / G * G) T x, r, part-turned cs (T % G) (drop (T / G * G) x), left-ends)
       (ap (λ (u : List ℕ). turnedAll cs (T / G) x ++ u) (all-one cs (take (T % G) (drop (T / G * G) x)))))
 
 -- ---- where all widths are one number

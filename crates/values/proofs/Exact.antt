@@ -1,5 +1,6 @@
 -- What a value keeps of its sample's bits.
 --     said-back     what a value says tells which value it is: nothing is lost
+--     value-some    no bits have no data for their value
 --     value-bits    a status, a single, a double and a float that is no number have exactly the sample's bits
 --     null-first, null-only    null is answered exactly where the bits are null's
 -- Assumes nothing.
@@ -18,7 +19,7 @@ use Rattle.values.specs.declared.Bits.{Bits}
 use Rattle.values.specs.declared.Value.{Value}
 use Rattle.values.specs.declared.Value.the-variants.{Whole, Status, Single, Double, NotNumber, Null, NoData}
 use Rattle.values.proofs.Laws.{type-cases, plain-other}
-use Rattle.values.specs.Sample.{Said, wholeSaid, nullSaid, valueSays, singleOf, doubleOf, plainOf, isNull, valueOf}
+use Rattle.values.specs.Sample.{Said, wholeSaid, nullSaid, noDataSaid, valueSays, singleOf, doubleOf, plainOf, isNull, valueOf}
 
 -- ---- what a value says
 
@@ -82,6 +83,12 @@ module _ (datatype : ℕ) (null : Bits) (bits : ℕ) where
       pick-cases (λ (x : Said). 0 < x .kind → x .kind < 5 → x .bits ≡ bits) (isNull null bits)
       (λ t l h. let z : ⊥ = omega arith in absurd z)
       (λ t l h. plain-has datatype bits .1 l)
+
+  -- No bits have no data for their value.
+  pub value-some : valueOf datatype null bits .kind < noDataSaid .kind
+  unfolding valueOf
+  value-some =
+      pick-cases (λ (x : Said). x .kind < noDataSaid .kind) (isNull null bits) (λ t. omega arith) (λ t. omega (arith, plain-has datatype bits .0))
 
   -- Null is answered where the sample's bits are null's, and nowhere else.
   pub null-first : isNull null bits ≡ true → valueOf datatype null bits ≡ nullSaid

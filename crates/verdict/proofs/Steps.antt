@@ -1,6 +1,5 @@
 -- What an item may do to what stands between two items, as one list of cases.
 --     defined-gives    a definition goes back to what stands, or has a value in its range
---     number-first     the number of the first octets is one of their width
 --     effect-asks, waveform-found, waveform-long    what an item may ask for, and that a frame's waveform is an item's value
 --     framed-gives, taken-found    what a waveform that is taken tells
 --     meaning-steps, meaning-refused    what an item that is not refused does, and the number of one that is
@@ -10,14 +9,14 @@ use mathlib.Core.Path.{_≡_, refl, subst, sym, _∙_}
 use mathlib.Core.List.{List, [], _∷_, _++_, append-nil}
 use mathlib.Core.Bool.{Bool, true, not}
 use Prim.Native.Nat.{ℕ, _≤_, _<_}
-use native.Mathlib.Nat.{lt-of-lt-of-le, min-eq-left, min-le-right}
+use native.Mathlib.Nat.{min-eq-left, min-le-right}
 use native.Mathlib.Omega.{arith}
 use borrow.Author.Tests.{ltb-false, leb-false, eqb-false, not-false}
 use lib.Dec.{ltb, leb, eqb}
 use lib.IntN.{ℤ}
 use lib.ListN.{length, getD, take, drop, replicate, length-take, length-drop}
 use Rattle.octets.specs.Number.{Octets, range, numberOf}
-use Rattle.octets.proofs.Laws.{take-octets, drop-octets, take-length-le, cap, number-below}
+use Rattle.octets.proofs.Laws.{number-first, take-octets, drop-octets}
 use Rattle.octets.proofs.Pick.{pick-cases}
 use Rattle.items.specs.declared.Item.{Item}
 use Rattle.items.specs.declared.Item.the-variants.{Plain}
@@ -76,10 +75,6 @@ pub record Waveform (s : List ℕ) (i : Item) (start long : ℕ) : Type 0 where
   pub len : ℕ
   pub item : i ≡ Plain place tag start len
   pub counts : long ≡ length (valueAt s start len)
-
--- The number of the first octets is one of their width.
-pub number-first : (little : Bool) (v : List ℕ) → Octets v → (n : ℕ) → numberOf little (take n v) < range n
-number-first little v octets n = lt-of-lt-of-le (number-below little (take n v) (take-octets n v octets)) (cap (length (take n v)) n (take-length-le n v))
 
 -- A number of four octets, where the file's numbers are octets.
 abbrev pub Small : List ℕ → ℕ → Type 0
