@@ -217,7 +217,7 @@ all-there cs wide S long a = by (decLt (thereOctets cs S long) (samplesOctets cs
     by (yes l) =
         let k = offset-covers cs S (thereOctets cs S long) l in
         let h = k .named in
-        let inside = there-counted h (wide (k .channel) (h .channel)) .1 (omega (arith, a (k .channel) (h .channel), h .number)) in
+        let inside = there-counted {long = long} h (wide (k .channel) (h .channel)) .1 (omega (arith, a (k .channel) (h .channel), h .number)) in
         let z : ⊥ = omega (arith, k .place, k .inside, there-ends cs S long (k .channel) (k .n) h .0 inside) in
         absurd z
     by (no l) = omega (arith, there-declared cs S long)

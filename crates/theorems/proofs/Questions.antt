@@ -32,8 +32,8 @@ use Rattle.pass.specs.Scan.{zeroFrame}
 use Rattle.view.specs.declared.View.{View}
 use Rattle.view.specs.View.{viewOf}
 use Rattle.reader.specs.Answer.{FoundSample, foundSample, noData, FoundPlace, foundPlace, ifThere, asked, askedSample, attributesIn, attributesOf, sampleIn, sampleOf, seenOf, placedOf}
-use Rattle.values.specs.Sample.{Said}
-use Rattle.there.specs.There.{thereIn}
+use Rattle.values.specs.Sample.{Said, valueOf}
+use Rattle.there.specs.There.{isThere, thereIn}
 use Rattle.strides.specs.Laying.{bitsFrom}
 use Rattle.bulk.specs.Samples.{thereAt, readOf, valuesBy, valuesOf}
 use Rattle.laid.specs.Laid.{sampleBits}
@@ -255,7 +255,10 @@ pub same-place : (s : List ℕ) (i c n : ℕ) → mapAnswer placeTold (placedOf 
 unfolding placedOf sampleOf sampleIn
 same-place s i c n =
     sample-both (λ x y. mapAnswer placeTold x ≡ mapAnswer (λ (z : FoundSample). z .place) y) (λ number place. refl) i c _ _ n (verdict s)
-    (λ fs e h k l. ap answered (by _ _ _ _ _))
+    (λ fs e h k l.
+    let f = frameNumber fs i in
+    let x = channelIn c (f .channels) in
+    ap answered (by (isThere (f .channels) (length (f .waveform)) c n) (placeOf c n f) (sampleBits f c n) (viewOf c f) (valueOf (x .datatype) (x .null) (sampleBits f c n))))
   where
     by : (t : Bool) (p b : ℕ) (v : View) (x : Said) → placeTold (pick t (some (foundPlace p v)) none) ≡ pick t (foundSample p b x) noData .place
     by true p b v x = refl

@@ -1,23 +1,47 @@
 -- The requests of document 02, over the definitions that the contracts cite. What they add to the demands stands in Demands.
 --     request-one     making files from the bench recorder
+--     request-two     cut-off recordings are worth having
 -- Assumes nothing.
 use Prim.Native.Nat.{ℕ, _≤_, _<_}
 use mathlib.Core.Path.{_≡_, refl, sym, ap, _∙_}
-use mathlib.Core.Logic.{_⊎_, inl, inr}
+use mathlib.Core.Logic.{_↔_, _⊎_, inl, inr}
+use mathlib.Core.Bool.{Bool}
 use mathlib.Core.List.{List}
 use native.Mathlib.Omega.{arith}
-use lib.ListN.{length, take, drop}
+use lib.ListN.{length, getD, take, drop}
 use lib.Seq.{take-append-seam, drop-append-seam}
-use Rattle.heads.specs.Refusals.{noRoom, settingRange, samplesLength}
+use Rattle.values.specs.Sample.{nullSaid, noDataSaid}
+use Rattle.heads.specs.Refusals.{shortWaveform, noRoom, settingRange, samplesLength}
 use Rattle.heads.specs.Answer.{Answer, answered, refusedAs, mapAnswer, leftBy}
-use Rattle.standing.specs.Standing.{octetsLimit, framesLimit}
-use Rattle.canonical.specs.Canonical.{frameOctets, canonical}
+use Rattle.items.specs.Walk.{refusal}
+use Rattle.layout.specs.Frame.{Frame, offsetOf}
+use Rattle.laid.specs.Laid.{Named, sampleBits}
+use Rattle.there.specs.There.{endOf, thereIn, octetsThere, There}
+use Rattle.there.proofs.Places.{there-first}
+use Rattle.standing.specs.declared.Standing.{Standing}
+use Rattle.standing.specs.Standing.{octetsLimit, framesLimit, withContinued}
+use Rattle.framing.specs.declared.Framed.the-variants.{Taken}
+use Rattle.framing.specs.Framing.{sequencesOf, pointerAfter, framedAs}
+use Rattle.verdict.specs.Verdict.{accepted, verdict, checkOf}
+use Rattle.verdict.proofs.Steps.{taken-found}
+use Rattle.reader.specs.Answer.{FoundSample, foundSample, sampleOf}
+use Rattle.reader.proofs.Ordered.{Lies, accepted-lies}
+use Rattle.reader.proofs.There.{counts-inside}
+use Rattle.reader.proofs.Checks.{check-refused}
+use Rattle.canonical.specs.Recording.{recordedFrame}
+use Rattle.canonical.specs.Canonical.{waveformOf, frameOctets, canonical}
 use Rattle.canonical.specs.Write.{canonicalOf, Wrote}
 use Rattle.outputs.specs.Outputs.{Outputs, outputs, handedOut, countOut}
 use Rattle.maker.specs.Make.{Making, recordMade, madeIn, Made}
 use Rattle.mfer.specs.Answers.{MadeOut}
+use Rattle.canonical.proofs.Accepted.{samples-sized, sample-at}
+use Rattle.canonical.proofs.Octets.{waveform-octets}
+use Rattle.theorems.specs.Told.{samplesRecorded}
 use Rattle.theorems.specs.Making.{MadeExactly, MadeFrame, AllMade, fileOf, ReadsBack, MadeAgain}
 use Rattle.theorems.proofs.Allowed.{made-exactly}
+use Rattle.theorems.proofs.Exactly.{refused-numbered}
+use Rattle.theorems.proofs.Questions.{frameNumber}
+use Rattle.theorems.proofs.Places.{Name, Declared, Whole, sample-lacking, no-data-only}
 use Rattle.theorems.proofs.MadeFiles.{made-known, made-read}
 use Rattle.theorems.proofs.MadeAgain.{made-again}
 use Rattle.theorems.proofs.Canonical.{recording-is, out-is}
@@ -77,7 +101,8 @@ pub record RequestOne : Type 0 where
   pub handed : (m : Making) (d left : List ℕ) (place n : ℕ) → MadeOut m d (outputs 0 place n) left → Made m d (answered n) left
   -- "Reading what was written gives the settings and samples again": each setting and each bit of each sample, frame by frame; and the file is its own canonical file.
   pub reads : (ms : List Making) (os : List (List ℕ)) → AllMade ms os → 0 < length ms → length ms ≤ framesLimit → length (fileOf os) ≤ octetsLimit → ReadsBack ms (fileOf os)
-  -- The maker and the writer do not drift apart: of every accepted file that is written out, the frames that are made of its recording are its canonical file.
+  -- The maker and the writer do not drift apart: of every accepted file that is written out, the frames that are made of its recording are its canonical file, where
+  -- all their declared samples are there (request 2: "Request 1 still wants exact counts").
   pub again : (s d left : List ℕ) (n : ℕ) → Wrote s d (answered n) left → MadeAgain s
 
 pub request-one : RequestOne
@@ -88,4 +113,68 @@ request-one =
       handed = λ m d left place n w. made-out w;
       reads = made-read;
       again = λ s d left n w. again w;
+    }
+
+-- ---- request 2
+
+-- A frame of an accepted file.
+module _ (f : Frame) where
+  -- A sample of the frame that is there.
+  abbrev pub ThereIn : ℕ → ℕ → Type 0
+  ThereIn c n = There (f .channels) (f .sequences) (length (f .waveform)) c n
+
+  -- Which of its samples are there, and what of it is written.
+  pub record CutOff : Type 0 where
+    -- A declared sample is there exactly when its number is below the channel's count.
+    pub counted : (c n : ℕ) → Named (f .channels) (f .sequences) c n → (endOf (f .channels) c n ≤ length (f .waveform)) ↔ (n < thereIn c f)
+    -- The samples there are the first ones in file order: with one that is there, each that does not begin behind it is there.
+    pub first : (c n d m : ℕ) → Named (f .channels) (f .sequences) c n → ThereIn d m → offsetOf (f .channels) c n ≤ offsetOf (f .channels) d m → ThereIn c n
+    -- "The recording says which samples are there": for each channel so many, with their bits; the declared sequences stay.
+    pub sequences : recordedFrame f .sequences ≡ f .sequences
+    pub recorded : (c : ℕ) → c < length (f .channels) → length (samplesRecorded c (recordedFrame f)) ≡ thereIn c f
+    pub bits : (c n : ℕ) → c < length (f .channels) → n < thereIn c f → getD (samplesRecorded c (recordedFrame f)) n 0 ≡ sampleBits f c n
+    -- "The canonical waveform holds only those": as many octets as they have, and each at its offset, big-endian.
+    pub waveform : length (waveformOf (recordedFrame f)) ≡ octetsThere f
+
+cut-off : (s : List ℕ) (f : Frame) → Lies s f → CutOff f
+unfolding recordedFrame thereIn
+cut-off s f l =
+    record {
+      counted = λ c n h. counts-inside s f l h;
+      first = λ c n d m h k o. there-first h k (l .wide d (k .named .channel)) o;
+      sequences = refl;
+      recorded = λ c h. samples-sized f c h;
+      bits = λ c n h k. sample-at f c n h k;
+      waveform = waveform-octets f (l .wide);
+    }
+
+-- "Battery recorders stop in the middle of a frame and we refuse the whole file with 14. Document 000, section 5.2.3(7), advises treating what is lacking as no data. Do
+-- that. A sample whose octets are not all inside its own frame's waveform is not there, whatever items follow: it answers a seventh kind, no data, at place 0, distinct
+-- from null; declared sequences stay. The recording says which samples are there, and the canonical waveform holds only those; demand 3 speaks of samples that are
+-- there, and a partial sample's octets join the surplus. Case P9 becomes one frame with 5 and then no data. Request 1 still wants exact counts. Refusals: 14 is no longer
+-- given." Demand 3 stands in Demands, P9 in Bench, and what request 1 wants in `request-one`.
+pub record RequestTwo : Type 0 where
+  -- "14 is no longer given", by anything that reads a file.
+  pub retired : (s : List ℕ) (place : ℕ) → checkOf s ≡ refusedAs shortWaveform place → ⊥
+  -- "A sample whose octets are not all inside its own frame's waveform is not there, whatever items follow: it answers a seventh kind, no data, at place 0".
+  pub lacking : (s : List ℕ) (fs : List Frame) → verdict s ≡ accepted fs → (x : Name)
+      → (sampleOf s (x .frame) (x .channel) (x .number) ≡ answered (foundSample 0 0 noDataSaid)) ↔ (Declared fs x × (Whole fs x → ⊥))
+  -- No other answer is of that kind, and it is "distinct from null".
+  pub only : (s : List ℕ) (fs : List Frame) → verdict s ≡ accepted fs → (x : Name) (y : FoundSample)
+      → sampleOf s (x .frame) (x .channel) (x .number) ≡ answered y → y .value .kind ≡ noDataSaid .kind → y ≡ foundSample 0 0 noDataSaid
+  pub distinct : noDataSaid .kind ≡ nullSaid .kind → ⊥
+  -- "Declared sequences stay": a waveform that is taken has the sequences that stand, and they continue the pointer.
+  pub declared : (frames : ℕ) (st : Standing) (agree : Bool) (octets long n : ℕ) (y : Standing) → framedAs frames st agree octets long ≡ Taken n y
+      → (n ≡ sequencesOf (st .sequences) long octets) × (y ≡ withContinued (pointerAfter st n) st)
+  pub frames : (s : List ℕ) (fs : List Frame) → verdict s ≡ accepted fs → (i : ℕ) → i < length fs → CutOff (frameNumber fs i)
+
+pub request-two : RequestTwo
+request-two =
+    record {
+      retired = λ s place e. refused-numbered s (refusal shortWaveform place) (check-refused s shortWaveform place .0 e) .2 refl;
+      lacking = λ s fs e x. sample-lacking s fs e x;
+      only = λ s fs e x y q k. no-data-only s fs e x y q k;
+      distinct = λ k. omega arith;
+      declared = λ frames st agree octets long n y q. let t = taken-found frames st agree octets long refl q in (t .sequences, t .after);
+      frames = λ s fs e i h. cut-off s (frameNumber fs i) (accepted-lies s fs e i h);
     }

@@ -202,13 +202,13 @@ said-same d g a b k l same = by (decLt (length a) (length b)) (decLt (length b) 
 module _ (r q : Recorded) (x : Shaped r) (y : Shaped q)
     (attributes : (c : ℕ) → channelSaid (λ z. answered (attributesRecorded c z)) r c ≡ channelSaid (λ z. answered (attributesRecorded c z)) q c)
     (bits : (c n : ℕ) → channelSaid (λ z. said (declaredRecorded c z) (samplesRecorded c z) n) r c ≡ channelSaid (λ z. said (declaredRecorded c z) (samplesRecorded c z) n) q c) where
-  there : {A : Type 0} (g : Recorded → Answer A) (z : Recorded) (c : ℕ) → c < length (z .channels) → channelSaid g z c ≡ g z
-  there g z c h = rw (lt-ltb c (length (z .channels)) h)
+  asked-there : {A : Type 0} (g : Recorded → Answer A) (z : Recorded) (c : ℕ) → c < length (z .channels) → channelSaid g z c ≡ g z
+  asked-there g z c h = rw (lt-ltb c (length (z .channels)) h)
 
   same-attributes : (c : ℕ) → c < length (r .channels) → c < length (q .channels) → attributesRecorded c r ≡ attributesRecorded c q
   same-attributes c h k =
-      let a = there (λ z. answered (attributesRecorded c z)) r c h in
-      let b = there (λ z. answered (attributesRecorded c z)) q c k in
+      let a = asked-there (λ z. answered (attributesRecorded c z)) r c h in
+      let b = asked-there (λ z. answered (attributesRecorded c z)) q c k in
       let e : answered (attributesRecorded c r) ≡ answered (attributesRecorded c q) = sym a ∙ attributes c ∙ b in
       cc
 
@@ -226,7 +226,7 @@ module _ (r q : Recorded) (x : Shaped r) (y : Shaped q)
       let j : c < length (q .channels) = omega (arith, same-count, x .counted) in
       let g : ℕ → Recorded → Answer (Option ℕ) = λ n z. said (declaredRecorded c z) (samplesRecorded c z) n in
       said-same (declaredRecorded c r) (declaredRecorded c q) (samplesRecorded c r) (samplesRecorded c q) (x .few c i) (y .few c j)
-      (λ n. sym (there (g n) r c i) ∙ bits c n ∙ there (g n) q c j))
+      (λ n. sym (asked-there (g n) r c i) ∙ bits c n ∙ asked-there (g n) q c j))
 
   entry-same : r ≡ q
   entry-same =
