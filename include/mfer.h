@@ -262,7 +262,7 @@ static inline const char *mfer_words(uint32_t refusal)
  *
  * *frames  how many frames the file has, at most MFER_MAX_FRAMES
  *
- * Refusals: 1 to 15.
+ * Refusals: 1 to 13, 15.
  */
 uint32_t mfer_check(const uint8_t *file, size_t file_len, uint64_t *frames, uint64_t *place);
 
@@ -302,7 +302,7 @@ uint32_t mfer_check(const uint8_t *file, size_t file_len, uint64_t *frames, uint
  *          mfer_samples_there says how many are there
  * bits     the offset's bits (0 where none is defined), then the null bits (0 where there are none)
  *
- * Refusals: 1 to 15, MFER_NO_FRAME, MFER_NO_CHANNEL.
+ * Refusals: 1 to 13, 15, MFER_NO_FRAME, MFER_NO_CHANNEL.
  */
 uint32_t mfer_attributes(const uint8_t *file, size_t file_len, uint32_t frame, uint32_t channel,
                          int64_t numbers[MFER_NUMBERS], uint64_t bits[2], uint64_t *place);
@@ -338,7 +338,7 @@ static inline const char *mfer_kind_name(uint32_t kind)
  *
  * *count   how many, at most MFER_MAX_OCTETS
  *
- * Refusals: 1 to 15, MFER_NO_FRAME, MFER_NO_CHANNEL.
+ * Refusals: 1 to 13, 15, MFER_NO_FRAME, MFER_NO_CHANNEL.
  */
 uint32_t mfer_samples_there(const uint8_t *file, size_t file_len, uint32_t frame, uint32_t channel,
                             uint64_t *count, uint64_t *place);
@@ -353,7 +353,7 @@ uint32_t mfer_samples_there(const uint8_t *file, size_t file_len, uint32_t frame
  * *bits    the sample's bits, highest octet first: those of a file with the octets 01 02 are 0102
  *          in big-endian order and 0201 in little-endian order; zeros are above them
  *
- * Refusals: 1 to 15, MFER_NO_FRAME, MFER_NO_CHANNEL, and MFER_NO_SAMPLE where `number` is not below the
+ * Refusals: 1 to 13, 15, MFER_NO_FRAME, MFER_NO_CHANNEL, and MFER_NO_SAMPLE where `number` is not below the
  * declared number of samples, sequences times block.
  */
 uint32_t mfer_sample(const uint8_t *file, size_t file_len, uint32_t frame, uint32_t channel,
@@ -368,7 +368,7 @@ uint32_t mfer_sample(const uint8_t *file, size_t file_len, uint32_t frame, uint3
  * *count   how many were written; with an answer 0 only where out_len is 0, or where sample `first` is
  *          declared and not there
  *
- * Refusals: 1 to 15, MFER_NO_FRAME, MFER_NO_CHANNEL, and MFER_NO_SAMPLE where no sample `first` is
+ * Refusals: 1 to 13, 15, MFER_NO_FRAME, MFER_NO_CHANNEL, and MFER_NO_SAMPLE where no sample `first` is
  * declared.
  */
 uint32_t mfer_samples(const uint8_t *file, size_t file_len, uint32_t frame, uint32_t channel,
@@ -385,7 +385,7 @@ uint32_t mfer_samples(const uint8_t *file, size_t file_len, uint32_t frame, uint
  * *count   how many were written to each buffer; with an answer 0 only where kinds_len or wholes_len is 0,
  *          or where sample `first` is declared and not there
  *
- * Refusals: 1 to 15, MFER_NO_FRAME, MFER_NO_CHANNEL, and MFER_NO_SAMPLE where no sample `first` is
+ * Refusals: 1 to 13, 15, MFER_NO_FRAME, MFER_NO_CHANNEL, and MFER_NO_SAMPLE where no sample `first` is
  * declared.
  */
 uint32_t mfer_values(const uint8_t *file, size_t file_len, uint32_t frame, uint32_t channel,
@@ -409,7 +409,7 @@ uint32_t mfer_values(const uint8_t *file, size_t file_len, uint32_t frame, uint3
  * Whatever is in the array and whatever file is handed in, each call ends, and nothing outside the
  * file and the arrays is read or written. But where the array is no opened walk, or the file another,
  * the answers mean nothing: numbers may be out of their ranges, and mfer_walk_next may answer any of
- * the refusals 1 to 15.
+ * the refusals 1 to 13 and 15.
  */
 #define MFER_WALK 4160 /* numbers in the array of a walk */
 
@@ -428,7 +428,7 @@ uint32_t mfer_values(const uint8_t *file, size_t file_len, uint32_t frame, uint3
  *
  * *frames  how many frames the file has, at most MFER_MAX_FRAMES
  *
- * Refusals: 1 to 15, as mfer_check has them.
+ * Refusals: 1 to 13, 15, as mfer_check has them.
  */
 uint32_t mfer_walk_open(const uint8_t *file, size_t file_len, uint64_t walk[MFER_WALK],
                         uint64_t *frames, uint64_t *place);
@@ -522,7 +522,7 @@ uint32_t mfer_walk_values(const uint8_t *file, size_t file_len, const uint64_t w
  *
  * *length  the canonical file's length, at most MFER_MAX_OCTETS; 0 for a file without frames
  *
- * Refusals: 1 to 15, and MFER_NO_ROOM where the canonical file is longer than a file may be.
+ * Refusals: 1 to 13, 15, and MFER_NO_ROOM where the canonical file is longer than a file may be.
  */
 uint32_t mfer_canonical_length(const uint8_t *file, size_t file_len, uint64_t *length,
                                uint64_t *place);
@@ -535,7 +535,7 @@ uint32_t mfer_canonical_length(const uint8_t *file, size_t file_len, uint64_t *l
  *
  * *written  the canonical file's length; 0 for a file without frames
  *
- * Refusals: 1 to 15, and MFER_NO_ROOM where the buffer is too short: mfer_canonical_length says how
+ * Refusals: 1 to 13, 15, and MFER_NO_ROOM where the buffer is too short: mfer_canonical_length says how
  * long it has to be, or that none will do.
  */
 uint32_t mfer_canonical(const uint8_t *file, size_t file_len, uint8_t *out, size_t out_len,

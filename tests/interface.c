@@ -532,6 +532,27 @@ static void expect_walk_lacks_values(const uint8_t *file, size_t file_len, const
     EXPECT(count == 0 && place == 0);
 }
 
+/* The samples of a channel are refused so by the walk, as bits and as values. */
+static void expect_walk_lacks_samples(const uint8_t *file, size_t file_len, const uint64_t *walk,
+                                      uint32_t channel, uint64_t first, uint32_t refusal)
+{
+    uint64_t place = UNSET, count = UNSET, out[3];
+    size_t i;
+
+    memset(out, 0xA5, sizeof out);
+    EXPECT(mfer_walk_samples(file, file_len, walk, channel, first, out, SIZE(out), &count, &place) ==
+           refusal);
+    EXPECT(count == 0 && place == 0);
+    for (i = 0; i < SIZE(out); i++)
+        EXPECT(out[i] == UNSET);
+
+    place = count = UNSET;
+    EXPECT(mfer_walk_samples(file, file_len, walk, channel, first, NULL, 0, &count, &place) ==
+           refusal);
+    EXPECT(count == 0 && place == 0);
+    expect_walk_lacks_values(file, file_len, walk, channel, first, refusal);
+}
+
 /* All samples of a frame are refused so, in a buffer with room for some and in none. */
 static void expect_walk_lacks_frame(const uint8_t *file, size_t file_len, const uint64_t *walk,
                                     uint32_t refusal)
@@ -556,7 +577,7 @@ static void expect_walk_lacks(const uint8_t *file, size_t file_len, const uint64
                               uint32_t channel, uint64_t first, uint32_t refusal)
 {
     int64_t numbers[MFER_NUMBERS];
-    uint64_t bits[2], below = UNSET, place = UNSET, count = UNSET, out[3];
+    uint64_t bits[2], below = UNSET, place = UNSET, count = UNSET;
     size_t i;
 
     if (refusal != MFER_NO_SAMPLE) {
@@ -572,19 +593,7 @@ static void expect_walk_lacks(const uint8_t *file, size_t file_len, const uint64
         EXPECT(count == 0 && place == 0);
     }
 
-    place = UNSET;
-    memset(out, 0xA5, sizeof out);
-    EXPECT(mfer_walk_samples(file, file_len, walk, channel, first, out, SIZE(out), &count, &place) ==
-           refusal);
-    EXPECT(count == 0 && place == 0);
-    for (i = 0; i < SIZE(out); i++)
-        EXPECT(out[i] == UNSET);
-
-    place = count = UNSET;
-    EXPECT(mfer_walk_samples(file, file_len, walk, channel, first, NULL, 0, &count, &place) ==
-           refusal);
-    EXPECT(count == 0 && place == 0);
-    expect_walk_lacks_values(file, file_len, walk, channel, first, refusal);
+    expect_walk_lacks_samples(file, file_len, walk, channel, first, refusal);
     if (refusal == MFER_NO_FRAME)
         expect_walk_lacks_frame(file, file_len, walk, refusal);
 }
@@ -1061,7 +1070,7 @@ static void walk_copied(void)
 static void walk_over_another_file(void)
 {
     static const uint8_t bad[] = {0x0A, 0x80};
-    uint64_t walk[MFER_WALK], frames, place, frame[MFER_FRAME_NUMBERS], out[3], count;
+    uint64_t walk[MFER_WALK], frames, place, frame[MFER_FRAME_NUMBERS], count;
     int64_t start;
     size_t i;
     EXPECT(mfer_walk_open(P2, sizeof P2, walk, &frames, &place) == MFER_OK);
@@ -1071,15 +1080,21 @@ static void walk_over_another_file(void)
     EXPECT(mfer_walk_open(P2, sizeof P2, walk, &frames, &place) == MFER_OK);
     EXPECT(mfer_walk_next(P2, sizeof P2, walk, &start, frame, &place) == MFER_OK);
     for (i = 0; i < sizeof P2; i++) {
-        memset(out, 0xA5, sizeof out);
-        EXPECT(mfer_walk_samples(P2, i, walk, 0, 0, out, SIZE(out), &count, &place) == MFER_NO_FRAME);
-        EXPECT(count == 0 && place == 0 && out[0] == UNSET);
-        EXPECT(mfer_walk_samples(P2, i, walk, 0, 2, out, SIZE(out), &count, &place) == MFER_NO_SAMPLE);
-        expect_walk_lacks_values(P2, i, walk, 0, 0, MFER_NO_FRAME);
-        expect_walk_lacks_values(P2, i, walk, 0, 2, MFER_NO_SAMPLE);
+        expect_walk_lacks_samples(P2, i, walk, 0, 0, MFER_NO_FRAME);
+        expect_walk_lacks_samples(P2, i, walk, 0, 2, MFER_NO_SAMPLE);
         expect_walk_lacks_frame(P2, i, walk, MFER_NO_FRAME);
     }
     expect_walk_end(NULL, 0, walk);
+    /* A sample that is there, one that is declared and not there, and no such sample. */
+    EXPECT(mfer_walk_open(P9, sizeof P9, walk, &frames, &place) == MFER_OK);
+    EXPECT(mfer_walk_next(P9, sizeof P9, walk, &start, frame, &place) == MFER_OK);
+    for (i = 0; i < sizeof P9; i++) {
+        expect_walk_lacks_samples(P9, i, walk, 0, 0, MFER_NO_FRAME);
+        expect_walk_lacks_samples(P9, i, walk, 0, 1, MFER_NO_FRAME);
+        expect_walk_lacks_samples(P9, i, walk, 0, 2, MFER_NO_SAMPLE);
+        expect_walk_lacks_frame(P9, i, walk, MFER_NO_FRAME);
+    }
+    EXPECT(mfer_walk_samples_there(walk, 0, &count, &place) == MFER_OK && count == 1);
 }
 
 /* Numbers that look random, the same in every run. */

@@ -303,24 +303,7 @@ fn samples(course: &mut Course) {
         ),
     ];
     for (what, build, channel) in files {
-        let Some(row) = course.row(what, Against::Second, Some(SECOND)) else {
-            continue;
-        };
-        let file = build();
-        let read = reader::attributes(&file, 0, channel).expect("an accepted file");
-        let count = read.sequences as usize * read.block as usize;
-        course.with_buffers(
-            row,
-            || vec![0; count],
-            |out| {
-                let filled = ffi::samples(black_box(&file), 0, channel, 0, out);
-                assert_eq!(filled.count, count as u64);
-            },
-            |out| {
-                let filled = reader::samples(black_box(&file), 0, channel, 0, out);
-                assert_eq!(filled, Ok(count));
-            },
-        );
+        bulk(course, what, Some(SECOND), (0, channel), build);
     }
     const SAMPLES: u64 = 1_000;
     let what = "one sample at a time, 1,000 of them";
@@ -543,7 +526,7 @@ fn canonical(
     );
 }
 
-/// The samples there of a channel in a frame beside the second program's; some declared ones are not.
+/// The samples there of a channel in a frame beside the second program's, with room for one more.
 fn bulk(
     course: &mut Course,
     what: &'static str,

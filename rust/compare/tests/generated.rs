@@ -30,7 +30,7 @@ fn both_programs_answer_the_same() {
     let tally = same_on(files, file);
     if files >= 100_000 {
         assert!(tally.with_frames > 20_000);
-        assert!(tally.cut_off > 2_000);
+        assert!(tally.cut_off > 15_000);
         for (number, count) in tally.refused.iter().enumerate().take(14).skip(1) {
             assert!(*count > 500, "refusal {number} occurs {count} times");
         }
