@@ -1,12 +1,12 @@
 -- The octets of the samples there, as a pass finds them.
 --     root-even, even-some    channels that all hold the root settings have one width, above 0
---     held-fits, held-there, held-cut    sequences that the waveform holds, or does not
+--     held-fits, held-there, held-cut, held-small    sequences that the waveform holds, or does not
 --     settled-cutting, settled-last, settled-block, settled-past    the loop that looks for the channel whose block is cut off
 -- Assumes nothing.
 use mathlib.Core.Path.{_≡_, sym, ap, _∙_}
 use mathlib.Core.List.{List}
-use mathlib.Core.Bool.{true, false}
-use Prim.Native.Nat.{ℕ, _+_, _-_, _*_, _%_, _≤_, _<_}
+use mathlib.Core.Bool.{Bool, true, false}
+use Prim.Native.Nat.{ℕ, _+_, _-_, _*_, _%_, _≤_, _<_, _^_}
 use native.Mathlib.Nat.{min-le-left, min-le-right}
 use native.Mathlib.Omega.{arith}
 use borrow.Author.Tests.{leb-true, leb-false}
@@ -23,6 +23,7 @@ use Rattle.layout.specs.Frame.{widthIn, blockOctets, sequenceOctets}
 use Rattle.layout.proofs.Rows.{cells-some}
 use Rattle.laid.specs.Turned.{sequenceSamples, Even}
 use Rattle.laid.proofs.Turned.{octets-even}
+use Rattle.standing.specs.Standing.{octetsLimit}
 use Rattle.there.specs.There.{thereOctets, partialOctets}
 use Rattle.there.proofs.Places.{there-whole}
 use Rattle.there.proofs.Partial.{Cutting, cutting-block, cutting-end, cutting-past}
@@ -48,6 +49,10 @@ module _ (cs : List Settings) (S long : ℕ) {G : ℕ} (e : G ≡ sequenceOctets
 
   pub held-cut : t ≡ false → long < S * sequenceOctets cs
   held-cut k = rw e at (leb-false (S * G) long (sym h ∙ k))
+
+-- Sequences that a waveform of a file holds fit 64 bits.
+pub held-small : (S G long : ℕ) {t : Bool} → t ≡ leb (S * G) long → t ≡ true → long ≤ octetsLimit → S * G < 2 ^ 64
+held-small S G long h k l = omega (arith, leb-true (S * G) long (sym h ∙ k))
 
 -- The channels of a frame, as records say them.
 module _ (root : Settings) (dates : Dates) (table : List Dated) (full : length table ≡ channelLimit) (n : ℕ) (few : n ≤ channelLimit) where

@@ -6,7 +6,7 @@ use mathlib.Core.Path.{_≡_, refl, sym, ap, _∙_}
 use mathlib.Core.Logic.{_⊎_, ⊎-elim}
 use mathlib.Core.List.{List}
 use mathlib.Core.Bool.{not}
-use Prim.Native.Nat.{ℕ, _-_, _^_, _<_, min}
+use Prim.Native.Nat.{ℕ, _-_, _^_, _<_, min, _≤_}
 use types.Run.{OneOf, miss}
 use mir.Val.{hasKey}
 use denote.Enum.Declared.{tagOf}
@@ -26,6 +26,7 @@ use Rattle.layout.specs.declared.Layout.{Layout}
 use Rattle.sizes.specs.Size.{frameSize}
 use Rattle.layout.specs.Measure.{layoutOf}
 use Rattle.standing.specs.declared.Standing.{Standing}
+use Rattle.standing.specs.Standing.{octetsLimit}
 use Rattle.effects.specs.declared.Effect.{Effect}
 use Rattle.effects.specs.Effects.{effectOf, standingAfter}
 use Rattle.effects.proofs.Effect.{the-type}
@@ -137,6 +138,10 @@ module _ {s : List ℕ} {q : Asked} {table : List Settings} {c : Cursor} {st : S
   unfolding layoutOf
   framing-octets = ap (λ (y : Layout). y .octets) (f .laid)
 
+  -- The waveform is small.
+  pub framing-small : {sequences : ℕ} {x : Standing} → r ≡ Taken sequences x → len ≤ octetsLimit
+  framing-small g = taken-small (scanning .long) (scanning .reached) (scanning .count) (q .channel) l (f .laid) i (f .turn .asks) (f .gives) g
+
   module _ {sequences : ℕ} {x : Standing} (g : r ≡ Taken sequences x) {there : ℕ} (et : there ≡ thereOctets (take (channelsOf (st .counted)) table) sequences len) where
     pub framing-room : Room l there m
     framing-room =
@@ -144,7 +149,7 @@ module _ {s : List ℕ} {q : Asked} {table : List Settings} {c : Cursor} {st : S
           few = scanning-few scanning;
           size = scanning .room;
           groups = groups-small (scanning .long) (scanning .reached) (scanning .count) (q .channel) l (f .laid);
-          waveform = omega (arith, et, there-le (take (channelsOf (st .counted)) table) sequences len, taken-small (scanning .long) (scanning .reached) (scanning .count) (q .channel) l (f .laid) i (f .turn .asks) (f .gives) g);
+          waveform = omega (arith, et, there-le (take (channelsOf (st .counted)) table) sequences len, framing-small g);
         }
 
     -- The frame is taken, and the pass keeps what it wants of it.

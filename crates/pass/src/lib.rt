@@ -277,7 +277,8 @@ fn root_there(st: Standing, sequences: u32, octets: u64, len: usize) -> u64
     len as u64 - len as u64 % w
 }
 
-// The same of a frame whose n channels hold what records say: the channel is looked for whose block is cut off.
+// The same of a frame whose n channels hold what records say, and whose waveform ends before its sequences do: the channel is looked for whose block is cut off.
+// The table comes in as a copy, so only such a frame asks.
 fn channels_there(
     root: Settings,
     dates: Dates,
@@ -288,11 +289,9 @@ fn channels_there(
     len: usize,
 ) -> u64
     requires { ⌜ (n ≤ channelLimit) × (octets ≡ sequenceOctets (take n (settledIn root dates table))) ⌝ }
+    requires { ⌜ len < sequences * octets ⌝ }
     ensures { λ r. ⌜ r ≡ thereOctets (take n (settledIn root dates table)) sequences len ⌝ }
 {
-    if sizes::holds(len as u64, sequences, octets) {
-        return sequences as u64 * octets;
-    }
     let mut left = len as u64 % octets;
     let mut i = 0usize;
     while i < n {
@@ -371,25 +370,39 @@ fn scan_channels(s: &[u8], asked: Asked, from: Cursor, standing: Standing, befor
                             Framed::Taken(sequences, after) => {
                                 let k = index(asked.channel);
                                 let seen = dated::settle(root, dates, table[k]);
-                                let there = channels_there(
-                                    root,
-                                    dates,
-                                    table,
-                                    n,
-                                    sequences,
-                                    l.octets,
-                                    len,
-                                );
-                                met = met.with_frame(
-                                    asked,
-                                    st,
-                                    sequences,
-                                    start,
-                                    len,
-                                    l,
-                                    there,
-                                    seen,
-                                );
+                                if sizes::holds(len as u64, sequences, l.octets) {
+                                    let there = sequences as u64 * l.octets;
+                                    met = met.with_frame(
+                                        asked,
+                                        st,
+                                        sequences,
+                                        start,
+                                        len,
+                                        l,
+                                        there,
+                                        seen,
+                                    );
+                                } else {
+                                    let there = channels_there(
+                                        root,
+                                        dates,
+                                        table,
+                                        n,
+                                        sequences,
+                                        l.octets,
+                                        len,
+                                    );
+                                    met = met.with_frame(
+                                        asked,
+                                        st,
+                                        sequences,
+                                        start,
+                                        len,
+                                        l,
+                                        there,
+                                        seen,
+                                    );
+                                }
                                 st = after;
                             }
                         }

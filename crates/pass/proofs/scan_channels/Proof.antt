@@ -2,9 +2,11 @@
 use mathlib.Core.Path.{_≡_, refl, sym, ap, _∙_}
 use mathlib.Core.List.{List, [], _∷_}
 use mathlib.Core.Logic.{inl}
+use mathlib.Core.Bool.{Bool, true}
 use native.Mathlib.Omega.{arith}
 use borrow.Author.Needs.{needs}
-use Prim.Native.Nat.{ℕ, _-_}
+use Prim.Native.Nat.{ℕ, _-_, _*_}
+use lib.Dec.{leb}
 use lib.ListN.{length, take}
 use Rattle.items.proofs.Walks.{found-as}
 use Rattle.items.specs.declared.Cursor.{Cursor}
@@ -19,9 +21,10 @@ use Rattle.there.specs.There.{thereOctets}
 use Rattle.pass.specs.declared.Asked.{Asked}
 use Rattle.verdict.proofs.Bounds.{channels-between}
 use Rattle.pass.proofs.Scans.{scanning-counted, scanned-end, scanned-fault}
-use Rattle.pass.proofs.Turns.{Facing, facing-later, facing-nothing, facing-stands, facing-refused, Framing, facing-framing, framing-refused, framing-octets, framing-room, framing-taken}
+use Rattle.pass.proofs.Turns.{Facing, facing-later, facing-nothing, facing-stands, facing-refused, Framing, facing-framing, framing-refused, framing-octets, framing-small, framing-room, framing-taken}
 use Rattle.pass.proofs.Stretches.{GroupOpened, opened-group, opened-nothing, opened-counted, group-entered, stretch-on}
 use Rattle.pass.proofs.Records.{Passing, passing-from, passing-at, passing-on, passing-count, passing-all, passing-one, passing-outside, passing-group, settled-more, settled-seen, stands-full}
+use Rattle.pass.proofs.Cut.{held-there, held-cut, held-small}
 use Rattle.pass.proofs.scan_channels.Statement.{statement}
 use Rattle.pass.proofs.scan_channels.Tie as tie
 
@@ -115,6 +118,13 @@ there : (c : Given) (octets sequences long : ℕ)
 there c octets sequences long e =
     let l = at-loop (behind (known c)) .loop in
     e ∙ ap (λ (n : ℕ). thereOctets (take n (settledIn (l .st .root) (l .dates) (l .table))) sequences long) (at-sum c .before .before .channels-of .ensures)
+
+-- The same where the waveform holds the sequences.
+whole : (c : Given) (sequences long : ℕ) {t : Bool}
+    → let l = at-loop (behind (known c)) .loop in
+    let octets = at-sum c .loop2 .l .octets in
+    t ≡ leb (sequences * octets) long → t ≡ true → sequences * octets ≡ thereOctets (take (channelsOf (l .st .counted)) (settledIn (l .st .root) (l .dates) (l .table))) sequences long
+whole c sequences long h k = held-there _ sequences long (framing-octets (framing c)) h k
 
 -- ---- the needs
 
@@ -384,24 +394,48 @@ array-copy-out-settle-4 c = search needs
 settle-requires-4 : tie.Need-settle-requires-4 Inv-loop2 μ-loop2 Inv-loop μ-loop
 settle-requires-4 c κs = search needs
 
-channels-there-requires : tie.Need-channels-there-requires Inv-loop2 μ-loop2 Inv-loop μ-loop
-channels-there-requires c κs =
-    let given = c .before .before .before .before .before .before in
-    (at-sum given .loop2 .inv .few, rw (at-sum given .before .before .channels-of .ensures) (framing-octets (framing given)))
+holds-requires : tie.Need-holds-requires Inv-loop2 μ-loop2 Inv-loop μ-loop
+holds-requires c κs = search needs
+
+cast-there : tie.Need-cast-there Inv-loop2 μ-loop2 Inv-loop μ-loop
+cast-there c = search needs
+
+mul-there : tie.Need-mul-there Inv-loop2 μ-loop2 Inv-loop μ-loop
+mul-there c = record { fits = held-small _ _ _ (c .before .before .holds .ensures) (c .before .if3 .taken) (framing-small (framing (c .before .before .before .before .before .before .before .before .before)) (c .before .before .before .before .before .before .before .sequences .given .1)) }
 
 with-frame-requires : tie.Need-with-frame-requires Inv-loop2 μ-loop2 Inv-loop μ-loop
 with-frame-requires c κs =
-    let given = c .before .before .before .before .before .before .before in
-    framing-room (framing given) (c .before .before .before .before .before .sequences .given .1) (there given _ _ _ (c .channels-there .ensures))
+    let given = c .before .before .before .before .before .before .before .before .before in
+    framing-room (framing given) (c .before .before .before .before .before .before .before .sequences .given .1) (whole given _ _ (c .before .before .holds .ensures) (c .before .if3 .taken))
+
+channels-there-requires : tie.Need-channels-there-requires Inv-loop2 μ-loop2 Inv-loop μ-loop
+channels-there-requires c κs =
+    let given = c .before .before .before .before .before .before .before .before in
+    let octets = framing-octets (framing given) in
+    ((at-sum given .loop2 .inv .few, rw (at-sum given .before .before .channels-of .ensures) octets), rw octets (held-cut _ _ _ octets (c .before .holds .ensures) (c .if3 .left)))
+
+with-frame-requires-2 : tie.Need-with-frame-requires-2 Inv-loop2 μ-loop2 Inv-loop μ-loop
+with-frame-requires-2 c κs =
+    let given = c .before .before .before .before .before .before .before .before .before in
+    framing-room (framing given) (c .before .before .before .before .before .before .before .sequences .given .1) (there given _ _ _ (c .channels-there .ensures))
 
 loop-less-6 : tie.Need-loop-less-6 Inv-loop2 μ-loop2 Inv-loop μ-loop
-loop-less-6 c = omega (arith, facing-later (framing (c .before .before .before .before .before .before .before .before) .turn))
+loop-less-6 c = omega (arith, facing-later (framing (c .before .before .before .before .before .before .before .before .before .before) .turn))
 
 loop-again-6 : tie.Need-loop-again-6 Inv-loop2 μ-loop2 Inv-loop μ-loop
 loop-again-6 c =
-    let given = c .before .before .before .before .before .before .before .before in
+    let given = c .before .before .before .before .before .before .before .before .before .before in
     let p = passing (known given) in
-    passing-on p (turn (known given)) (framing-taken (framing given) (c .before .before .before .before .before .before .sequences .given .1) (there given _ _ _ (c .before .channels-there .ensures)) (settled-seen p (c .before .before .before .before .index .ensures) (c .before .before .settle4 .ensures)) (c .with-frame .ensures))
+    passing-on p (turn (known given)) (framing-taken (framing given) (c .before .before .before .before .before .before .before .before .sequences .given .1) (whole given _ _ (c .before .before .before .holds .ensures) (c .before .before .if3 .taken)) (settled-seen p (c .before .before .before .before .before .before .index .ensures) (c .before .before .before .before .settle4 .ensures)) (c .with-frame .ensures))
+
+loop-less-7 : tie.Need-loop-less-7 Inv-loop2 μ-loop2 Inv-loop μ-loop
+loop-less-7 c = omega (arith, facing-later (framing (c .before .before .before .before .before .before .before .before .before .before) .turn))
+
+loop-again-7 : tie.Need-loop-again-7 Inv-loop2 μ-loop2 Inv-loop μ-loop
+loop-again-7 c =
+    let given = c .before .before .before .before .before .before .before .before .before .before in
+    let p = passing (known given) in
+    passing-on p (turn (known given)) (framing-taken (framing given) (c .before .before .before .before .before .before .before .before .sequences .given .1) (there given _ _ _ (c .before .channels-there .ensures)) (settled-seen p (c .before .before .before .before .before .before .index .ensures) (c .before .before .before .before .settle4 .ensures)) (c .with-frame2 .ensures))
 
 enum-known-effect-4 : tie.Need-enum-known-effect-4 Inv-loop2 μ-loop2 Inv-loop μ-loop
 enum-known-effect-4 c = search needs
@@ -417,11 +451,11 @@ returns-4 c =
 standing-after-requires-3 : tie.Need-standing-after-requires-3 Inv-loop2 μ-loop2 Inv-loop μ-loop
 standing-after-requires-3 c κs = search needs
 
-loop-less-7 : tie.Need-loop-less-7 Inv-loop2 μ-loop2 Inv-loop μ-loop
-loop-less-7 c = omega (arith, facing-later (turn (c .before .before)))
+loop-less-8 : tie.Need-loop-less-8 Inv-loop2 μ-loop2 Inv-loop μ-loop
+loop-less-8 c = omega (arith, facing-later (turn (c .before .before)))
 
-loop-again-7 : tie.Need-loop-again-7 Inv-loop2 μ-loop2 Inv-loop μ-loop
-loop-again-7 c =
+loop-again-8 : tie.Need-loop-again-8 Inv-loop2 μ-loop2 Inv-loop μ-loop
+loop-again-8 c =
     let k = c .before .before in
     passing-on (passing k) (turn k) (facing-stands (turn k) (0 ∷ 1 ∷ 3 ∷ 4 ∷ []) (tt, tt, tt, tt) (inl tt) (c .before .match2 .keys6) (c .standing-after3 .ensures))
 
@@ -501,13 +535,19 @@ scan-channels-spec =
     mul-settle-4
     array-copy-out-settle-4
     settle-requires-4
-    channels-there-requires
+    holds-requires
+    cast-there
+    mul-there
     with-frame-requires
+    channels-there-requires
+    with-frame-requires-2
     loop-less-6
     loop-again-6
+    loop-less-7
+    loop-again-7
     enum-known-effect-4
     refused-item-requires-2
     returns-4
     standing-after-requires-3
-    loop-less-7
-    loop-again-7)
+    loop-less-8
+    loop-again-8)
