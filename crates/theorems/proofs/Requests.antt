@@ -133,7 +133,7 @@ module _ (f : Frame) where
     pub sequences : recordedFrame f .sequences ≡ f .sequences
     pub recorded : (c : ℕ) → c < length (f .channels) → length (samplesRecorded c (recordedFrame f)) ≡ thereIn c f
     pub bits : (c n : ℕ) → c < length (f .channels) → n < thereIn c f → getD (samplesRecorded c (recordedFrame f)) n 0 ≡ sampleBits f c n
-    -- "The canonical waveform holds only those": as many octets as they have, and each at its offset, big-endian.
+    -- "The canonical waveform holds only those": it has as many octets as they have. That they are these samples' own is demand 2's: it reads back as the recording.
     pub waveform : length (waveformOf (recordedFrame f)) ≡ octetsThere f
 
 cut-off : (s : List ℕ) (f : Frame) → Lies s f → CutOff f

@@ -5,7 +5,7 @@
 --     there-ends       and among them exactly when its octets are all inside the waveform
 --     there-counted    exactly when its number is below the channel's count
 --     there-first      the samples there are the first in file order
---     octet-held, octet-surplus    each octet is one of a sample that is there, or surplus
+--     octet-held       each octet ahead of the surplus is one of a sample that is there
 --     octets-again, there-again    a waveform that ends with its last sample there has the same samples
 --     there-all        where nothing is cut off, all declared samples are there
 -- Assumes nothing.
@@ -178,7 +178,7 @@ module _ (cs : List Settings) (S long : ℕ) where
         by (no a) (no b) (inl p) = let e : q ≡ Q = omega arith in inl (ahead (omega (arith, offset-at, ap (λ (t : ℕ). t * G) e)))
         by (no a) (no b) (inr p) = let e : q ≡ Q = omega arith in inr (behind (omega (arith, offset-at, ap (λ (t : ℕ). t * G) e)))
 
-    -- (b) A named sample is there exactly when it ends among the octets of those there.
+    -- A named sample is there exactly when it ends among the octets of those there.
     pub there-ends : (endOf cs c n ≤ long) ↔ (endOf cs c n ≤ T)
     there-ends = (λ k. by k (decLt 0 G) (decLt q Q) (decLt Q q), λ k. omega (arith, there-le))
       where
@@ -209,7 +209,7 @@ unfolding blockOctets
 block-fits cs c h = below-fits cs c h
 
 module _ {cs : List Settings} {S long : ℕ} where
-  -- (a) The samples there are the first in file order: with a sample that is there, each that does not begin behind it is there.
+  -- The samples there are the first in file order: with a sample that is there, each that does not begin behind it is there.
   pub there-first : {c n d m : ℕ} → Named cs S c n → There cs S long d m → 0 < widthIn (channelIn d cs) → offsetOf cs c n ≤ offsetOf cs d m → There cs S long c n
   there-first {c} {n} {d} {m} h k p l = by (there-clean cs S long c n h)
     where
@@ -217,7 +217,7 @@ module _ {cs : List Settings} {S long : ℕ} where
       by (inl a) = record { named = h; inside = omega (arith, there-le cs S long) }
       by (inr a) = let z : ⊥ = omega (arith, there-ends cs S long d m (k .named) .0 (k .inside)) in absurd z
 
-  -- (c) Each octet of the waveform is in one sample that is there ..
+  -- Each octet ahead of the surplus is in a sample that is there.
   pub octet-held : (o : ℕ) → o < thereOctets cs S long → Held cs S long o
   octet-held o h =
       let k = offset-covers cs S o (omega (arith, there-declared cs S long)) in
@@ -227,10 +227,6 @@ module _ {cs : List Settings} {S long : ℕ} where
       by : (c n : ℕ) → Named cs S c n → offsetOf cs c n < thereOctets cs S long → (endOf cs c n ≤ thereOctets cs S long) ⊎ (thereOctets cs S long ≤ offsetOf cs c n) → endOf cs c n ≤ long
       by c n g l (inl a) = omega (arith, there-le cs S long)
       by c n g l (inr a) = let z : ⊥ = omega arith in absurd z
-
-  -- .. and in no other (offset-apart), or it is in the surplus, and in no sample that is there.
-  pub octet-surplus : (o : ℕ) → thereOctets cs S long ≤ o → Held cs S long o → ⊥
-  octet-surplus o h k = omega (arith, k .place, there-ends cs S long (k .channel) (k .n) (k .there .named) .0 (k .there .inside))
 
   -- ---- counts
 
@@ -274,7 +270,7 @@ module _ (cs : List Settings) (S long : ℕ) where
       by (no a) = omega (arith, there-le cs S T)
 
 module _ (cs : List Settings) (wide : Wide cs) (S long : ℕ) where
-  -- (e) A waveform that ends with the last sample there has the same samples.
+  -- A waveform that ends with the last sample there has the same samples.
   pub there-again : (c : ℕ) → c < length cs → thereOf cs S (thereOctets cs S long) c ≡ thereOf cs S long c
   there-again c h =
       count-same (S * channelIn c cs .block) _ _ (there-few cs S _ c) (there-few cs S _ c)
@@ -285,7 +281,7 @@ module _ (cs : List Settings) (wide : Wide cs) (S long : ℕ) where
       let g = there-counted k (wide c h) in
       (λ a. g .0 (e .1 (f .1 a)), λ a. f .0 (e .0 (g .1 a))))
 
-  -- (f) Where nothing is cut off, all declared samples are there.
+  -- Where nothing is cut off, all declared samples are there.
   pub there-all : S * sequenceOctets cs ≤ long → (c : ℕ) → c < length cs → thereOf cs S long c ≡ S * channelIn c cs .block
   there-all h c l =
       count-same (S * channelIn c cs .block) _ _ (there-few cs S long c) (omega arith)

@@ -20,9 +20,9 @@ pub struct View {
     pub sequences: u32,
     pub little: bool,
     pub place: usize,
-    pub long: usize,
     pub octets: u64,
     pub below: u64,
+    pub long: usize,
     pub settings: Settings,
 }
 

@@ -97,9 +97,10 @@ pub fn cut_off(order: Order) -> Vec<u8> {
     file
 }
 
-/// Four octets of a frame that declares as many sequences of as many channels as there may be.
-pub fn declared() -> Vec<u8> {
-    let mut file = vec![0x05, 2, 1, 0, 0x06, 4, 0xFF, 0xFF, 0xFF, 0xFF];
+/// Four octets of a frame that declares so many sequences of as many channels as there may be.
+pub fn declared(sequences: u32) -> Vec<u8> {
+    let mut file = vec![0x05, 2, 1, 0, 0x06, 4];
+    file.extend(sequences.to_be_bytes());
     waveform(&mut file, 4);
     file
 }

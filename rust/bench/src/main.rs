@@ -479,27 +479,46 @@ fn cut_off(course: &mut Course) {
     });
 }
 
-/// A frame of four octets in which far more samples are declared than there are.
+/// A frame of four octets in which far more samples are declared than there are: beside the second program, and
+/// beside the same frame with one sequence declared.
 fn declared(course: &mut Course) {
-    check(
-        course,
-        "check: 4 octets, 2^40 samples declared",
-        None,
-        files::declared,
-    );
-    canonical(
-        course,
-        "canonical: 4 octets, 2^40 samples declared",
-        None,
-        files::declared,
-    );
-    bulk(
-        course,
-        "bulk: 4 octets, 2^40 samples declared",
-        None,
-        (0, 1),
-        files::declared,
-    );
+    let checked = "check: 4 octets, 2^40 samples declared";
+    let written = "canonical: 4 octets, 2^40 samples declared";
+    let read = "bulk: 4 octets, 2^40 samples declared";
+    let declared = || files::declared(u32::MAX);
+    check(course, checked, None, declared);
+    canonical(course, written, None, declared);
+    bulk(course, read, None, (0, 1), declared);
+    let (many, one) = (files::declared(u32::MAX), files::declared(1));
+    if let Some(row) = course.row(checked, Against::Itself, Some(SECOND)) {
+        course.without_buffers(
+            row,
+            || ffi::check(black_box(&many)),
+            || ffi::check(black_box(&one)),
+        );
+    }
+    if let Some(row) = course.row(written, Against::Itself, Some(SECOND)) {
+        let length = |file| ffi::canonical_length(file).count as usize;
+        let write =
+            |file, out: &mut [u8]| assert_eq!(ffi::canonical(black_box(file), out).number, 0);
+        course.with_buffers(
+            row,
+            || vec![0; length(&many)],
+            |out| write(&many, out),
+            |out| write(&one, out),
+        );
+    }
+    if let Some(row) = course.row(read, Against::Itself, Some(SECOND)) {
+        let read = |file, out: &mut [u64]| {
+            assert_eq!(ffi::samples(black_box(file), 0, 1, 0, out).count, 1);
+        };
+        course.with_buffers(
+            row,
+            || [0; 2],
+            |out| read(&many, out),
+            |out| read(&one, out),
+        );
+    }
 }
 
 /// The canonical file of an accepted one beside the second program's.
