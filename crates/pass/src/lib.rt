@@ -370,20 +370,11 @@ fn scan_channels(s: &[u8], asked: Asked, from: Cursor, standing: Standing, befor
                             Framed::Taken(sequences, after) => {
                                 let k = index(asked.channel);
                                 let seen = dated::settle(root, dates, table[k]);
+                                let mut there = 0u64;
                                 if sizes::holds(len as u64, sequences, l.octets) {
-                                    let there = sequences as u64 * l.octets;
-                                    met = met.with_frame(
-                                        asked,
-                                        st,
-                                        sequences,
-                                        start,
-                                        len,
-                                        l,
-                                        there,
-                                        seen,
-                                    );
+                                    there = sequences as u64 * l.octets;
                                 } else {
-                                    let there = channels_there(
+                                    there = channels_there(
                                         root,
                                         dates,
                                         table,
@@ -392,17 +383,17 @@ fn scan_channels(s: &[u8], asked: Asked, from: Cursor, standing: Standing, befor
                                         l.octets,
                                         len,
                                     );
-                                    met = met.with_frame(
-                                        asked,
-                                        st,
-                                        sequences,
-                                        start,
-                                        len,
-                                        l,
-                                        there,
-                                        seen,
-                                    );
                                 }
+                                met = met.with_frame(
+                                    asked,
+                                    st,
+                                    sequences,
+                                    start,
+                                    len,
+                                    l,
+                                    there,
+                                    seen,
+                                );
                                 st = after;
                             }
                         }

@@ -1,7 +1,7 @@
 -- Each turn is a law of the pass over the records: the items up to the cursor behind the item lead to what stands then.
 use mathlib.Core.Path.{_≡_, refl, sym, ap, _∙_}
 use mathlib.Core.List.{List, [], _∷_}
-use mathlib.Core.Logic.{inl}
+use mathlib.Core.Logic.{inl, ⊎-elim}
 use mathlib.Core.Bool.{Bool, true}
 use native.Mathlib.Omega.{arith}
 use borrow.Author.Needs.{needs}
@@ -125,6 +125,24 @@ whole : (c : Given) (sequences long : ℕ) {t : Bool}
     let octets = at-sum c .loop2 .l .octets in
     t ≡ leb (sequences * octets) long → t ≡ true → sequences * octets ≡ thereOctets (take (channelsOf (l .st .counted)) (settledIn (l .st .root) (l .dates) (l .table))) sequences long
 whole c sequences long h k = held-there _ sequences long (framing-octets (framing c)) h k
+
+-- Its samples there are counted, one way or the other.
+abbrev Counted : Type 0
+Counted = tie.Joined3 Inv-loop2 μ-loop2 Inv-loop μ-loop
+
+abbrev given-of : Counted → Given
+given-of c = c .before .before .before .before .before .before .before .before
+
+abbrev taken-of : Counted → tie.After-sequences Inv-loop2 μ-loop2 Inv-loop μ-loop
+taken-of c = c .before .before .before .before .before .before
+
+counted : (c : Counted)
+    → let l = at-loop (behind (known (given-of c))) .loop in
+    c .if3 .there ≡ thereOctets (take (channelsOf (l .st .counted)) (settledIn (l .st .root) (l .dates) (l .table))) (taken-of c .sequences .given .0 .0) (at-frame (given-of c) .effect3 .given .0 .1 .0)
+counted c =
+    ⊎-elim (λ p. p .2 ∙ whole (given-of c) _ _ (c .before .holds .ensures) (p .0 .taken))
+    (λ p. p .2 ∙ there (given-of c) _ _ _ (p .1 .ensures))
+    (c .if3 .came)
 
 -- ---- the needs
 
@@ -403,39 +421,24 @@ cast-there c = search needs
 mul-there : tie.Need-mul-there Inv-loop2 μ-loop2 Inv-loop μ-loop
 mul-there c = record { fits = held-small _ _ _ (c .before .before .holds .ensures) (c .before .if3 .taken) (framing-small (framing (c .before .before .before .before .before .before .before .before .before)) (c .before .before .before .before .before .before .before .sequences .given .1)) }
 
-with-frame-requires : tie.Need-with-frame-requires Inv-loop2 μ-loop2 Inv-loop μ-loop
-with-frame-requires c κs =
-    let given = c .before .before .before .before .before .before .before .before .before in
-    framing-room (framing given) (c .before .before .before .before .before .before .before .sequences .given .1) (whole given _ _ (c .before .before .holds .ensures) (c .before .if3 .taken))
-
 channels-there-requires : tie.Need-channels-there-requires Inv-loop2 μ-loop2 Inv-loop μ-loop
 channels-there-requires c κs =
     let given = c .before .before .before .before .before .before .before .before in
     let octets = framing-octets (framing given) in
     ((at-sum given .loop2 .inv .few, rw (at-sum given .before .before .channels-of .ensures) octets), rw octets (held-cut _ _ _ octets (c .before .holds .ensures) (c .if3 .left)))
 
-with-frame-requires-2 : tie.Need-with-frame-requires-2 Inv-loop2 μ-loop2 Inv-loop μ-loop
-with-frame-requires-2 c κs =
-    let given = c .before .before .before .before .before .before .before .before .before in
-    framing-room (framing given) (c .before .before .before .before .before .before .before .sequences .given .1) (there given _ _ _ (c .channels-there .ensures))
+with-frame-requires : tie.Need-with-frame-requires Inv-loop2 μ-loop2 Inv-loop μ-loop
+with-frame-requires c κs = framing-room (framing (given-of c)) (taken-of c .sequences .given .1) (counted c)
 
 loop-less-6 : tie.Need-loop-less-6 Inv-loop2 μ-loop2 Inv-loop μ-loop
-loop-less-6 c = omega (arith, facing-later (framing (c .before .before .before .before .before .before .before .before .before .before) .turn))
+loop-less-6 c = omega (arith, facing-later (framing (given-of (c .before)) .turn))
 
 loop-again-6 : tie.Need-loop-again-6 Inv-loop2 μ-loop2 Inv-loop μ-loop
 loop-again-6 c =
-    let given = c .before .before .before .before .before .before .before .before .before .before in
-    let p = passing (known given) in
-    passing-on p (turn (known given)) (framing-taken (framing given) (c .before .before .before .before .before .before .before .before .sequences .given .1) (whole given _ _ (c .before .before .before .holds .ensures) (c .before .before .if3 .taken)) (settled-seen p (c .before .before .before .before .before .before .index .ensures) (c .before .before .before .before .settle4 .ensures)) (c .with-frame .ensures))
-
-loop-less-7 : tie.Need-loop-less-7 Inv-loop2 μ-loop2 Inv-loop μ-loop
-loop-less-7 c = omega (arith, facing-later (framing (c .before .before .before .before .before .before .before .before .before .before) .turn))
-
-loop-again-7 : tie.Need-loop-again-7 Inv-loop2 μ-loop2 Inv-loop μ-loop
-loop-again-7 c =
-    let given = c .before .before .before .before .before .before .before .before .before .before in
-    let p = passing (known given) in
-    passing-on p (turn (known given)) (framing-taken (framing given) (c .before .before .before .before .before .before .before .before .sequences .given .1) (there given _ _ _ (c .before .channels-there .ensures)) (settled-seen p (c .before .before .before .before .before .before .index .ensures) (c .before .before .before .before .settle4 .ensures)) (c .with-frame2 .ensures))
+    let j = c .before in
+    let p = passing (known (given-of j)) in
+    let seen = settled-seen p (j .before .before .before .before .index .ensures) (j .before .before .settle4 .ensures) in
+    passing-on p (turn (known (given-of j))) (framing-taken (framing (given-of j)) (taken-of j .sequences .given .1) (counted j) seen (c .with-frame .ensures))
 
 enum-known-effect-4 : tie.Need-enum-known-effect-4 Inv-loop2 μ-loop2 Inv-loop μ-loop
 enum-known-effect-4 c = search needs
@@ -451,11 +454,11 @@ returns-4 c =
 standing-after-requires-3 : tie.Need-standing-after-requires-3 Inv-loop2 μ-loop2 Inv-loop μ-loop
 standing-after-requires-3 c κs = search needs
 
-loop-less-8 : tie.Need-loop-less-8 Inv-loop2 μ-loop2 Inv-loop μ-loop
-loop-less-8 c = omega (arith, facing-later (turn (c .before .before)))
+loop-less-7 : tie.Need-loop-less-7 Inv-loop2 μ-loop2 Inv-loop μ-loop
+loop-less-7 c = omega (arith, facing-later (turn (c .before .before)))
 
-loop-again-8 : tie.Need-loop-again-8 Inv-loop2 μ-loop2 Inv-loop μ-loop
-loop-again-8 c =
+loop-again-7 : tie.Need-loop-again-7 Inv-loop2 μ-loop2 Inv-loop μ-loop
+loop-again-7 c =
     let k = c .before .before in
     passing-on (passing k) (turn k) (facing-stands (turn k) (0 ∷ 1 ∷ 3 ∷ 4 ∷ []) (tt, tt, tt, tt) (inl tt) (c .before .match2 .keys6) (c .standing-after3 .ensures))
 
@@ -538,16 +541,13 @@ scan-channels-spec =
     holds-requires
     cast-there
     mul-there
-    with-frame-requires
     channels-there-requires
-    with-frame-requires-2
+    with-frame-requires
     loop-less-6
     loop-again-6
-    loop-less-7
-    loop-again-7
     enum-known-effect-4
     refused-item-requires-2
     returns-4
     standing-after-requires-3
-    loop-less-8
-    loop-again-8)
+    loop-less-7
+    loop-again-7)
