@@ -3,3 +3,4 @@ pub mod Turned
 pub mod Samples
 pub mod Blocks
 pub mod Numbers
+pub mod Moves
