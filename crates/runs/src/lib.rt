@@ -26,8 +26,21 @@ fn within(size: usize, from: usize, n: usize) -> usize
     n
 }
 
-// How many octets are moved at a time (docs/DECISIONS.md 100).
-const PIECE: usize = 2048;
+// How many octets of a long run are moved at a time (docs/DECISIONS.md 100).
+const PIECE: usize = 1_048_576;
+
+// Copies n octets.
+fn copy_octets(src: &[u8], q: usize, n: usize, dst: &mut [u8], p: usize)
+    requires { ⌜ n ≤ length (now src) - q ⌝ }
+    requires { ⌜ p + n ≤ length (now dst) ⌝ }
+    ensures { λ _. ⌜ now (dst .exit) ≡ sets (now (dst .entry)) p (take n (drop q (now (src .entry)))) ⌝ }
+{
+    let mut i = 0usize;
+    while i < n {
+        dst[p + i] = src[q + i];
+        i += 1;
+    }
+}
 
 // Copies the first of n octets, a piece at most: how many. An array of the function's own lies apart from both slices, as the compiler knows: it makes one move of
 // memory of both loops, without the array.
@@ -61,9 +74,10 @@ pub fn copy(src: &[u8], from: usize, n: usize, dst: &mut [u8], at: usize) -> usi
         return at;
     }
     let mut done = 0usize;
-    while done < count {
+    while PIECE <= count - done {
         done += copy_piece(src, from + done, count - done, dst, at + done);
     }
+    copy_octets(src, from + done, count - done, dst, at + done);
     at + count
 }
 

@@ -57,6 +57,9 @@ loop-holds c =
     begins (a .src .now) (a .from) (c .before .before .within .result) (a .dst .now) (a .at) (omega arith)
     (omega (arith, ltb-false))
 
+sub-loop : tie.Need-sub-loop Inv-loop μ-loop
+sub-loop c = omega arith
+
 add-copy-piece : tie.Need-add-copy-piece Inv-loop μ-loop
 add-copy-piece c = omega arith
 
@@ -80,16 +83,36 @@ loop-again c =
     let here = c .before .before in
     moves (here .copy-piece .result) (omega arith) (here .copy-piece .ensures .1) (here .before .before .before .loop .inv)
 
+add-copy-octets : tie.Need-add-copy-octets Inv-loop μ-loop
+add-copy-octets c = omega arith
+
+sub-copy-octets : tie.Need-sub-copy-octets Inv-loop μ-loop
+sub-copy-octets c = omega arith
+
+add-copy-octets-2 : tie.Need-add-copy-octets-2 Inv-loop μ-loop
+add-copy-octets-2 c = omega arith
+
+copy-octets-requires : tie.Need-copy-octets-requires Inv-loop μ-loop
+copy-octets-requires c κs = (omega arith , omega arith)
+
 add-result : tie.Need-add-result Inv-loop μ-loop
 add-result c = omega arith
 
 same-length : tie.Need-same-length Inv-loop μ-loop
-same-length c = c .before .loop .inv .long
+same-length c =
+    let here = c .before .before in
+    let at-loop = here .before .before .before in
+    let rest = at-loop .before .before .before .within .result - at-loop .loop .done in
+    moves rest (omega arith) (here .copy-octets .ensures) (at-loop .loop .inv) .long
 
 returns-2 : tie.Need-returns-2 Inv-loop μ-loop
 returns-2 c =
-    let a = c .before .before .before .before .before .before .before .args in
-    ends (a .n) (c .before .before .before .before .within .ensures) (c .loop-test .left) (c .before .loop .inv)
+    let here = c .before .before in
+    let at-loop = here .before .before .before in
+    let at-within = at-loop .before .before .before in
+    let rest = at-within .within .result - at-loop .loop .done in
+    let a = at-within .before .before .before .args in
+    ends (a .n) (at-within .within .ensures) (omega arith) (moves rest (omega arith) (here .copy-octets .ensures) (at-loop .loop .inv))
 
 pub copy-spec : {M : Type 1} → statement M
 copy-spec =
@@ -101,6 +124,7 @@ copy-spec =
     overruns-requires
     returns
     loop-holds
+    sub-loop
     add-copy-piece
     sub-copy-piece
     add-copy-piece-2
@@ -108,6 +132,10 @@ copy-spec =
     add-done
     loop-less
     loop-again
+    add-copy-octets
+    sub-copy-octets
+    add-copy-octets-2
+    copy-octets-requires
     add-result
     same-length
     returns-2)

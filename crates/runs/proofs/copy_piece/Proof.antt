@@ -15,11 +15,11 @@ use Rattle.runs.proofs.copy_piece.Tie as tie
 -- The first i octets of the array are those of s from q on.
 record Held (s : List ℕ) (q k : ℕ) (a : List ℕ) (i : ℕ) : Type 0 where
   low : i ≤ k
-  long : length a ≡ 2048
+  long : length a ≡ 1048576
   held : take i a ≡ take i (drop q s)
 
 -- A turn of the first loop reads one octet more.
-reads : {s : List ℕ} {q k : ℕ} {a : List ℕ} {i : ℕ} → q + i < length s → i < k → k ≤ 2048 → Held s q k a i
+reads : {s : List ℕ} {q k : ℕ} {a : List ℕ} {i : ℕ} → q + i < length s → i < k → k ≤ 1048576 → Held s q k a i
     → Held s q k (set a i (getD s (q + i) 0)) (i + 1)
 reads {s} {q} {k} {a} {i} inside h few c =
     let v = getD s (q + i) 0 in
@@ -53,7 +53,7 @@ within-requires : tie.Need-within-requires Inv-loop μ-loop Inv-loop2 μ-loop2
 within-requires c κs = search needs
 
 loop-holds : tie.Need-loop-holds Inv-loop μ-loop Inv-loop2 μ-loop2
-loop-holds c = record { low = omega arith; long = length-replicate {A = ℕ} 2048 0; held = refl }
+loop-holds c = record { low = omega arith; long = length-replicate {A = ℕ} 1048576 0; held = refl }
 
 add-piece : tie.Need-add-piece Inv-loop μ-loop Inv-loop2 μ-loop2
 add-piece c = omega arith
