@@ -18,7 +18,8 @@ fn compile(name: &str) {
     let folder = env::var_os("OUT_DIR").expect("set by cargo");
     let object = PathBuf::from(folder).join(name).with_extension("o");
     let status = Command::new("cc")
-        .args(["-O3", "-I", "../../include", "-c", &source, "-o"])
+        .args(["-O3", "-falign-functions=64", "-falign-loops=64"])
+        .args(["-I", "../../include", "-c", &source, "-o"])
         .arg(&object)
         .status();
     assert!(status.is_ok_and(|status| status.success()), "cc failed");

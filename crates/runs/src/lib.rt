@@ -26,7 +26,7 @@ fn within(size: usize, from: usize, n: usize) -> usize
     n
 }
 
-// How many octets of a long run are moved at a time (docs/DECISIONS.md 100).
+// How many octets of a long run are moved at a time (docs/DECISIONS.md 102).
 const PIECE: usize = 1_048_576;
 
 // Copies n octets.

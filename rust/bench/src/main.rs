@@ -359,15 +359,10 @@ fn walks(course: &mut Course) {
 fn parsed(file: &[u8], out: &mut [u64]) -> u64 {
     let mut sum = 0;
     let frames = reader::each_channel(file, out, |_, bits| {
-        sum = summed(sum, bits);
+        sum = native::summed(sum, bits);
     });
     assert!(frames.is_ok());
     sum
-}
-
-#[inline(never)]
-fn summed(sum: u64, bits: &[u64]) -> u64 {
-    bits.iter().fold(sum, |sum, bits| sum.wrapping_add(*bits))
 }
 
 /// The values of eight channels, each sample of which lies between those of the others, beside a loop

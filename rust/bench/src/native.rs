@@ -1,5 +1,5 @@
 //! The functions in C that only the benchmark calls: the processor's clock, the loop of `widen.c`, and the
-//! walk of `walk.c`.
+//! walk and the sum of `walk.c`.
 //!
 //! This is the only module with unsafe code. What makes each call sound: a slice is passed as its
 //! pointer and its own length, every output is a place that this module owns, and nothing keeps a
@@ -24,6 +24,15 @@ extern "C" {
 
     #[link_name = "walked"]
     fn walk(file: *const u8, file_len: usize, out: *mut u64, out_len: usize) -> u64;
+
+    #[link_name = "summed"]
+    fn sum(sum: u64, bits: *const u64, count: usize) -> u64;
+}
+
+/// A sum with all of these added to it, as the walk adds them up.
+pub fn summed(before: u64, bits: &[u64]) -> u64 {
+    // SAFETY: see the module's first lines.
+    unsafe { sum(before, bits.as_ptr(), bits.len()) }
 }
 
 /// The sum of all samples of an accepted file, by the library's walk, as a program in C asks for them.

@@ -1,9 +1,11 @@
 /* All samples of all channels of an accepted file, by a walk, added up. */
 #include "mfer.h"
 
-static uint64_t summed(uint64_t sum, const uint64_t *bits, uint64_t count)
+/* Both sides of a row add up by this one. Where its loop lies in the program is set by the flags that it is
+ * compiled with: across a border of 64 octets it took twice as long on an AMD EPYC. */
+__attribute__((noinline)) uint64_t summed(uint64_t sum, const uint64_t *bits, size_t count)
 {
-    uint64_t i;
+    size_t i;
     for (i = 0; i < count; i++)
         sum += bits[i];
     return sum;

@@ -578,25 +578,32 @@ fn a_refused_file_answers_its_refusal_to_every_question() {
     assert_eq!(file.channel(0, 0).err(), Some(refusal));
 }
 
-/// The header promises it.
+/// The header promises it. The second file is long enough that its waveform is copied by more than one
+/// move of memory.
 #[test]
 fn a_call_needs_less_than_256_kib_of_stack() {
     let questions = || {
-        let octets = two_channels(1000);
-        let file = File::new(&octets);
-        assert_eq!(file.check(), Ok(1));
-        assert!(file.attributes(0, 1).is_ok());
-        assert!(file.sample(0, 1, 1999).is_ok());
-        assert_eq!(file.samples_there(0, 1), Ok(2000));
-        assert_eq!(file.samples(0, 1, 0, &mut [0; 10]), Ok(10));
-        assert_eq!(file.values(0, 1, 0, &mut [0; 10], &mut [0; 10]), Ok(10));
-        assert!(file.canonical_vec().is_ok());
-        assert_eq!(file.channel(0, 1).unwrap().bits().count(), 2000);
-        assert_eq!(file.channel(0, 1).unwrap().values().count(), 2000);
-        let frame = file.frame(0).unwrap();
-        assert_eq!(frame.samples(&mut vec![0; 3000]), Ok(3000));
-        let made = frame.settings().unwrap().make(&octets[frame.waveform()]);
-        assert_eq!(made.unwrap(), file.canonical_vec().unwrap()[3..]);
+        for sequences in [1000, 600_000] {
+            let octets = two_channels(sequences);
+            let (sequences, file) = (sequences as u64, File::new(&octets));
+            assert_eq!(file.check(), Ok(1));
+            assert!(file.attributes(0, 1).is_ok());
+            assert!(file.sample(0, 1, 2 * sequences - 1).is_ok());
+            assert_eq!(file.samples_there(0, 1), Ok(2 * sequences));
+            assert_eq!(file.samples(0, 1, 0, &mut [0; 10]), Ok(10));
+            assert_eq!(file.values(0, 1, 0, &mut [0; 10], &mut [0; 10]), Ok(10));
+            let channel = file.channel(0, 1).unwrap();
+            assert_eq!(channel.bits().count() as u64, 2 * sequences);
+            assert_eq!(channel.values().count() as u64, 2 * sequences);
+            let frame = file.frame(0).unwrap();
+            let waveform = &octets[frame.waveform()];
+            let all = frame.sample_count().unwrap();
+            assert_eq!(frame.samples(&mut vec![0; all]), Ok(all));
+            let canonical = file.canonical_vec().unwrap();
+            assert!(canonical.ends_with(waveform));
+            let made = frame.settings().unwrap().make(waveform);
+            assert!(made.unwrap() == canonical[3..]);
+        }
     };
     let thread = std::thread::Builder::new().stack_size(256 * 1024);
     thread.spawn(questions).unwrap().join().unwrap();
