@@ -1,5 +1,5 @@
 -- Blocks of 16 octets, for the widths of the fast way.
---     Whole, whole    what these widths have in common
+--     Whole, whole, whole-eight    what these widths have in common
 --     four            the width that is not the other
 --     two-eights      a block is eight octets and then eight
 -- Assumes nothing.
@@ -26,6 +26,9 @@ whole =
     ⊎-elim
     (λ e. rw e (record { some = omega arith; each = omega arith; half = refl; twice = refl; size = refl }))
     (λ e. rw e (record { some = omega arith; each = omega arith; half = refl; twice = refl; size = refl }))
+
+pub whole-eight : Whole 8
+whole-eight = record { some = omega arith; each = omega arith; half = refl; twice = refl; size = refl }
 
 pub four : {w : ℕ} → (w ≡ 2) ⊎ (w ≡ 4) → (w ≡ 2 → ⊥) → w ≡ 4
 four h a = ⊎-elim (λ e. absurd (a e)) (λ e. e) h

@@ -70,7 +70,7 @@ add-copy-piece-2 : tie.Need-add-copy-piece-2 Inv-loop μ-loop
 add-copy-piece-2 c = omega arith
 
 copy-piece-requires : tie.Need-copy-piece-requires Inv-loop μ-loop
-copy-piece-requires c κs = (omega arith , omega arith)
+copy-piece-requires c κs = (omega arith, omega arith)
 
 add-done : tie.Need-add-done Inv-loop μ-loop
 add-done c = omega arith
@@ -93,7 +93,7 @@ add-copy-octets-2 : tie.Need-add-copy-octets-2 Inv-loop μ-loop
 add-copy-octets-2 c = omega arith
 
 copy-octets-requires : tie.Need-copy-octets-requires Inv-loop μ-loop
-copy-octets-requires c κs = (omega arith , omega arith)
+copy-octets-requires c κs = (omega arith, omega arith)
 
 add-result : tie.Need-add-result Inv-loop μ-loop
 add-result c = omega arith

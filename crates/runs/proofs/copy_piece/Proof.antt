@@ -74,7 +74,7 @@ loop-again : tie.Need-loop-again Inv-loop μ-loop Inv-loop2 μ-loop2
 loop-again c = reads (omega arith) (c .before .loop-test .taken) (omega arith) (c .before .before .loop .inv)
 
 loop2-holds : tie.Need-loop2-holds Inv-loop μ-loop Inv-loop2 μ-loop2
-loop2-holds c = 
+loop2-holds c =
     let a = c .before .before .before .before .before .args in
     begins (a .src .now) (a .q) (c .before .before .within .result) (a .dst .now) (a .p) (omega arith) (omega arith)
 
@@ -94,7 +94,7 @@ loop2-less : tie.Need-loop2-less Inv-loop μ-loop Inv-loop2 μ-loop2
 loop2-less c = omega arith
 
 loop2-again : tie.Need-loop2-again Inv-loop μ-loop Inv-loop2 μ-loop2
-loop2-again c = 
+loop2-again c =
     let h : c .before .loop2 .j < c .before .before .before .loop .i = omega arith in
     one-moves (c .loop2-test .taken) (found h (c .before .before .before .loop .inv)) (c .before .loop2 .inv)
 
@@ -102,7 +102,7 @@ same-length : tie.Need-same-length Inv-loop μ-loop Inv-loop2 μ-loop2
 same-length c = c .before .loop2 .inv .long
 
 returns : tie.Need-returns Inv-loop μ-loop Inv-loop2 μ-loop2
-returns c = ((omega arith , omega arith) , moved (c .loop2-test .left) (c .before .loop2 .inv))
+returns c = ((omega arith, omega arith), moved (c .loop2-test .left) (c .before .loop2 .inv))
 
 pub copy-piece-spec : {M : Type 1} → statement M
 copy-piece-spec =
