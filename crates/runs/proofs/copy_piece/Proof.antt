@@ -12,14 +12,18 @@ use Rattle.runs.proofs.Moves.{Moving, begins, one-moves, moved}
 use Rattle.runs.proofs.copy_piece.Statement.{statement}
 use Rattle.runs.proofs.copy_piece.Tie as tie
 
+-- The octets of a piece.
+abbrev pieceOctets : ℕ
+pieceOctets = 1048576
+
 -- The first i octets of the array are those of s from q on.
 record Held (s : List ℕ) (q k : ℕ) (a : List ℕ) (i : ℕ) : Type 0 where
   low : i ≤ k
-  long : length a ≡ 1048576
+  long : length a ≡ pieceOctets
   held : take i a ≡ take i (drop q s)
 
 -- A turn of the first loop reads one octet more.
-reads : {s : List ℕ} {q k : ℕ} {a : List ℕ} {i : ℕ} → q + i < length s → i < k → k ≤ 1048576 → Held s q k a i
+reads : {s : List ℕ} {q k : ℕ} {a : List ℕ} {i : ℕ} → q + i < length s → i < k → k ≤ pieceOctets → Held s q k a i
     → Held s q k (set a i (getD s (q + i) 0)) (i + 1)
 reads {s} {q} {k} {a} {i} inside h few c =
     let v = getD s (q + i) 0 in
@@ -53,7 +57,7 @@ within-requires : tie.Need-within-requires Inv-loop μ-loop Inv-loop2 μ-loop2
 within-requires c κs = search needs
 
 loop-holds : tie.Need-loop-holds Inv-loop μ-loop Inv-loop2 μ-loop2
-loop-holds c = record { low = omega arith; long = length-replicate {A = ℕ} 1048576 0; held = refl }
+loop-holds c = record { low = omega arith; long = length-replicate {A = ℕ} pieceOctets 0; held = refl }
 
 add-piece : tie.Need-add-piece Inv-loop μ-loop Inv-loop2 μ-loop2
 add-piece c = omega arith
