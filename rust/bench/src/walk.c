@@ -2,7 +2,7 @@
 #include "mfer.h"
 
 /* Both sides of a row add up by this one. Where its loop lies in the program is set by the flags that it is
- * compiled with: across a border of 64 octets it took twice as long on an AMD EPYC. */
+ * compiled with: elsewhere it took up to twice as long on an AMD EPYC. */
 __attribute__((noinline)) uint64_t summed(uint64_t sum, const uint64_t *bits, size_t count)
 {
     size_t i;
