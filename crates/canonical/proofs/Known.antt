@@ -28,15 +28,16 @@ use Rattle.stores.proofs.Length.{holding-between, holding-holds}
 use Rattle.stores.specs.Length.{holding, shortest, shortest-short, shortest-long}
 use Rattle.heads.specs.declared.Channel.the-variants.{Number}
 use Rattle.heads.specs.declared.Length.the-variants.{Known}
-use Rattle.heads.specs.declared.Head.{Head}
+use Rattle.heads.specs.declared.Form.{Form}
 use Rattle.heads.specs.declared.Head.the-variants.{Primitive, Definite}
 use Rattle.items.specs.declared.Within.{Within}
 use Rattle.items.specs.declared.Within.the-variants.{Root}
 use Rattle.items.specs.declared.Item.{Item}
 use Rattle.items.specs.declared.Item.the-variants.{Plain, Member}
 use Rattle.items.specs.declared.Next.the-variants.{Found, End}
-use Rattle.heads.specs.Head.{channelOf, lengthOf, unknownContext, rootOnly, primitiveHead, groupLength, groupHead, headOf}
+use Rattle.heads.specs.Head.{channelOf, lengthOf, unknownContext, rootOnly, primitiveForm, groupLength, groupForm, formOf, headOf}
 use Rattle.heads.specs.Refusals.{contextTag, barredTag}
+use Rattle.heads.proofs.Heads.{primitive-fits, definite-fits}
 use Rattle.items.specs.Walk.{cursor, itemOf, nextIn, nextOf}
 use Rattle.effects.specs.Effects.{valueAt}
 use Rattle.standing.specs.Standing.{octetsLimit}
@@ -90,18 +91,17 @@ last-picked x y z w false true c t = let q : _≡_ {A = ℕ} 0 1 = cc in let n :
 last-picked x y z w false false true t = let q : _≡_ {A = ℕ} 0 1 = cc in let n : ⊥ = omega arith in absurd n
 last-picked x y z w false false false t = refl
 
-head-usual : (inside : Bool) (tag : ℕ) (u : List ℕ) → usual inside tag ≡ true → headOf inside (tag ∷ u) ≡ primitiveHead tag (length u) (lengthOf u)
-unfolding headOf usual
-head-usual inside tag u t =
-    last-picked (Head.Refused contextTag) (Head.Refused barredTag) (groupHead u (channelOf 4 0 0 u)) (primitiveHead tag (length u) (lengthOf u))
+form-usual : (inside : Bool) (tag : ℕ) (u : List ℕ) → usual inside tag ≡ true → formOf inside (tag ∷ u) ≡ primitiveForm tag (lengthOf u)
+unfolding formOf usual
+form-usual inside tag u t =
+    last-picked (Form.Faulty contextTag) (Form.Faulty barredTag) (groupForm u (channelOf 4 0 0 u)) (primitiveForm tag (lengthOf u))
     (unknownContext tag) (both inside (rootOnly tag)) (eqb tag 0x3F) t
 
 pub head-known : (inside : Bool) (tag n : ℕ) (rest : List ℕ) → usual inside tag ≡ true → n < 2 ^ 32 → n ≤ length rest → headOf inside (tag ∷ (shortest n ++ rest)) ≡ Primitive tag (length (shortest n) + 1) n
-unfolding primitiveHead
+unfolding primitiveForm
 head-known inside tag n rest t h l =
-    let k = length (shortest n) in
-    let e : k + length rest - k ≡ length rest = omega arith in
-    rw (head-usual inside tag (shortest n ++ rest) t, length-known n rest h, length-append, e, le-ltb (length rest) n l)
+    primitive-fits inside (tag ∷ (shortest n ++ rest)) (length (shortest n) + 1) n (rw length-append (omega arith)) tag
+    (rw (form-usual inside tag (shortest n ++ rest) t, length-known n rest h))
 
 -- A group with its channel number and its items.
 abbrev pub group : ℕ → List ℕ → List ℕ
@@ -112,11 +112,10 @@ abbrev pub headOctets : ℕ → ℕ → ℕ
 headOctets k n = length (channelOctets k) + length (shortest n) + 1
 
 pub group-known : (k n : ℕ) (rest : List ℕ) → k < 16384 → n < 2 ^ 32 → n ≤ length rest → headOf false (0x3F ∷ (channelOctets k ++ (shortest n ++ rest))) ≡ Definite k (headOctets k n) n
-unfolding headOf unknownContext groupHead groupLength
+unfolding formOf unknownContext groupForm groupLength
 group-known k n rest b h l =
-    let j = length (shortest n) in
-    let e : j + length rest - j ≡ length rest = omega arith in
-    rw (channel-known k (shortest n ++ rest) b, drop-append-seam (channelOctets k) (shortest n ++ rest), length-known n rest h, length-append, e, le-ltb (length rest) n l)
+    definite-fits false (0x3F ∷ (channelOctets k ++ (shortest n ++ rest))) (headOctets k n) n (simp length-append (omega arith)) k
+    (rw (channel-known k (shortest n ++ rest) b, drop-append-seam (channelOctets k) (shortest n ++ rest), length-known n rest h))
 
 -- ---- what stands at a cursor
 

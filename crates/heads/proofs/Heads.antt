@@ -2,7 +2,10 @@
 --     channel-none, -past, -last, -more    one octet of a channel number
 --     room, room-fits                      its value fits
 --     length-none, -short, -open, -bad, -past, -long    the ways of a length field
---     channel-within, length-within, head-within        no part reaches past the end
+--     length-within, channel-within, form-within, head-within    no part reaches past the end, and how many octets it takes at most
+--     length-found, channel-found, head-found           the same of what a call answers
+--     form-none, -context, -barred, -group, -primitive  the head alone, by its first octet
+--     primitive-fits, definite-fits                     the head with a value that fits
 -- Assumes nothing.
 use Prim.Native.Nat.{ℕ, zero, suc, _+_, _-_, _*_, _%_, _^_, _≤_, _<_, zero-le}
 use mathlib.Core.Path.{_≡_, refl, sym, _∙_, subst}
@@ -11,7 +14,7 @@ use mathlib.Core.Bool.{Bool, true, false}
 use native.Mathlib.Nat.{mul-assoc, add-mul, one-mul, mul-le-mul-right, pow-succ', pow-zero, le-mul-of-pos-right, pow-le-pow-right}
 use native.Mathlib.Numerals.{sub-one}
 use native.Mathlib.Omega.{arith}
-use borrow.Author.Tests.{lt-ltb, le-ltb, eq-eqb, ne-eqb, ltb-false}
+use borrow.Author.Tests.{lt-ltb, le-ltb, eq-eqb, ne-eqb, ltb-true, ltb-false}
 use lib.Dec.{ltb, eqb}
 use lib.ListN.{length, getD, take, drop, length-drop}
 use lib.Seq.{take-all}
@@ -22,9 +25,10 @@ use Rattle.heads.specs.declared.Channel.{Channel}
 use Rattle.heads.specs.declared.Channel.the-variants.{Number, PastEnd, TooLong}
 use Rattle.heads.specs.declared.Length.{Length}
 use Rattle.heads.specs.declared.Length.the-variants.{Known, Bad}
+use Rattle.heads.specs.declared.Form.{Form}
 use Rattle.heads.specs.declared.Head.{Head}
-use Rattle.heads.specs.Refusals.{contextTag, pastEnd, barredTag}
-use Rattle.heads.specs.Head.{channelOf, lengthOf, unknownContext, rootOnly, primitiveHead, groupLength, groupHead, headOf}
+use Rattle.heads.specs.Refusals.{contextTag, barredTag}
+use Rattle.heads.specs.Head.{channelOf, lengthOf, unknownContext, rootOnly, primitiveForm, groupLength, groupForm, formOf, headBy, headOf}
 
 abbrev first : List ℕ → ℕ
 first u = getD u 0 0
@@ -106,42 +110,83 @@ length-long (b ∷ u) e h z l p =
 
 -- ---- how far each part reaches
 
--- A length field takes at least one octet, and none past the end.
+-- A length field takes at least one octet, none past the end, and five at most; where more are wanted there are fewer.
 abbrev pub LengthWithin : ℕ → Length → Type 0
 LengthWithin end (Length.Known n octets) = (0 < octets) × (octets ≤ end) × (octets ≤ 5)
 LengthWithin end (Length.Open octets) = (0 < octets) × (octets ≤ end) × (octets ≤ 5)
-LengthWithin end Length.PastEnd = Unit {0}
+LengthWithin end Length.PastEnd = end < 5
 LengthWithin end Length.Bad = Unit {0}
 
 pub length-within : (u : List ℕ) → LengthWithin (length u) (lengthOf u)
 unfolding lengthOf
-length-within [] = tt
+length-within [] = omega arith
 length-within (b ∷ u) =
     pick-cases (LengthWithin (suc (length u))) (ltb b 128) (λ _. omega arith)
     (λ _. pick-cases (LengthWithin (suc (length u))) (eqb (b - 128) 0) (λ _. omega arith)
     (λ _. pick-cases (LengthWithin (suc (length u))) (ltb 4 (b - 128)) (λ _. tt)
-    (λ f. pick-cases (LengthWithin (suc (length u))) (ltb (length u) (b - 128)) (λ _. tt)
-    (λ g. omega (arith, ltb-false 4 (b - 128) f, ltb-false (length u) (b - 128) g)))))
+    (λ f. let most = ltb-false 4 (b - 128) f in
+    pick-cases (LengthWithin (suc (length u))) (ltb (length u) (b - 128)) (λ g. omega (arith, ltb-true (length u) (b - 128) g))
+    (λ g. omega (arith, ltb-false (length u) (b - 128) g)))))
 
--- A channel number takes at least one octet, none past the end, and no more than are allowed.
+-- A channel number takes at least one octet, none past the end, and no more than are allowed; where more are wanted there are fewer.
 abbrev pub ChannelWithin : ℕ → ℕ → ℕ → Channel → Type 0
 ChannelWithin passed allowed end (Channel.Number v octets) = (passed < octets) × (octets ≤ passed + end) × (octets ≤ passed + allowed)
-ChannelWithin passed allowed end Channel.PastEnd = Unit {0}
+ChannelWithin passed allowed end Channel.PastEnd = end < allowed
 ChannelWithin passed allowed end Channel.TooLong = Unit {0}
 
 channel-later : (passed allowed end : ℕ) (c : Channel) → ChannelWithin (passed + 1) allowed end c → ChannelWithin passed (suc allowed) (suc end) c
 channel-later passed allowed end (Channel.Number v octets) w = omega arith
-channel-later passed allowed end Channel.PastEnd w = tt
+channel-later passed allowed end Channel.PastEnd w = omega arith
 channel-later passed allowed end Channel.TooLong w = tt
 
 pub channel-within : (allowed passed value : ℕ) (u : List ℕ) → ChannelWithin passed allowed (length u) (channelOf allowed passed value u)
 unfolding channelOf
 channel-within zero passed value u = tt
-channel-within (suc allowed) passed value [] = tt
+channel-within (suc allowed) passed value [] = omega arith
 channel-within (suc allowed) passed value (b ∷ u) =
     let v = value * 128 + b % 128 in
     pick-cases (ChannelWithin passed (suc allowed) (suc (length u))) (ltb b 128) (λ _. omega arith)
     (λ _. channel-later passed allowed (length u) (channelOf allowed (passed + 1) v u) (channel-within allowed (passed + 1) v u))
+
+-- A head takes its tag and more, none past the end, and ten octets at most; where more are wanted there are fewer. A fault has one of the numbers up to 5.
+abbrev pub FormWithin : ℕ → Form → Type 0
+FormWithin end Form.More = end < 10
+FormWithin end (Form.Faulty k) = k ≤ barredTag
+FormWithin end (Form.Primitive tag start n) = (0 < start) × (start ≤ end) × (start ≤ 10)
+FormWithin end (Form.Definite c start n) = (0 < start) × (start ≤ end) × (start ≤ 10)
+FormWithin end (Form.Open c start) = (0 < start) × (start ≤ end) × (start ≤ 10)
+
+primitive-within : (tag end : ℕ) (l : Length) → LengthWithin end l → FormWithin (suc end) (primitiveForm tag l)
+unfolding primitiveForm
+primitive-within tag end (Length.Known n octets) w = omega arith
+primitive-within tag end (Length.Open octets) w = omega arith
+primitive-within tag end Length.PastEnd w = omega arith
+primitive-within tag end Length.Bad w = omega arith
+
+group-length-within : (channel k end : ℕ) (l : Length) → k ≤ 4 → LengthWithin end l → FormWithin (suc (k + end)) (groupLength channel k l)
+unfolding groupLength
+group-length-within channel k end (Length.Known n octets) h w = omega arith
+group-length-within channel k end (Length.Open octets) h w = omega arith
+group-length-within channel k end Length.PastEnd h w = omega arith
+group-length-within channel k end Length.Bad h w = omega arith
+
+group-within : (u : List ℕ) (c : Channel) → ChannelWithin 0 4 (length u) c → FormWithin (suc (length u)) (groupForm u c)
+unfolding groupForm
+group-within u (Channel.Number v k) w =
+    let e : suc (k + length (drop k u)) ≡ suc (length u) = rw length-drop (omega arith) in
+    rw e at (group-length-within v k (length (drop k u)) (lengthOf (drop k u)) (omega arith) (length-within (drop k u)))
+group-within u Channel.PastEnd w = omega arith
+group-within u Channel.TooLong w = omega arith
+
+pub form-within : (inside : Bool) (u : List ℕ) → FormWithin (length u) (formOf inside u)
+unfolding formOf
+form-within inside [] = omega arith
+form-within inside (tag ∷ u) =
+    pick-cases (FormWithin (suc (length u))) (unknownContext tag) (λ _. omega arith)
+    (λ _. pick-cases (FormWithin (suc (length u))) (both inside (rootOnly tag)) (λ _. omega arith)
+    (λ _. pick-cases (FormWithin (suc (length u))) (eqb tag 63)
+    (λ _. group-within u (channelOf 4 0 0 u) (channel-within 4 0 0 u))
+    (λ _. primitive-within tag (length u) (lengthOf u) (length-within u))))
 
 -- A value starts behind its tag and ends by the end; a fault has one of the numbers up to 5.
 abbrev pub HeadWithin : ℕ → Head → Type 0
@@ -150,40 +195,19 @@ HeadWithin end (Head.Definite c start n) = (0 < start) × (start + n ≤ end)
 HeadWithin end (Head.Open c start) = (0 < start) × (start ≤ end)
 HeadWithin end (Head.Refused k) = k ≤ barredTag
 
-primitive-within : (tag rest : ℕ) (l : Length) → LengthWithin rest l → HeadWithin (suc rest) (primitiveHead tag rest l)
-unfolding primitiveHead
-primitive-within tag rest (Length.Known n octets) w =
-    pick-cases (HeadWithin (suc rest)) (ltb (rest - octets) n) (λ _. omega arith) (λ g. omega (arith, ltb-false (rest - octets) n g))
-primitive-within tag rest (Length.Open octets) w = omega arith
-primitive-within tag rest Length.PastEnd w = omega arith
-primitive-within tag rest Length.Bad w = omega arith
-
-group-length-within : (channel k rest : ℕ) (l : Length) → LengthWithin rest l → HeadWithin (suc (k + rest)) (groupLength channel k rest l)
-unfolding groupLength
-group-length-within channel k rest (Length.Known n octets) w =
-    pick-cases (HeadWithin (suc (k + rest))) (ltb (rest - octets) n) (λ _. omega arith) (λ g. omega (arith, ltb-false (rest - octets) n g))
-group-length-within channel k rest (Length.Open octets) w = omega arith
-group-length-within channel k rest Length.PastEnd w = omega arith
-group-length-within channel k rest Length.Bad w = omega arith
-
-group-head-within : (u : List ℕ) (c : Channel) → ChannelWithin 0 4 (length u) c → HeadWithin (suc (length u)) (groupHead u c)
-unfolding groupHead
-group-head-within u (Channel.Number v k) w =
-    let e : suc (k + length (drop k u)) ≡ suc (length u) = rw length-drop (omega arith) in
-    subst (λ (n : ℕ). HeadWithin n (groupLength v k (length (drop k u)) (lengthOf (drop k u)))) e
-    (group-length-within v k (length (drop k u)) (lengthOf (drop k u)) (length-within (drop k u)))
-group-head-within u Channel.PastEnd w = omega arith
-group-head-within u Channel.TooLong w = omega arith
+by-within : (end : ℕ) (f : Form) → FormWithin end f → HeadWithin end (headBy end f)
+unfolding headBy
+by-within end Form.More w = omega arith
+by-within end (Form.Faulty k) w = w
+by-within end (Form.Primitive tag start n) w =
+    pick-cases (HeadWithin end) (ltb (end - start) n) (λ _. omega arith) (λ g. omega (arith, ltb-false (end - start) n g))
+by-within end (Form.Definite c start n) w =
+    pick-cases (HeadWithin end) (ltb (end - start) n) (λ _. omega arith) (λ g. omega (arith, ltb-false (end - start) n g))
+by-within end (Form.Open c start) w = omega arith
 
 pub head-within : (inside : Bool) (u : List ℕ) → HeadWithin (length u) (headOf inside u)
 unfolding headOf
-head-within inside [] = omega arith
-head-within inside (tag ∷ u) =
-    pick-cases (HeadWithin (suc (length u))) (unknownContext tag) (λ _. omega arith)
-    (λ _. pick-cases (HeadWithin (suc (length u))) (both inside (rootOnly tag)) (λ _. omega arith)
-    (λ _. pick-cases (HeadWithin (suc (length u))) (eqb tag 63)
-    (λ _. group-head-within u (channelOf 4 0 0 u) (channel-within 4 0 0 u))
-    (λ _. primitive-within tag (length u) (lengthOf u) (length-within u))))
+head-within inside u = by-within (length u) (formOf inside u) (form-within inside u)
 
 -- The same of what a call answers: by its contract, and by the arm that it is in.
 pub head-found : (inside : Bool) (u : List ℕ) {r h : Head} → r ≡ headOf inside u → r ≡ h → HeadWithin (length u) h
@@ -195,32 +219,46 @@ length-found u e f = subst (LengthWithin (length u)) (sym e ∙ f) (length-withi
 pub channel-found : (u : List ℕ) {r c : Channel} → r ≡ channelOf 4 0 0 u → r ≡ c → ChannelWithin 0 4 (length u) c
 channel-found u e f = subst (ChannelWithin 0 4 (length u)) (sym e ∙ f) (channel-within 4 0 0 u)
 
--- ---- the head, from its first octet
+-- ---- the head alone, from its first octet
 
-pub head-none : (inside : Bool) (u : List ℕ) → length u ≡ 0 → Head.Refused pastEnd ≡ headOf inside u
-unfolding headOf
-head-none inside [] e = refl
-head-none inside (b ∷ u) e = let z : ⊥ = omega arith in absurd z
+pub form-none : (inside : Bool) (u : List ℕ) → length u ≡ 0 → Form.More ≡ formOf inside u
+unfolding formOf
+form-none inside [] e = refl
+form-none inside (b ∷ u) e = let z : ⊥ = omega arith in absurd z
 
-pub head-context : (inside : Bool) (u : List ℕ) → (length u ≡ 0 → ⊥) → unknownContext (first u) ≡ true → Head.Refused contextTag ≡ headOf inside u
-unfolding headOf
-head-context inside [] n t = absurd (n refl)
-head-context inside (b ∷ u) n t = simp t
+pub form-context : (inside : Bool) (u : List ℕ) → (length u ≡ 0 → ⊥) → unknownContext (first u) ≡ true → Form.Faulty contextTag ≡ formOf inside u
+unfolding formOf
+form-context inside [] n t = absurd (n refl)
+form-context inside (b ∷ u) n t = simp t
 
-pub head-barred : (inside : Bool) (u : List ℕ) → (length u ≡ 0 → ⊥) → unknownContext (first u) ≡ false → both inside (rootOnly (first u)) ≡ true → Head.Refused barredTag ≡ headOf inside u
-unfolding headOf
-head-barred inside [] n t b = absurd (n refl)
-head-barred inside (a ∷ u) n t b = simp (t, b)
+pub form-barred : (inside : Bool) (u : List ℕ) → (length u ≡ 0 → ⊥) → unknownContext (first u) ≡ false → both inside (rootOnly (first u)) ≡ true → Form.Faulty barredTag ≡ formOf inside u
+unfolding formOf
+form-barred inside [] n t b = absurd (n refl)
+form-barred inside (a ∷ u) n t b = simp (t, b)
 
-pub head-group : (inside : Bool) (u : List ℕ) → (length u ≡ 0 → ⊥) → unknownContext (first u) ≡ false → both inside (rootOnly (first u)) ≡ false → first u ≡ 63 → groupHead (drop 1 u) (channelOf 4 0 0 (drop 1 u)) ≡ headOf inside u
-unfolding headOf
-head-group inside [] n t b e = absurd (n refl)
-head-group inside (a ∷ u) n t b e = simp (t, b, eq-eqb a 63 e)
+pub form-group : (inside : Bool) (u : List ℕ) → (length u ≡ 0 → ⊥) → unknownContext (first u) ≡ false → both inside (rootOnly (first u)) ≡ false → first u ≡ 63 → groupForm (drop 1 u) (channelOf 4 0 0 (drop 1 u)) ≡ formOf inside u
+unfolding formOf
+form-group inside [] n t b e = absurd (n refl)
+form-group inside (a ∷ u) n t b e = simp (t, b, eq-eqb a 63 e)
 
-pub head-primitive : (inside : Bool) (u : List ℕ) → (length u ≡ 0 → ⊥) → unknownContext (first u) ≡ false → both inside (rootOnly (first u)) ≡ false → (first u ≡ 63 → ⊥) → primitiveHead (first u) (length (drop 1 u)) (lengthOf (drop 1 u)) ≡ headOf inside u
-unfolding headOf
-head-primitive inside [] n t b e = absurd (n refl)
-head-primitive inside (a ∷ u) n t b e = simp (t, b, ne-eqb a 63 e)
+pub form-primitive : (inside : Bool) (u : List ℕ) → (length u ≡ 0 → ⊥) → unknownContext (first u) ≡ false → both inside (rootOnly (first u)) ≡ false → (first u ≡ 63 → ⊥) → primitiveForm (first u) (lengthOf (drop 1 u)) ≡ formOf inside u
+unfolding formOf
+form-primitive inside [] n t b e = absurd (n refl)
+form-primitive inside (a ∷ u) n t b e = simp (t, b, ne-eqb a 63 e)
+
+-- ---- the head with a value that fits
+
+module _ (inside : Bool) (u : List ℕ) (start n : ℕ) (h : start + n ≤ length u) where
+  value-fits : ltb (length u - start) n ≡ false
+  value-fits = le-ltb (length u - start) n (omega arith)
+
+  pub primitive-fits : (tag : ℕ) → formOf inside u ≡ Form.Primitive tag start n → headOf inside u ≡ Head.Primitive tag start n
+  unfolding headOf headBy
+  primitive-fits tag e = rw (e, value-fits)
+
+  pub definite-fits : (channel : ℕ) → formOf inside u ≡ Form.Definite channel start n → headOf inside u ≡ Head.Definite channel start n
+  unfolding headOf headBy
+  definite-fits channel e = rw (e, value-fits)
 
 -- What is left of a list from k on, as a part of it has it.
 pub rest-is : (k : ℕ) (u : List ℕ) → take (length u - k) (drop k u) ≡ drop k u

@@ -12,6 +12,7 @@ use Rattle.heads.specs.declared.Channel.{Channel}
 use Rattle.heads.specs.declared.Channel.the-variants.{Number, TooLong}
 use Rattle.heads.specs.declared.Length.{Length}
 use Rattle.heads.specs.declared.Length.the-variants.{Known, Bad}
+use Rattle.heads.specs.declared.Form.{Form}
 use Rattle.heads.specs.declared.Head.{Head}
 use Rattle.heads.specs.declared.Head.the-variants.{Primitive, Definite, Refused}
 
@@ -46,31 +47,51 @@ rootOnly tag =
     either (eqb tag 0x01) (either (eqb tag 0x05) (either (eqb tag 0x06) (either (eqb tag 0x07)
     (either (eqb tag 0x0E) (either (eqb tag 0x1E) (eqb tag 0x3F))))))
 
--- Open length stands only on 3Fh (2), and the value may not run past the end (3). `rest` octets follow the tag.
-unfoldable pub primitiveHead : ℕ → ℕ → Length → Head
-primitiveHead tag rest (Length.Known n octets) = pick (ltb (rest - octets) n) (Refused pastEnd) (Primitive tag (octets + 1) n)
-primitiveHead tag rest (Length.Open octets) = Refused lengthOctet
-primitiveHead tag rest Length.PastEnd = Refused pastEnd
-primitiveHead tag rest Length.Bad = Refused lengthOctet
+-- ---- the head alone
 
--- A group's own extent is looked at here, before its contents. Its channel number took k octets, and `rest` follow those.
-unfoldable pub groupLength : ℕ → ℕ → ℕ → Length → Head
-groupLength channel k rest (Length.Known n octets) = pick (ltb (rest - octets) n) (Refused pastEnd) (Definite channel (k + octets + 1) n)
-groupLength channel k rest (Length.Open octets) = Head.Open channel (k + octets + 1)
-groupLength channel k rest Length.PastEnd = Refused pastEnd
-groupLength channel k rest Length.Bad = Refused lengthOctet
+-- What the octets that have come say of an item's head, `start` counted from its tag: more octets are wanted, a fault, or all of the head.
+-- Where the value ends is not looked at.
 
--- 3Fh has a channel number between tag and length: 4 or 3 as met.
-unfoldable pub groupHead : List ℕ → Channel → Head
-groupHead u (Channel.Number channel k) = groupLength channel k (length (drop k u)) (lengthOf (drop k u))
-groupHead u Channel.PastEnd = Refused pastEnd
-groupHead u Channel.TooLong = Refused longChannel
+-- Open length stands only on 3Fh (2).
+unfoldable pub primitiveForm : ℕ → Length → Form
+primitiveForm tag (Length.Known n octets) = Form.Primitive tag (octets + 1) n
+primitiveForm tag (Length.Open octets) = Form.Faulty lengthOctet
+primitiveForm tag Length.PastEnd = Form.More
+primitiveForm tag Length.Bad = Form.Faulty lengthOctet
 
--- Within an item the order is 1, 5, channel number (4 or 3 as met), 2, 3. Where there is no octet at all, 3; a walk never asks there.
+-- The length of a group whose channel number took k octets.
+unfoldable pub groupLength : ℕ → ℕ → Length → Form
+groupLength channel k (Length.Known n octets) = Form.Definite channel (k + octets + 1) n
+groupLength channel k (Length.Open octets) = Form.Open channel (k + octets + 1)
+groupLength channel k Length.PastEnd = Form.More
+groupLength channel k Length.Bad = Form.Faulty lengthOctet
+
+-- 3Fh has a channel number between tag and length: 4 as met.
+unfoldable pub groupForm : List ℕ → Channel → Form
+groupForm u (Channel.Number channel k) = groupLength channel k (lengthOf (drop k u))
+groupForm u Channel.PastEnd = Form.More
+groupForm u Channel.TooLong = Form.Faulty longChannel
+
+-- Within a head the order is 1, 5, channel number, 2.
+unfoldable pub formOf : Bool → List ℕ → Form
+formOf inside [] = Form.More
+formOf inside (tag ∷ u) =
+    pick (unknownContext tag) (Form.Faulty contextTag)
+    (pick (both inside (rootOnly tag)) (Form.Faulty barredTag)
+    (pick (eqb tag 0x3F) (groupForm u (channelOf 4 0 0 u))
+    (primitiveForm tag (lengthOf u))))
+
+-- ---- the head with its value
+
+-- Neither the head nor the value may run past the end, `long` octets from the tag on (3). A group's own extent is looked at here, before its contents.
+unfoldable pub headBy : ℕ → Form → Head
+headBy long Form.More = Refused pastEnd
+headBy long (Form.Faulty number) = Refused number
+headBy long (Form.Primitive tag start len) = pick (ltb (long - start) len) (Refused pastEnd) (Primitive tag start len)
+headBy long (Form.Definite channel start len) = pick (ltb (long - start) len) (Refused pastEnd) (Definite channel start len)
+headBy long (Form.Open channel start) = Head.Open channel start
+
+-- The head of the item at the front of u: within an item the order is 1, 5, channel number (4 or 3 as met), 2, 3. Where there is no octet at all, 3; a
+-- walk never asks there.
 unfoldable pub headOf : Bool → List ℕ → Head
-headOf inside [] = Refused pastEnd
-headOf inside (tag ∷ u) =
-    pick (unknownContext tag) (Refused contextTag)
-    (pick (both inside (rootOnly tag)) (Refused barredTag)
-    (pick (eqb tag 0x3F) (groupHead u (channelOf 4 0 0 u))
-    (primitiveHead tag (length u) (lengthOf u))))
+headOf inside u = headBy (length u) (formOf inside u)

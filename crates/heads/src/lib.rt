@@ -1,13 +1,13 @@
 // One item's head: tag, channel number and length; and `Refusal` with its numbers.
 //
-// Promises, for any octets at all: `item_head` answers where the value of the item at their front stands, or the first fault of
-// form (refusals 1 to 5 of document 01). What a tag means is not looked at here.
+// Promises, for any octets at all: `item_form` answers what they say of the head of the item that begins with them, `item_head` where the value of the
+// item at their front stands, or the first fault of form (refusals 1 to 5 of document 01). What a tag means is not looked at here.
 // Read first: specs/Head.antt.
 ghost use mathlib.Core.Path.{_≡_};
 ghost use Prim.Native.Nat.{_+_, _*_, _^_, _≤_};
 ghost use lib.ListN.{length};
 ghost use Rattle.octets.specs.Pick.{both};
-ghost use Rattle.heads.specs.Head.{channelOf, lengthOf, unknownContext, rootOnly, primitiveHead, groupLength, groupHead, headOf};
+ghost use Rattle.heads.specs.Head.{channelOf, lengthOf, unknownContext, rootOnly, primitiveForm, groupLength, groupForm, formOf, headOf};
 
 // A refusal: its number in document 01's table, and the place in the file.
 pub struct Refusal {
@@ -155,6 +155,108 @@ fn barred(inside: bool, tag: u8) -> bool
     inside && root_only(tag)
 }
 
+// What the octets that have come say of an item's head: more are wanted, the number of a fault, or all of it. `start` counts from the item's tag.
+pub enum Form {
+    More,
+    Faulty {
+        number: u8,
+    },
+    Primitive {
+        tag: u8,
+        start: usize,
+        len: usize,
+    },
+    Definite {
+        channel: u32,
+        start: usize,
+        len: usize,
+    },
+    Open {
+        channel: u32,
+        start: usize,
+    },
+}
+
+// The head of a primitive item; u is what follows its tag.
+fn primitive_form(tag: u8, u: &[u8]) -> Form
+    ensures { λ r. ⌜ r ≡ primitiveForm tag (lengthOf (now (u .entry))) ⌝ }
+{
+    match length_field(u) {
+        Length::Known { value, octets } => Form::Primitive {
+            tag,
+            start: octets + 1,
+            len: value,
+        },
+        Length::Open { octets: _ } => Form::Faulty {
+            number: Refusal::LENGTH_OCTET,
+        },
+        Length::PastEnd => Form::More,
+        Length::Bad => Form::Faulty {
+            number: Refusal::LENGTH_OCTET,
+        },
+    }
+}
+
+// The head of a group whose channel number took k octets; v is what follows them.
+fn group_length(channel: u32, k: usize, v: &[u8]) -> Form
+    requires { ⌜ k ≤ 4 ⌝ }
+    ensures { λ r. ⌜ r ≡ groupLength channel k (lengthOf (now (v .entry))) ⌝ }
+{
+    match length_field(v) {
+        Length::Known { value, octets } => Form::Definite {
+            channel,
+            start: k + octets + 1,
+            len: value,
+        },
+        Length::Open { octets } => Form::Open {
+            channel,
+            start: k + octets + 1,
+        },
+        Length::PastEnd => Form::More,
+        Length::Bad => Form::Faulty {
+            number: Refusal::LENGTH_OCTET,
+        },
+    }
+}
+
+// The head of a group; u is what follows its tag.
+fn group_form(u: &[u8]) -> Form
+    ensures { λ r. ⌜ r ≡ groupForm (now (u .entry)) (channelOf 4 0 0 (now (u .entry))) ⌝ }
+{
+    match channel_from(u, 0, 4, 0) {
+        Channel::Number { value, octets } => group_length(value, octets, &u[octets..]),
+        Channel::PastEnd => Form::More,
+        Channel::TooLong => Form::Faulty {
+            number: Refusal::LONG_CHANNEL,
+        },
+    }
+}
+
+// What the octets of u, from an item's tag on, say of its head.
+pub fn item_form(inside: bool, u: &[u8]) -> Form
+    ensures { λ r. ⌜ r ≡ formOf inside (now (u .entry)) ⌝ }
+{
+    if u.len() == 0 {
+        return Form::More;
+    }
+    let tag = u[0];
+    if unknown_context(tag) {
+        return Form::Faulty {
+            number: Refusal::CONTEXT_TAG,
+        };
+    }
+    if barred(inside, tag) {
+        return Form::Faulty {
+            number: Refusal::BARRED_TAG,
+        };
+    }
+    if tag == 0x3F {
+        group_form(&u[1..])
+    } else {
+        primitive_form(tag, &u[1..])
+    }
+}
+
 // What stands before an item's value, or the number of its refusal. `start` counts from the item's tag.
 pub enum Head {
     Primitive {
@@ -176,106 +278,39 @@ pub enum Head {
     },
 }
 
-// The head of a primitive item; u is what follows its tag.
-fn primitive_head(tag: u8, u: &[u8]) -> Head
-    ensures { λ r. ⌜ r ≡ primitiveHead tag (length (now (u .entry))) (lengthOf (now (u .entry))) ⌝ }
-{
-    match length_field(u) {
-        Length::Known { value, octets } => {
-            if u.len() - octets < value {
-                Head::Refused {
-                    number: Refusal::PAST_END,
-                }
-            } else {
-                Head::Primitive {
-                    tag,
-                    start: octets + 1,
-                    len: value,
-                }
-            }
-        }
-        Length::Open { octets: _ } => Head::Refused {
-            number: Refusal::LENGTH_OCTET,
-        },
-        Length::PastEnd => Head::Refused {
-            number: Refusal::PAST_END,
-        },
-        Length::Bad => Head::Refused {
-            number: Refusal::LENGTH_OCTET,
-        },
-    }
-}
-
-// The head of a group whose channel number took k octets; v is what follows them.
-fn group_length(channel: u32, k: usize, v: &[u8]) -> Head
-    requires { ⌜ k ≤ 4 ⌝ }
-    ensures { λ r. ⌜ r ≡ groupLength channel k (length (now (v .entry))) (lengthOf (now (v .entry))) ⌝ }
-{
-    match length_field(v) {
-        Length::Known { value, octets } => {
-            if v.len() - octets < value {
-                Head::Refused {
-                    number: Refusal::PAST_END,
-                }
-            } else {
-                Head::Definite {
-                    channel,
-                    start: k + octets + 1,
-                    len: value,
-                }
-            }
-        }
-        Length::Open { octets } => Head::Open {
-            channel,
-            start: k + octets + 1,
-        },
-        Length::PastEnd => Head::Refused {
-            number: Refusal::PAST_END,
-        },
-        Length::Bad => Head::Refused {
-            number: Refusal::LENGTH_OCTET,
-        },
-    }
-}
-
-// The head of a group; u is what follows its tag.
-fn group_head(u: &[u8]) -> Head
-    ensures { λ r. ⌜ r ≡ groupHead (now (u .entry)) (channelOf 4 0 0 (now (u .entry))) ⌝ }
-{
-    match channel_from(u, 0, 4, 0) {
-        Channel::Number { value, octets } => group_length(value, octets, &u[octets..]),
-        Channel::PastEnd => Head::Refused {
-            number: Refusal::PAST_END,
-        },
-        Channel::TooLong => Head::Refused {
-            number: Refusal::LONG_CHANNEL,
-        },
-    }
-}
-
 // The head of the item at the front of u, where u ends with the file or with the definite group around it.
 pub fn item_head(inside: bool, u: &[u8]) -> Head
     ensures { λ r. ⌜ r ≡ headOf inside (now (u .entry)) ⌝ }
 {
-    if u.len() == 0 {
-        return Head::Refused {
+    match item_form(inside, u) {
+        Form::More => Head::Refused {
             number: Refusal::PAST_END,
-        };
-    }
-    let tag = u[0];
-    if unknown_context(tag) {
-        return Head::Refused {
-            number: Refusal::CONTEXT_TAG,
-        };
-    }
-    if barred(inside, tag) {
-        return Head::Refused {
-            number: Refusal::BARRED_TAG,
-        };
-    }
-    if tag == 0x3F {
-        group_head(&u[1..])
-    } else {
-        primitive_head(tag, &u[1..])
+        },
+        Form::Faulty { number } => Head::Refused { number },
+        Form::Primitive { tag, start, len } => {
+            if u.len() - start < len {
+                return Head::Refused {
+                    number: Refusal::PAST_END,
+                };
+            }
+            Head::Primitive { tag, start, len }
+        }
+        Form::Definite {
+            channel,
+            start,
+            len,
+        } => {
+            if u.len() - start < len {
+                return Head::Refused {
+                    number: Refusal::PAST_END,
+                };
+            }
+            Head::Definite {
+                channel,
+                start,
+                len,
+            }
+        }
+        Form::Open { channel, start } => Head::Open { channel, start },
     }
 }

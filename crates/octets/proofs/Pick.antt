@@ -11,6 +11,12 @@ pub pick-cases {ℓ ℓ′} : {A : Type ℓ} (P : A → Type ℓ′) (t : Bool) 
 pick-cases P true f g = f refl
 pick-cases P false f g = g refl
 
+-- The same of two choices by one test.
+pub pick-pairs {ℓ ℓ′} : {A : Type ℓ} (P : A → A → Type ℓ′) (t : Bool) {a b c d : A} →
+    (t ≡ true → P a c) → (t ≡ false → P b d) → P (pick t a b) (pick t c d)
+pick-pairs P true f g = f refl
+pick-pairs P false f g = g refl
+
 -- Tests that hold together hold each.
 pub both-split : (a b : Bool) → both a b ≡ true → (a ≡ true) × (b ≡ true)
 both-split true b e = (refl, e)

@@ -47,7 +47,8 @@ use Rattle.verdict.specs.Reached.{Reached, begin, behind}
 use Rattle.pass.specs.Passing.{Scanning, noneMet, metScan, viewMet, metWith}
 use Rattle.verdict.proofs.Keeps.{interpret-refuses, reached-verdict}
 use Rattle.there.specs.There.{thereOctets, octetsThere}
-use Rattle.verdict.proofs.Frames.{taken-long, frame-carried, count-few, counts-there}
+use Rattle.verdict.proofs.Steps.{waveform-found, waveform-long}
+use Rattle.verdict.proofs.Frames.{waveform-small, frame-carried, count-few, counts-there}
 use Rattle.verdict.proofs.Bounds.{Bounded, reached-bounded}
 use Rattle.view.specs.View.{viewOf}
 use Rattle.pass.specs.Scan.{zeroFrame, foundIn, sizeOf, sizes, refusedScan, scannedIn, scanOf}
@@ -168,11 +169,11 @@ module _ {s : List ℕ} {q : Asked} {table : List Settings} {c : Cursor} {st : S
   unfolding withFrame layoutOf viewOf sizeOf octetsThere
   scanning-frame v en ev et small =
       let count = channelsOf (st .counted) in
-      let few = count-few (p .long) (p .reached) (p .count) (q .channel) l el in
-      let all = counts-there (p .long) (p .reached) (p .count) (q .channel) l el in
+      let few = count-few (p .reached) (p .count) (q .channel) l el in
+      let all = counts-there (p .reached) (p .count) (q .channel) l el in
       let g = frameAt s (scanned-state p) start len sequences in
       let seen = ev ∙ channel-seen (q .channel) count table few (bounds p .full) in
-      let whole = sym (taken-long (p .long) (p .reached) (p .count) (q .channel) l el i ee er fr) in
+      let whole = sym (waveform-long s (waveform-found s st i ee refl)) in
       let vw : viewMet (q .channel) st sequences start len l v ≡ viewOf (q .channel) g =
       λ k. record { start = st .start; channels = sym all k; sequences = sequences; little = st .little; place = start; long = whole k; octets = el k .octets; below = el k .below; settings = seen k } in
       let there = et ∙ ap (thereOctets (take count table) sequences) whole in
@@ -180,7 +181,7 @@ module _ {s : List ℕ} {q : Asked} {table : List Settings} {c : Cursor} {st : S
       record {
         long = p .long;
         met = p .met ++ (g ∷ []);
-        reached = behind (p .reached) en (frame-carried (p .long) (p .reached) (p .count) (q .channel) l el i start len ee er fr);
+        reached = behind (p .reached) en (frame-carried (p .reached) (p .count) (q .channel) l el i start len (waveform-small s st i (p .long) ee) ee er fr);
         count = simp length-append (omega (arith, p .count));
         kept = (λ k. pick (eqb (p .count k) (q .frame)) (Found.Frame (vw k)) (p .kept k)) ∙ found-more q (p .met) g;
         sized = (λ k. p .sized k + sz k) ∙ sym (sizes-more (p .met) g);

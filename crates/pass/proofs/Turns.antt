@@ -43,7 +43,7 @@ use Rattle.pass.specs.Scan.{refusedScan, scanOf}
 use Rattle.layout.specs.Frame.{sequenceOctets}
 use Rattle.there.specs.There.{thereOctets}
 use Rattle.there.proofs.Places.{there-le}
-use Rattle.verdict.proofs.Frames.{frame-carried, groups-small, taken-small, taken-root}
+use Rattle.verdict.proofs.Frames.{waveform-small, frame-carried, groups-small, taken-root}
 use Rattle.pass.proofs.Scans.{scanning-on, scanning-few, scanning-frame, scanned-refuses}
 
 -- ---- effects that set nothing but what stands
@@ -130,17 +130,17 @@ module _ {s : List ℕ} {q : Asked} {table : List Settings} {c : Cursor} {st : S
   abbrev scanning : Scanning s q table c st m
   scanning = f .turn .before
 
+  -- The waveform is small.
+  pub framing-small : len ≤ octetsLimit
+  framing-small = waveform-small s st i (scanning .long) (f .turn .asks)
+
   pub framing-refused : {n : ℕ} → r ≡ Framed.Refused n → refusedScan (refusal n (placeAt i)) ≡ scanOf q s
   unfolding withFrame
-  framing-refused {n = n} g = scanned-refuses scanning n (placeAt i) refl (f .turn .found) refl (frame-carried (scanning .long) (scanning .reached) (scanning .count) (q .channel) l (f .laid) i start len (f .turn .asks) (f .gives) g)
+  framing-refused {n = n} g = scanned-refuses scanning n (placeAt i) refl (f .turn .found) refl (frame-carried (scanning .reached) (scanning .count) (q .channel) l (f .laid) i start len framing-small (f .turn .asks) (f .gives) g)
 
   pub framing-octets : l .octets ≡ sequenceOctets (take (channelsOf (st .counted)) table)
   unfolding layoutOf
   framing-octets = ap (λ (y : Layout). y .octets) (f .laid)
-
-  -- The waveform is small.
-  pub framing-small : {sequences : ℕ} {x : Standing} → r ≡ Taken sequences x → len ≤ octetsLimit
-  framing-small g = taken-small (scanning .long) (scanning .reached) (scanning .count) (q .channel) l (f .laid) i (f .turn .asks) (f .gives) g
 
   module _ {sequences : ℕ} {x : Standing} (g : r ≡ Taken sequences x) {there : ℕ} (et : there ≡ thereOctets (take (channelsOf (st .counted)) table) sequences len) where
     pub framing-room : Room l there m
@@ -148,8 +148,8 @@ module _ {s : List ℕ} {q : Asked} {table : List Settings} {c : Cursor} {st : S
         record {
           few = scanning-few scanning;
           size = scanning .room;
-          groups = groups-small (scanning .long) (scanning .reached) (scanning .count) (q .channel) l (f .laid);
-          waveform = omega (arith, et, there-le (take (channelsOf (st .counted)) table) sequences len, framing-small g);
+          groups = groups-small (scanning .reached) (scanning .count) (q .channel) l (f .laid);
+          waveform = omega (arith, et, there-le (take (channelsOf (st .counted)) table) sequences len, framing-small);
         }
 
     -- The frame is taken, and the pass keeps what it wants of it.
@@ -159,6 +159,6 @@ module _ {s : List ℕ} {q : Asked} {table : List Settings} {c : Cursor} {st : S
         → (x .root ≡ st .root) × Scanning s q table d x m'
     framing-taken {v = v} ev em =
         let seen = ap (λ (y : Settings). pick (ltb (q .channel) (channelsOf (st .counted))) y defaultSettings) ev in (
-          taken-root (scanning .long) (scanning .reached) (scanning .count) (q .channel) l (f .laid) i (f .turn .asks) (f .gives) g,
+          taken-root (scanning .reached) (scanning .count) (q .channel) l (f .laid) i framing-small (f .turn .asks) (f .gives) g,
           rw (em .0) (scanning-frame scanning l (f .laid) i (f .turn .asks) (f .gives) g v (f .turn .found) seen et (em .1)),
         )

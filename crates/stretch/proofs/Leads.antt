@@ -23,9 +23,9 @@ use Rattle.items.specs.declared.Within.{Within}
 use Rattle.heads.specs.declared.Head.the-variants.{Primitive}
 use Rattle.heads.specs.declared.Length.the-variants.{Known}
 use Rattle.items.specs.declared.Next.the-variants.{Found}
-use Rattle.heads.specs.Head.{unknownContext, rootOnly, primitiveHead, headOf}
+use Rattle.heads.specs.Head.{unknownContext, rootOnly, primitiveForm, headOf}
 use Rattle.items.specs.Walk.{cursor, standsIn, isInside, extent, itemOf, nextIn, nextOf}
-use Rattle.heads.proofs.Heads.{length-short, head-primitive}
+use Rattle.heads.proofs.Heads.{length-short, form-primitive, primitive-fits}
 use Rattle.settings.specs.declared.Settings.{Settings}
 use Rattle.definitions.specs.declared.Attribute.{Attribute}
 use Rattle.settings.specs.declared.Change.{Change}
@@ -170,13 +170,13 @@ item-there at (Within.Definite channel end) tag n z = refl
 item-there at (Within.Open channel place) tag n z = simp z
 
 head-short : (inside : Bool) (u : List ℕ) → Ordinary (getD u 0 0) → 2 + getD u 1 0 ≤ length u → getD u 1 0 ≤ 127 → headOf inside u ≡ Primitive (getD u 0 0) 2 (getD u 1 0)
-unfolding primitiveHead
+unfolding primitiveForm
 head-short inside u o l h =
     let d = length-drop 1 u in
     let g = getD-drop 1 u 0 0 in
-    sym (head-primitive inside u (λ z. let x : ⊥ = omega arith in x) (o .known) (ap (both inside) (o .anywhere) ∙ both-false inside) (eqb-false (getD u 0 0) 0x3F (o .single)))
-    ∙ ap (primitiveHead (getD u 0 0) (length (drop 1 u))) (sym (length-short (drop 1 u) (λ z. let x : ⊥ = omega arith in x) (omega arith)) ∙ ap (λ (k : ℕ). Known k 1) g)
-    ∙ simp (le-ltb (length (drop 1 u) - 1) (getD u 1 0) (omega arith))
+    primitive-fits inside u 2 (getD u 1 0) l (getD u 0 0)
+    (sym (form-primitive inside u (λ z. let x : ⊥ = omega arith in x) (o .known) (ap (both inside) (o .anywhere) ∙ both-false inside) (eqb-false (getD u 0 0) 0x3F (o .single)))
+    ∙ ap (primitiveForm (getD u 0 0)) (sym (length-short (drop 1 u) (λ z. let x : ⊥ = omega arith in x) (omega arith)) ∙ ap (λ (k : ℕ). Known k 1) g))
 
 -- The walk finds it, and goes on behind it where it was.
 pub next-short : (s : List ℕ) (at : ℕ) (w : Within) → Ordinary (getD (extent s at w) 0 0) → 2 + getD (extent s at w) 1 0 ≤ length (extent s at w) → getD (extent s at w) 1 0 ≤ 127

@@ -9,7 +9,7 @@ use Rattle.octets.specs.Number.{bigFrom, littleOf, numberOf, twos, signedOf}
 use Rattle.values.specs.Sample.{wholeSaid, widthOf, plainOf, isNull, valueOf}
 use Rattle.items.specs.declared.Item.{Item}
 use Rattle.heads.specs.Answer.{Answer, answered, refusedAs}
-use Rattle.heads.specs.Head.{channelOf, lengthOf, unknownContext, rootOnly, primitiveHead, groupLength, groupHead, headOf}
+use Rattle.heads.specs.Head.{channelOf, lengthOf, unknownContext, rootOnly, primitiveForm, groupLength, groupForm, formOf, headBy, headOf}
 use Rattle.items.specs.Walk.{Items, item, finished, fault, itemOf, nextIn, nextOf, follow, walk, itemsFrom, itemsOf}
 use Rattle.definitions.specs.Define.{tagged, scaleOf, defined}
 use Rattle.settings.specs.declared.Settings.{Settings}
@@ -95,7 +95,7 @@ caseOf c =
 -- A table with the answers that the definitions give; it unfolds all of them.
 unfoldable pub computed : List Case → List Case
 unfolding bigFrom littleOf numberOf twos signedOf widthOf plainOf isNull valueOf
-    channelOf lengthOf unknownContext rootOnly primitiveHead groupLength groupHead headOf itemOf nextIn nextOf follow walk itemsFrom itemsOf
+    channelOf lengthOf unknownContext rootOnly primitiveForm groupLength groupForm formOf headBy headOf itemOf nextIn nextOf follow walk itemsFrom itemsOf
     tagged scaleOf defined allApplied
     blockOctets sequenceOctets octetsBelow widthAgrees channelAgrees allAgree samplesOf offsetOf placeOf
     orderEffect countEffect sequencesEffect startEffect compressedEffect rootEffect

@@ -13,16 +13,17 @@ use native.Mathlib.Decide.{decLt}
 use native.Mathlib.Omega.{arith}
 use borrow.Author.Tests.{lt-ltb, le-ltb, eq-eqb, ne-eqb, le-leb, lt-leb, ltb-true, ltb-false, eqb-true, eqb-false}
 use lib.Dec.{ltb, eqb}
-use lib.ListN.{length, take, drop}
+use lib.ListN.{length, take, drop, length-drop}
 use Rattle.octets.specs.Pick.{pick, both, either}
 use Rattle.octets.specs.Number.{bigFrom}
 use Rattle.octets.proofs.Pick.{pick-cases}
 use Rattle.heads.specs.declared.Refusal.{Refusal}
 use Rattle.heads.specs.declared.Channel.{Channel}
 use Rattle.heads.specs.declared.Length.{Length}
+use Rattle.heads.specs.declared.Form.{Form}
 use Rattle.heads.specs.declared.Head.{Head}
 use Rattle.heads.specs.Refusals.{lengthOctet, pastEnd, longChannel}
-use Rattle.heads.specs.Head.{channelOf, lengthOf, unknownContext, rootOnly, primitiveHead, groupLength, groupHead, headOf}
+use Rattle.heads.specs.Head.{channelOf, lengthOf, unknownContext, rootOnly, primitiveForm, groupLength, groupForm, formOf, headBy, headOf}
 use Rattle.items.specs.Walk.{refusal}
 use Rattle.verdict.specs.Verdict.{State}
 use Rattle.theorems.specs.Rows.{Row, row, isGroup, marked, sevenFrom, numberOctets, channelNamed, lengthFirst, lengthField, lengthIn, isUnknown, isBarred, longNumber, numberPast, noLength, valuePast, itemRows}
@@ -141,33 +142,42 @@ HeadRead found at inside tag u (Head.Definite channel start len) = ReadGroup fou
 HeadRead found at inside tag u (Head.Open channel start) = ReadGroup found tag u channel
 HeadRead found at inside tag u (Head.Refused n) = found ≡ some (refusal n at)
 
+-- The same of a form, whose value may not run past the end.
+abbrev FormRead : Option Refusal → ℕ → Bool → ℕ → List ℕ → Form → Type 0
+FormRead found at inside tag u f = HeadRead found at inside tag u (headBy (suc (length u)) f)
+
 module _ (at : ℕ) (inside : Bool) (tag : ℕ) (u : List ℕ) where
-  primitive-reads : both inside (rootOnly tag) ≡ false → isGroup tag ≡ false → (l : Length) → LengthBy u l → HeadRead (lengthAnswer at false (length u) l) at inside tag u (primitiveHead tag (length u) l)
-  unfolding primitiveHead
+  primitive-reads : both inside (rootOnly tag) ≡ false → isGroup tag ≡ false → (l : Length) → LengthBy u l → FormRead (lengthAnswer at false (length u) l) at inside tag u (primitiveForm tag l)
+  unfolding primitiveForm headBy
   primitive-reads b g (Length.Known n octets) p =
-      pick-cases (HeadRead (lengthAnswer at false (length u) (Length.Known n octets)) at inside tag u) (ltb (length u - octets) n) (λ t. rw t)
+      let left : suc (length u) - (octets + 1) ≡ length u - octets = omega arith in
+      rw left
+      (pick-cases (HeadRead (lengthAnswer at false (length u) (Length.Known n octets)) at inside tag u) (ltb (length u - octets) n) (λ t. rw t)
       (λ t. let f = ltb-false (length u - octets) n t in
-      record { free = rw t; allowed = b; primitive = g; same-tag = refl; same-start = omega arith; same-length = p .1; fits = omega arith })
+      record { free = rw t; allowed = b; primitive = g; same-tag = refl; same-start = omega arith; same-length = p .1; fits = omega arith }))
   primitive-reads b g (Length.Open octets) p = refl
   primitive-reads b g Length.PastEnd p = refl
   primitive-reads b g Length.Bad p = refl
 
-  group-length-reads : isGroup tag ≡ true → (channel k rest : ℕ) → channel ≡ channelNamed u → (l : Length) → HeadRead (lengthAnswer at true rest l) at inside tag u (groupLength channel k rest l)
-  unfolding groupLength
-  group-length-reads g channel k rest e (Length.Known n octets) =
-      pick-cases (HeadRead (lengthAnswer at true rest (Length.Known n octets)) at inside tag u) (ltb (rest - octets) n) (λ t. rw t)
-      (λ t. record { free = rw t; group = g; same-channel = e })
-  group-length-reads g channel k rest e (Length.Open octets) = record { free = refl; group = g; same-channel = e }
-  group-length-reads g channel k rest e Length.PastEnd = refl
-  group-length-reads g channel k rest e Length.Bad = refl
+  group-length-reads : isGroup tag ≡ true → (channel k rest : ℕ) → channel ≡ channelNamed u → k + rest ≡ length u → (l : Length) → FormRead (lengthAnswer at true rest l) at inside tag u (groupLength channel k l)
+  unfolding groupLength headBy
+  group-length-reads g channel k rest e r (Length.Known n octets) =
+      let left : suc (length u) - (k + octets + 1) ≡ rest - octets = omega arith in
+      rw left
+      (pick-cases (HeadRead (lengthAnswer at true rest (Length.Known n octets)) at inside tag u) (ltb (rest - octets) n) (λ t. rw t)
+      (λ t. record { free = rw t; group = g; same-channel = e }))
+  group-length-reads g channel k rest e r (Length.Open octets) = record { free = refl; group = g; same-channel = e }
+  group-length-reads g channel k rest e r Length.PastEnd = refl
+  group-length-reads g channel k rest e r Length.Bad = refl
 
-  group-reads : isGroup tag ≡ true → (c : Channel) → ChannelBy 4 0 0 u c → HeadRead (firstDue (row longChannel at (longNumber u) ∷ row pastEnd at (numberPast u) ∷ lengthRows at true (drop (numberOctets u) u))) at inside tag u (groupHead u c)
-  unfolding groupHead
+  group-reads : isGroup tag ≡ true → (c : Channel) → ChannelBy 4 0 0 u c → FormRead (firstDue (row longChannel at (longNumber u) ∷ row pastEnd at (numberPast u) ∷ lengthRows at true (drop (numberOctets u) u))) at inside tag u (groupForm u c)
+  unfolding groupForm headBy
   group-reads g (Channel.Number channel k) c =
       let w = drop (numberOctets u) u in
       let e : k ≡ numberOctets u = omega arith in
+      let r : numberOctets u + length w ≡ length u = omega (arith, length-drop (numberOctets u) u) in
       simp (ne-eqb (marked 4 u) 4 (λ q. omega arith), ne-eqb (marked 4 u) (length u) (λ q. omega arith), length-first at true w (lengthOf w) (length-by w), e)
-      (group-length-reads g channel (numberOctets u) (length w) (c .3) (lengthOf w))
+      (group-length-reads g channel (numberOctets u) (length w) (c .3) r (lengthOf w))
   group-reads g Channel.PastEnd c = simp (ne-eqb (marked 4 u) 4 (λ q. omega arith), eq-eqb (marked 4 u) (length u) (c .1))
   group-reads g Channel.TooLong c = simp (eq-eqb (marked 4 u) 4 c)
 
@@ -185,9 +195,9 @@ abbrev pub headRows : State → ℕ → Bool → ℕ → List ℕ → List Row
 headRows x at inside tag u = take 6 (itemRows x at inside tag u)
 
 pub head-reads : (x : State) (at : ℕ) (inside : Bool) (tag : ℕ) (u : List ℕ) → HeadRead (firstDue (headRows x at inside tag u)) at inside tag u (headOf inside (tag ∷ u))
-unfolding headOf itemRows unknownContext isUnknown
+unfolding headOf formOf headBy itemRows unknownContext isUnknown
 head-reads x at inside tag u =
-    let P : Head → Type 0 = HeadRead (firstDue (headRows x at inside tag u)) at inside tag u in
+    let P : Form → Type 0 = FormRead (firstDue (headRows x at inside tag u)) at inside tag u in
     pick-cases P (unknownContext tag) (λ e. rw e)
     (λ e. pick-cases P (both inside (rootOnly tag)) (λ b. rw (e, barred-same tag, b))
     (λ b. pick-cases P (isGroup tag)

@@ -3,7 +3,9 @@
 --     verdict-law     what holds of each way to stop holds of the interpretation's verdict
 --     frames-kept     the frames of an accepted interpretation are those of a state that is reached
 --     accepted-by, accepted-kept    the same of an accepted file, which is no longer than the limit
---     reached-keeps, reached-verdict    what every item keeps holds where a file's items lead; what is left of the file there gives the verdict
+--     within-limit    within the limit 15 makes no difference
+--     reached-keeps, reached-unlimited, reached-verdict    what every item keeps holds where a file's items lead; what is left of the file there gives the
+--                     verdict
 -- Assumes nothing.
 use mathlib.Core.Path.{_≡_, refl, sym, ap, _∙_}
 use mathlib.Core.List.{List}
@@ -26,7 +28,7 @@ use Rattle.items.proofs.Walks.{next-later, items-found, items-end, items-refuse
 use Rattle.layout.specs.Frame.{Frame}
 use Rattle.effects.specs.Effects.{effectOf}
 use Rattle.standing.specs.Standing.{octetsLimit}
-use Rattle.verdict.specs.Verdict.{State, firstState, Outcome, goes, refuses, carried, placeAt, Verdict, accepted, refused, afterItem, interpret, verdict}
+use Rattle.verdict.specs.Verdict.{State, firstState, Outcome, goes, refuses, carried, placeAt, Verdict, accepted, refused, afterItem, interpret, verdict, unlimited}
 use Rattle.verdict.specs.Reached.{Reached, begin, behind}
 
 -- What an item does.
@@ -121,6 +123,11 @@ accepted-by s fs e = rw (← items-first s) (limit-by s fs (ltb octetsLimit (len
 pub accepted-kept : (s : List ℕ) (I : State → Cursor → Type 0) → Keeps s I → I firstState firstCursor → (fs : List Frame) → verdict s ≡ accepted fs → Kept I fs
 accepted-kept s I keeps p fs e = frames-kept s I keeps firstState firstCursor fs p (accepted-by s fs e .1)
 
+-- Within the limit 15 makes no difference.
+pub within-limit : (s : List ℕ) → length s ≤ octetsLimit → verdict s ≡ unlimited s
+unfolding verdict unlimited
+within-limit s h = simp (le-ltb octetsLimit (length s) h)
+
 -- ---- where a file's items lead
 
 module _ (s : List ℕ) where
@@ -133,6 +140,9 @@ module _ (s : List ℕ) where
   reached-same (behind {x} {c} {i} {d} {y} r e g) =
       sym (interpret-goes s x i (itemsFrom s d) y g) ∙ ap (interpret s x) (sym (items-found s c i d e)) ∙ reached-same r
 
+  pub reached-unlimited : {x : State} {c : Cursor} → Reached s x c → interpret s x (itemsFrom s c) ≡ unlimited s
+  unfolding unlimited itemsOf
+  reached-unlimited r = reached-same r
+
   pub reached-verdict : {x : State} {c : Cursor} → length s ≤ octetsLimit → Reached s x c → interpret s x (itemsFrom s c) ≡ verdict s
-  unfolding verdict itemsOf
-  reached-verdict h r = reached-same r ∙ simp (le-ltb octetsLimit (length s) h)
+  reached-verdict h r = reached-unlimited r ∙ sym (within-limit s h)

@@ -11,7 +11,7 @@ use mathlib.Core.Bool.{Bool, true, not}
 use Prim.Native.Nat.{ℕ, _≤_, _<_}
 use native.Mathlib.Nat.{min-eq-left, min-le-right}
 use native.Mathlib.Omega.{arith}
-use borrow.Author.Tests.{ltb-false, leb-false, eqb-false, not-false}
+use borrow.Author.Tests.{ltb-false, leb-false, eqb-true, eqb-false, not-false}
 use lib.Dec.{ltb, leb, eqb}
 use lib.IntN.{ℤ}
 use lib.ListN.{length, getD, take, drop, replicate, length-take, length-drop}
@@ -68,11 +68,12 @@ defined-gives s base a little start len =
 value-short : (s : List ℕ) (start len : ℕ) → length (valueAt s start len) ≤ length s
 value-short s start len = simp (length-take, length-drop) (omega arith)
 
--- The item that asks for a frame.
+-- The item that asks for a frame: 1E outside groups.
 pub record Waveform (s : List ℕ) (i : Item) (start long : ℕ) : Type 0 where
   pub place : ℕ
   pub tag : ℕ
   pub len : ℕ
+  pub waves : tag ≡ 0x1E
   pub item : i ≡ Plain place tag start len
   pub counts : long ≡ length (valueAt s start len)
 
@@ -157,7 +158,7 @@ module _ (s : List ℕ) (st : Standing) where
       (λ _. pick-cases (Asks s st i) (eqb tag 0x07) (λ _. start-asks i (st .little) (st .continued) v)
       (λ _. pick-cases (Asks s st i) (eqb tag 0x0E) (λ _. compressed-asks i v)
       (λ _. pick-cases (Asks s st i) (eqb tag 0x1E)
-      (λ _. record { place = place; tag = tag; len = len; item = refl; counts = refl }) (λ _. tt))))))
+      (λ e. record { place = place; tag = tag; len = len; waves = eqb-true tag 0x1E e; item = refl; counts = refl }) (λ _. tt))))))
 
   plain-asks : (place tag start len : ℕ) (t : Tagged) → Asks s st (Plain place tag start len) (plainEffect st tag start (valueAt s start len) t)
   unfolding plainEffect

@@ -113,6 +113,10 @@ verdictFrom x s = pick (ltb octetsLimit (length s)) (refused (refusal longFile 0
 unfoldable pub verdict : List ℕ → Verdict
 verdict s = verdictFrom firstState s
 
+-- The same with 15 left out.
+unfoldable pub unlimited : List ℕ → Verdict
+unlimited s = interpret s firstState (itemsOf s)
+
 -- What the check's answer says: the number of frames, or the refusal.
 abbrev pub checkedSays : Checked → Answer ℕ
 checkedSays (Frames n) = answered n

@@ -419,7 +419,7 @@ cast-there : tie.Need-cast-there Inv-loop2 μ-loop2 Inv-loop μ-loop
 cast-there c = search needs
 
 mul-there : tie.Need-mul-there Inv-loop2 μ-loop2 Inv-loop μ-loop
-mul-there c = record { fits = held-small _ _ _ (c .before .before .holds .ensures) (c .before .if3 .taken) (framing-small (framing (c .before .before .before .before .before .before .before .before .before)) (c .before .before .before .before .before .before .before .sequences .given .1)) }
+mul-there c = record { fits = held-small _ _ _ (c .before .before .holds .ensures) (c .before .if3 .taken) (framing-small (framing (c .before .before .before .before .before .before .before .before .before))) }
 
 channels-there-requires : tie.Need-channels-there-requires Inv-loop2 μ-loop2 Inv-loop μ-loop
 channels-there-requires c κs =

@@ -1,11 +1,11 @@
 -- By the answer of `channel_from`; the length stands behind its octets.
 use mathlib.Core.Path.{sym, _∙_}
 use native.Mathlib.Omega.{arith}
-use Rattle.heads.specs.Head.{groupHead}
+use Rattle.heads.specs.Head.{groupForm}
 use Rattle.heads.proofs.Heads.{channel-found, rest-is}
 use borrow.Author.Needs.{needs}
-use Rattle.heads.proofs.group_head.Statement.{statement}
-use Rattle.heads.proofs.group_head.Tie as tie
+use Rattle.heads.proofs.group_form.Statement.{statement}
+use Rattle.heads.proofs.group_form.Tie as tie
 
 channel-from-requires : tie.Need-channel-from-requires
 channel-from-requires c κs = search needs
@@ -32,19 +32,19 @@ enum-told-2 : tie.Need-enum-told-2
 enum-told-2 c = search needs
 
 returns : tie.Need-returns
-unfolding groupHead
+unfolding groupForm
 returns c = c .group-length .ensures ∙ simp (rest-is, sym (c .before .before .before .before .before .channel-from .ensures) ∙ c .before .before .before .value .given .1)
 
 returns-2 : tie.Need-returns-2
-unfolding groupHead
+unfolding groupForm
 returns-2 c = simp (sym (c .before .before .channel-from .ensures) ∙ c .enum-told .given .1)
 
 returns-3 : tie.Need-returns-3
-unfolding groupHead
+unfolding groupForm
 returns-3 c = simp (sym (c .before .before .channel-from .ensures) ∙ c .enum-told2 .given .1)
 
-pub group-head-spec : {M : Type 1} → statement M
-group-head-spec =
+pub group-form-spec : {M : Type 1} → statement M
+group-form-spec =
     tie.close
     (tie.spec
     channel-from-requires

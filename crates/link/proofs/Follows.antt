@@ -1,0 +1,224 @@
+-- What a link says of the octets that it was fed, and of every file that begins with them; however long the file is, 15 is left out.
+--     Resumes       the walk over each of these files stands there
+--     Follows       phase by phase: where the octets have come to in an item
+--     head-follows, value-follows, wave-follows, waits-follows    one octet more
+--     end-follows   the answer, if the file ends here
+-- Inside an item nothing moves: the claim stays that of the item's tag.
+-- Assumes nothing.
+use Prim.Native.Nat.{ℕ, zero, suc, _+_, _-_, _≤_, _<_}
+use mathlib.Core.Path.{_≡_, refl, sym, _∙_, ap, subst}
+use mathlib.Core.List.{List, [], _∷_, _++_, append-nil, append-assoc}
+use mathlib.Core.Bool.{Bool, true, false}
+use native.Mathlib.Omega.{arith}
+use borrow.Author.Tests.{ltb-true, ltb-false, eqb-true, eqb-false, le-ltb, lt-ltb, eq-eqb, ne-eqb}
+use lib.Dec.{ltb, eqb}
+use lib.ListN.{length, take, drop, length-append, length-drop, length-take}
+use lib.Seq.{drop-append-le, take-append-le}
+use Rattle.octets.specs.Pick.{pick}
+use Rattle.octets.proofs.Pick.{pick-cases}
+use Rattle.heads.specs.declared.Refusal.{Refusal}
+use Rattle.heads.specs.Refusals.{pastEnd}
+use Rattle.heads.specs.declared.Form.{Form}
+use Rattle.heads.specs.Head.{formOf}
+use Rattle.heads.specs.Answer.{Answer, answered, refusedAs, refusedBy}
+use Rattle.items.specs.declared.Within.{Within}
+use Rattle.items.specs.declared.Within.the-variants.{Root}
+use Rattle.items.specs.declared.Cursor.{Cursor}
+use Rattle.items.specs.declared.Item.{Item}
+use Rattle.items.specs.declared.Next.{Next}
+use Rattle.items.specs.declared.Next.the-variants.{Found}
+use Rattle.items.specs.Walk.{refusal, cursor, standsIn, isInside, nextOf}
+use Rattle.settings.specs.Settings.{applied}
+use Rattle.layout.specs.Frame.{Frame}
+use Rattle.standing.specs.declared.Standing.{Standing}
+use Rattle.standing.specs.Standing.{octetsLimit}
+use Rattle.framing.specs.declared.Framed.{Framed}
+use Rattle.effects.specs.declared.Effect.{Effect}
+use Rattle.effects.specs.Effects.{effectOf}
+use Rattle.verdict.specs.Verdict.{placeAt, Verdict, accepted, refused, unlimited}
+use Rattle.walk.specs.declared.Waveform.{Waveform}
+use Rattle.walk.specs.declared.Step.{Step}
+use Rattle.walk.specs.Advance.{Stand, Stop, stop, Turn, on, stops, framedTurn, effectTurn, nextTurn, turnOf}
+use Rattle.walk.specs.Joined.{frameBy}
+use Rattle.walk.proofs.Joins.{Stands, Counts, TurnStands, Near, turn-stands}
+use Rattle.link.specs.Link.{Coming, Phase, head, value, waveform, waits, decided, Link, link, refusedIn, cutAt, waiting, lastsIn, condemned, keptLimit}
+use Rattle.link.proofs.Seen.{endsIn, Whole, Inside, longer}
+use Rattle.link.proofs.Item.{Plainly}
+
+-- ---- where the walk stands
+
+abbrev pub withinOf : Stand → Within
+withinOf x = standsIn (x .cursor .at) (x .cursor .within)
+
+-- The file ends in the definite group around.
+abbrev pub Cut : Within → ℕ → Type 0
+Cut Within.Root n = ⊥
+Cut (Within.Definite channel end) n = n < end
+Cut (Within.Open channel place) n = ⊥
+
+-- After n octets the item at hand begins at the stand x; where the file ends in the definite group around it, that is 3 at `around`.
+pub record Resumes (s : List ℕ) (n : ℕ) (x : Stand) (around : ℕ) : Type 0 where
+  pub met : List Frame
+  pub counts : n ≡ length s
+  pub many : x .frames ≡ length met
+  pub before : x .cursor .at ≤ length s
+  pub inside : Inside (withinOf x) (length s)
+  pub stands : (t : List ℕ) → Whole (withinOf x) (length (s ++ t)) → Stands (s ++ t) met x
+  pub cut : (t : List ℕ) → Cut (withinOf x) (length (s ++ t)) → unlimited (s ++ t) ≡ refused (refusal pastEnd around)
+
+-- ---- what an item does
+
+-- A fault of form decides.
+pub fault-is : {u : List ℕ} {met : List Frame} {x : Stand} {r : Refusal} → Stands u met x → nextOf u (x .cursor) ≡ Next.Refused r → unlimited u ≡ refused r
+unfolding turnOf nextTurn
+fault-is {u} {met} {x} {r} p e =
+    sym
+    (subst (λ (n : Next). TurnStands u met (x .cursor .at) (nextTurn u x n)) e
+    (turn-stands p (subst (Near p) (sym e) tt)))
+
+-- An item that ends within the limit.
+pub found-is : {u : List ℕ} {met : List Frame} {x : Stand} {i : Item} {d : Cursor} → Stands u met x → nextOf u (x .cursor) ≡ Found i d → d .at ≤ octetsLimit
+    → TurnStands u met (x .cursor .at) (effectTurn x d (placeAt i) (effectOf u (x .standing) i))
+unfolding turnOf nextTurn
+found-is {u} {met} {x} p e h =
+    subst (λ (n : Next). TurnStands u met (x .cursor .at) (nextTurn u x n)) e
+    (turn-stands p (subst (Near p) (sym e) h))
+
+-- What a turn comes to, by the effect that it carries out.
+abbrev Bare : Effect → Type 0
+Bare Effect.Pass = Unit {0}
+Bare (Effect.Order little) = Unit {0}
+Bare (Effect.Count n) = Unit {0}
+Bare (Effect.Sequences n) = Unit {0}
+Bare (Effect.Start z) = Unit {0}
+Bare (Effect.All ch) = Unit {0}
+Bare (Effect.One channel ch) = Unit {0}
+Bare (Effect.Frame start len) = ⊥
+Bare (Effect.Refused n) = Unit {0}
+
+abbrev StepsTo : Stand → Cursor → ℕ → Effect → Step → Stand → Type 0
+StepsTo x c place e (Step.Frame v) y = (e ≡ Effect.Frame (v .place) (v .len)) × (y .cursor ≡ c) × (y .frames ≡ x .frames + 1)
+StepsTo x c place e Step.Ended y = ⊥
+StepsTo x c place e (Step.Refused r) y = r .place ≡ place
+
+abbrev pub TurnsTo : Stand → Cursor → ℕ → Effect → Turn → Type 0
+TurnsTo x c place e (on y) = Bare e × (y .cursor ≡ c) × (y .frames ≡ x .frames)
+TurnsTo x c place e (stops z) = StepsTo x c place e (z .step) (z .at)
+
+module _ (x : Stand) (c : Cursor) (place : ℕ) where
+  framed-to : (start len : ℕ) (f : Framed) → TurnsTo x c place (Effect.Frame start len) (framedTurn x c place start len f)
+  unfolding framedTurn
+  framed-to start len (Framed.Taken n st) = (refl, refl, refl)
+  framed-to start len (Framed.Refused n) = refl
+
+  pub turns-to : (e : Effect) → TurnsTo x c place e (effectTurn x c place e)
+  unfolding effectTurn
+  turns-to Effect.Pass = (tt, refl, refl)
+  turns-to (Effect.Order little) = (tt, refl, refl)
+  turns-to (Effect.Count n) = (tt, refl, refl)
+  turns-to (Effect.Sequences n) = (tt, refl, refl)
+  turns-to (Effect.Start z) = (tt, refl, refl)
+  turns-to (Effect.All ch) = (tt, refl, refl)
+  turns-to (Effect.One channel ch) = (tt, refl, refl)
+  turns-to (Effect.Frame start len) = framed-to start len _
+  turns-to (Effect.Refused n) = refl
+
+-- ---- phase by phase
+
+-- In a head that wants more octets. In a definite group there are more to come.
+pub record InHead (s : List ℕ) (n : ℕ) (x : Stand) (around : ℕ) (p : List ℕ) : Type 0 where
+  pub resumes : Resumes s n x around
+  pub octets : drop (x .cursor .at) s ≡ p
+  pub wants : formOf (isInside (withinOf x)) p ≡ Form.More
+  pub goes : Inside (withinOf x) (suc (length s))
+
+-- An item with its head, of which `left` octets are still to come.
+pub record Begun (s : List ℕ) (x : Stand) (tag left : ℕ) : Type 0 where
+  pub start : ℕ
+  pub len : ℕ
+  pub here : x .cursor .at < length s
+  pub form : formOf (isInside (withinOf x)) (drop (x .cursor .at) s) ≡ Form.Primitive tag start len
+  pub begun : x .cursor .at + start ≤ length s
+  pub ends : x .cursor .at + start + len ≡ length s + left
+  pub fits : Inside (withinOf x) (length s + left)
+
+pub record InValue (s : List ℕ) (n : ℕ) (x : Stand) (around tag left : ℕ) (kept : List ℕ) : Type 0 where
+  pub resumes : Resumes s n x around
+  pub item : Begun s x tag left
+  pub some : 0 < left
+  pub plain : Plainly (withinOf x) tag
+  pub keeps : kept ≡ take keptLimit (drop (x .cursor .at + item .start) s)
+
+-- In the waveform of a frame, behind which the walk will be at y.
+pub record InWave (s : List ℕ) (n : ℕ) (y : Stand) (around : ℕ) (v : Waveform) (left : ℕ) : Type 0 where
+  pub met : List Frame
+  pub counts : n ≡ length s
+  pub many : y .frames ≡ length met + 1
+  pub begun : v .place ≤ length s
+  pub ends : v .place + v .len ≡ length s + left
+  pub near : length s + left ≤ octetsLimit
+  pub stands : (t : List ℕ) → length s + left ≤ length (s ++ t) → Stands (s ++ t) (met ++ (frameBy (s ++ t) v y ∷ [])) y × Counts v (frameBy (s ++ t) v y)
+  pub cuts : (t : List ℕ) → length (s ++ t) < length s + left → unlimited (s ++ t) ≡ refused (refusal pastEnd around)
+  pub behind : y .cursor ≡ cursor (length s + left) Root
+
+-- A refusal is sure once so many octets have come; where that passes the limit, 15 comes first.
+pub record Sure (s : List ℕ) (n around left : ℕ) (r : Refusal) : Type 0 where
+  pub counts : n ≡ length s
+  pub cuts : (t : List ℕ) → length (s ++ t) < length s + left → unlimited (s ++ t) ≡ refused (refusal pastEnd around)
+  pub sure : length s + left ≤ octetsLimit → (t : List ℕ) → length s + left ≤ length (s ++ t) → unlimited (s ++ t) ≡ refused r
+
+-- A refusal is settled: every longer file has it.
+abbrev pub Settled : List ℕ → Answer ℕ → Type 0
+Settled s (answered n) = ⊥
+Settled s (refusedAs number place) = (t : List ℕ) → unlimited (s ++ t) ≡ refused (refusal number place)
+
+abbrev pub FollowsIn : List ℕ → ℕ → Stand → ℕ → Waveform → Phase → Type 0
+FollowsIn s n x around v (head p) = InHead s n x around p
+FollowsIn s n x around v (value tag left kept) = InValue s n x around tag left kept
+FollowsIn s n x around v (waveform left t) = InWave s n x around v left × (0 < left)
+FollowsIn s n x around v (waits left r) = Sure s n around left r × (0 < left)
+FollowsIn s n x around v (decided a) = Settled s a
+
+abbrev pub Follows : List ℕ → Link → Type 0
+Follows s l = FollowsIn s (l .count) (l .stand) (l .around) (l .frame) (l .phase)
+
+-- ---- refusals
+
+-- A refusal that waits.
+pub waiting-follows : (s : List ℕ) (l : Link) (left : ℕ) (r : Refusal) → length s ≤ octetsLimit → Sure s (l .count) (l .around) left r → Follows s (waiting left r l)
+unfolding waiting
+waiting-follows s l left r h p =
+    pick-cases (Follows s) (eqb left 0)
+    (λ e.
+    let z = eqb-true left 0 e in
+    λ t. p .sure (omega arith) t (omega (arith, longer s t)))
+    (λ e. let z = eqb-false left 0 e in (p, omega arith))
+
+-- A refusal of an item of which `left` octets are still to come: what each file comes to that reaches to the end of what is around it, with the item and without.
+module _ (s : List ℕ) (n : ℕ) (x : Stand) (around : ℕ) (v : Waveform) (ph : Phase) (limit : length s ≤ octetsLimit) (p : Resumes s n x around) where
+  -- Where an end inside the item is 3.
+  abbrev pub cutHere : ℕ
+  cutHere = cutAt (withinOf x) (x .cursor .at) around
+
+  pub condemned-follows : (left : ℕ) (r : Refusal) → Inside (withinOf x) (length s + left)
+      → (length s + left ≤ octetsLimit → (t : List ℕ) → Whole (withinOf x) (length (s ++ t)) → length s + left ≤ length (s ++ t) → unlimited (s ++ t) ≡ refused r)
+      → ((t : List ℕ) → Whole (withinOf x) (length (s ++ t)) → length (s ++ t) < length s + left → unlimited (s ++ t) ≡ refused (refusal pastEnd cutHere))
+      → Follows s (condemned left r (link n x cutHere v ph))
+  unfolding condemned
+  condemned-follows left r fits f g = by (withinOf x) (p .cut) fits f g
+    where
+      by : (w : Within) → ((t : List ℕ) → Cut w (length (s ++ t)) → unlimited (s ++ t) ≡ refused (refusal pastEnd around)) → Inside w (length s + left)
+          → (length s + left ≤ octetsLimit → (t : List ℕ) → Whole w (length (s ++ t)) → length s + left ≤ length (s ++ t) → unlimited (s ++ t) ≡ refused r)
+          → ((t : List ℕ) → Whole w (length (s ++ t)) → length (s ++ t) < length s + left → unlimited (s ++ t) ≡ refused (refusal pastEnd (cutAt w (x .cursor .at) around)))
+          → Follows s (waiting (lastsIn w n left) r (link n x (cutAt w (x .cursor .at) around) v ph))
+      by Within.Root c i f g =
+          waiting-follows s (link n x (x .cursor .at) v ph) left r limit (record { counts = p .counts; cuts = λ t k. g t tt k; sure = λ h t k. f h t tt k })
+      by (Within.Definite channel end) c i f g =
+          waiting-follows s (link n x around v ph) (end - n) r limit
+          (record {
+            counts = p .counts;
+            cuts = λ t k. c t (omega (arith, p .counts));
+            sure = λ h t k. f (omega (arith, p .counts)) t (omega (arith, p .counts)) (omega (arith, p .counts));
+          })
+      by (Within.Open channel place) c i f g =
+          waiting-follows s (link n x (x .cursor .at) v ph) left r limit (record { counts = p .counts; cuts = λ t k. g t tt k; sure = λ h t k. f h t tt k })

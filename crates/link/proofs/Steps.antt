@@ -1,0 +1,421 @@
+-- Each way an item goes on.
+--     next-follows     the next item begins
+--     turned-follows   an item that is no waveform leads on or is refused
+--     done-follows     a value's last octet has come
+--     definite-follows, open-follows    a group begins
+--     over-follows, wave-follows        a waveform is over; one begins
+--     faulty-follows, past-follows, wanting-follows    a fault of form
+-- Assumes nothing.
+use Prim.Native.Nat.{ℕ, zero, suc, _+_, _-_, _≤_, _<_}
+use mathlib.Core.Path.{_≡_, refl, sym, _∙_, ap, subst}
+use mathlib.Core.List.{List, [], _∷_, _++_, append-nil}
+use mathlib.Core.Bool.{Bool, true, false}
+use native.Mathlib.Omega.{arith}
+use borrow.Author.Tests.{ltb-true, ltb-false}
+use lib.Dec.{ltb, eqb}
+use lib.ListN.{length, take, drop, length-append, length-drop, drop-of-length-le}
+use lib.Seq.{drop-append-le, take-append-le}
+use Rattle.octets.specs.Pick.{pick}
+use Rattle.octets.proofs.Pick.{pick-cases}
+use Rattle.heads.specs.declared.Refusal.{Refusal}
+use Rattle.heads.specs.declared.Form.{Form}
+use Rattle.heads.specs.declared.Head.{Head}
+use Rattle.heads.specs.Head.{formOf}
+use Rattle.heads.specs.Refusals.{pastEnd, longFile}
+use Rattle.items.specs.declared.Within.{Within}
+use Rattle.items.specs.declared.Within.the-variants.{Root}
+use Rattle.items.specs.declared.Cursor.{Cursor}
+use Rattle.items.specs.declared.Item.{Item}
+use Rattle.items.specs.declared.Item.the-variants.{Plain}
+use Rattle.items.specs.declared.Next.{Next}
+use Rattle.items.specs.declared.Next.the-variants.{Found}
+use Rattle.items.specs.Walk.{refusal, cursor, standsIn, isInside, endsOpen, itemOf, nextOf}
+use Rattle.dated.specs.Dated.{held}
+use Rattle.layout.specs.Frame.{Frame}
+use Rattle.standing.specs.Standing.{octetsLimit}
+use Rattle.effects.specs.declared.Effect.{Effect}
+use Rattle.effects.specs.Effects.{valueAt, effectOf}
+use Rattle.verdict.specs.Verdict.{placeAt, refused, unlimited}
+use Rattle.walk.specs.declared.Waveform.{Waveform}
+use Rattle.walk.specs.declared.Step.{Step}
+use Rattle.walk.specs.Advance.{Stand, stop, Turn, on, stops, effectTurn, nextTurn, turnOf}
+use Rattle.walk.specs.Joined.{frameBy}
+use Rattle.walk.proofs.Joins.{Stands, TurnStands}
+use Rattle.link.specs.Link.{Coming, Phase, head, Link, link, cutAt, waiting, condemned, firstComing, waved, stoppedAt, turnedBy, keptLimit, itemAt, withinAfter, doneItem, groupBegins, effected}
+use Rattle.link.proofs.Seen.{endsIn, Whole, Inside, longer, next-faulty, next-wanting, next-fits, next-past, next-definite, next-definite-past, next-open}
+use Rattle.link.proofs.Item.{Plainly, itemFound, found-item, found-place, value-is, keptOf, effect-same, after-same, effect-frame, effect-bare, group-bare}
+use Rattle.link.proofs.Follows.{withinOf, Cut, Resumes, fault-is, found-is, TurnsTo, turns-to, InHead, Begun, InWave, Sure, Follows, waiting-follows, cutHere, condemned-follows}
+
+-- ---- the next item begins
+
+-- A definite group that is not left has octets to come.
+stands-below : (n : ℕ) (w : Within) → Inside (standsIn n w) (suc n)
+stands-below n Within.Root = tt
+stands-below n (Within.Definite channel end) = pick-cases (λ (z : Within). Inside z (suc n)) (ltb n end) (λ e. ltb-true n end e) (λ _. tt)
+stands-below n (Within.Open channel place) = tt
+
+inside-less : (w : Within) (m n : ℕ) → m ≤ n → Inside w n → Inside w m
+inside-less Within.Root m n h i = tt
+inside-less (Within.Definite channel end) m n h i = omega arith
+inside-less (Within.Open channel place) m n h i = tt
+
+module _ (s : List ℕ) (n : ℕ) (y : Stand) (around : ℕ) (v : Waveform) where
+  -- What is known where an item has led on to y.
+  pub next-follows : (c : Cursor) (met : List Frame) → n ≡ length s → y .cursor ≡ c → c .at ≡ length s → y .frames ≡ length met
+      → ((t : List ℕ) → Whole (standsIn (c .at) (c .within)) (length (s ++ t)) → Stands (s ++ t) met y)
+      → ((t : List ℕ) → Cut (standsIn (c .at) (c .within)) (length (s ++ t)) → unlimited (s ++ t) ≡ refused (refusal pastEnd around))
+      → Follows s (link n y around v (head []))
+  unfolding formOf
+  next-follows c met counts is here many stands cut =
+      let at : y .cursor .at ≡ length s = ap (λ (d : Cursor). d .at) is ∙ here in
+      let goes : Inside (withinOf y) (suc (length s)) = subst (λ (k : ℕ). Inside (withinOf y) (suc k)) at (stands-below (y .cursor .at) (y .cursor .within)) in
+      record {
+        resumes =
+            record {
+              met = met;
+              counts = counts;
+              many = many;
+              before = omega (arith, at);
+              inside = inside-less (withinOf y) (length s) (suc (length s)) (omega arith) goes;
+              stands = λ t h. stands t (subst (λ (d : Cursor). Whole (standsIn (d .at) (d .within)) (length (s ++ t))) is h);
+              cut = λ t h. cut t (subst (λ (d : Cursor). Cut (standsIn (d .at) (d .within)) (length (s ++ t))) is h);
+            };
+        octets = drop-of-length-le s {i = y .cursor .at} (omega (arith, at));
+        wants = refl;
+        goes = goes;
+      }
+
+-- ---- a waveform is over
+
+-- The frame whose waveform has come.
+abbrev frameNow : List ℕ → Waveform → Stand → Frame
+frameNow s v y = frameBy s v y
+
+frame-longer : (s t : List ℕ) (v : Waveform) (y : Stand) → v .place + v .len ≡ length s → frameBy (s ++ t) v y ≡ frameNow s v y
+frame-longer s t v y e =
+    let same : valueAt (s ++ t) (v .place) (v .len) ≡ valueAt s (v .place) (v .len) =
+    value-is s t (v .place) (v .len) e ∙ sym (subst (λ (u : List ℕ). valueAt u (v .place) (v .len) ≡ drop (v .place) s) (append-nil s) (value-is s [] (v .place) (v .len) e)) in
+    λ k. record {
+      start = v .start;
+      place = v .place;
+      little = v .little;
+      sequences = v .sequences;
+      channels = take (v .channels) (held (y .records));
+      waveform = same k;
+    }
+
+over-follows : (s : List ℕ) (n : ℕ) (y : Stand) (around : ℕ) (v : Waveform) → InWave s n y around v 0 → Follows s (link n y around v (head []))
+over-follows s n y around v p =
+    let ends : v .place + v .len ≡ length s = omega (arith, p .ends) in
+    next-follows s n y around v (cursor (length s + 0) Root) (p .met ++ (frameNow s v y ∷ [])) (p .counts) (p .behind) (omega arith)
+    (p .many ∙ sym (length-append (p .met) (frameNow s v y ∷ [])))
+    (λ t h. subst (λ (f : Frame). Stands (s ++ t) (p .met ++ (f ∷ [])) y) (frame-longer s t v y ends) (p .stands t (omega (arith, longer s t)) .0))
+    (λ t h. absurd h)
+
+-- In a waveform of which so many octets are still to come, or behind it.
+pub waved-follows : (s : List ℕ) (n : ℕ) (y : Stand) (around : ℕ) (v : Waveform) (left : ℕ) (t : Coming) → InWave s n y around v left → Follows s (link n y around v (waved left t))
+unfolding waved
+waved-follows s n y around v zero t p = over-follows s n y around v p
+waved-follows s n y around v (suc left) t p = (p, omega arith)
+
+-- What a waveform's effect says.
+abbrev frameStart : Effect → ℕ
+frameStart Effect.Pass = 0
+frameStart (Effect.Order little) = 0
+frameStart (Effect.Count n) = 0
+frameStart (Effect.Sequences n) = 0
+frameStart (Effect.Start z) = 0
+frameStart (Effect.All ch) = 0
+frameStart (Effect.One channel ch) = 0
+frameStart (Effect.Frame start len) = start
+frameStart (Effect.Refused n) = 0
+
+abbrev frameLength : Effect → ℕ
+frameLength Effect.Pass = 0
+frameLength (Effect.Order little) = 0
+frameLength (Effect.Count n) = 0
+frameLength (Effect.Sequences n) = 0
+frameLength (Effect.Start z) = 0
+frameLength (Effect.All ch) = 0
+frameLength (Effect.One channel ch) = 0
+frameLength (Effect.Frame start len) = len
+frameLength (Effect.Refused n) = 0
+
+-- ---- an item that is no waveform
+
+module _ (s : List ℕ) (n : ℕ) (x : Stand) (around : ℕ) (v : Waveform) (ph : Phase) (limit : length s ≤ octetsLimit) (p : Resumes s n x around) where
+  abbrev at : ℕ
+  at = x .cursor .at
+
+  abbrev w : Within
+  w = withinOf x
+
+  abbrev pub cutPlace : ℕ
+  cutPlace = cutHere s n x around v ph limit p
+
+  abbrev pub markedHere : Link
+  markedHere = link n x cutPlace v ph
+
+  -- It has this effect, and the next item begins at c.
+  pub record Leads (left : ℕ) (c : Cursor) (e : Effect) : Type 0 where
+    pub here : c .at ≡ length s
+    pub fits : Inside w (length s + left)
+    pub known : (t : List ℕ) → Whole w (length (s ++ t)) → length s + left ≤ length (s ++ t) → TurnStands (s ++ t) (p .met) at (effectTurn x c at e)
+    pub cuts : (t : List ℕ) → Whole w (length (s ++ t)) → length (s ++ t) < length s + left → unlimited (s ++ t) ≡ refused (refusal pastEnd cutPlace)
+    pub bare : (from long : ℕ) → e ≡ Effect.Frame from long → ⊥
+    pub after : (t : List ℕ) → Whole (standsIn (c .at) (c .within)) (length (s ++ t)) → Whole w (length (s ++ t)) × (length s + left ≤ length (s ++ t))
+    pub cut : (t : List ℕ) → Cut (standsIn (c .at) (c .within)) (length (s ++ t)) → unlimited (s ++ t) ≡ refused (refusal pastEnd cutPlace)
+
+  pub turned-follows : (left : ℕ) (c : Cursor) (e : Effect) → Leads left c e → Follows s (turnedBy left (effectTurn x c at e) markedHere)
+  unfolding turnedBy stoppedAt
+  turned-follows left c e q = by (effectTurn x c at e) (turns-to x c at e) (q .known)
+    where
+      by-step : (k : Step) (y : Stand) → TurnsTo x c at e (stops (stop k y))
+          → ((t : List ℕ) → Whole w (length (s ++ t)) → length s + left ≤ length (s ++ t) → TurnStands (s ++ t) (p .met) at (stops (stop k y))) → Follows s (stoppedAt left k y markedHere)
+      by-step (Step.Frame u) y to f = absurd (q .bare (u .place) (u .len) (to .0))
+      by-step Step.Ended y to f = absurd to
+      by-step (Step.Refused r) y to f = condemned-follows s n x around v ph limit p left r (q .fits) (λ _ t h k. sym (f t h k)) (q .cuts)
+
+      by : (z : Turn) → TurnsTo x c at e z → ((t : List ℕ) → Whole w (length (s ++ t)) → length s + left ≤ length (s ++ t) → TurnStands (s ++ t) (p .met) at z) → Follows s (turnedBy left z markedHere)
+      by (on y) to f =
+          next-follows s n y cutPlace v c (p .met) (p .counts) (to .1) (q .here) (to .2 ∙ p .many)
+          (λ t h. let g = q .after t h in f t (g .0) (g .1)) (q .cut)
+      by (stops z) to f = by-step (z .step) (z .at) to f
+
+  -- ---- a value's last octet has come
+
+  -- The definite group around is whole, or it is cut off, after the item as before it.
+  value-whole : (z : Within) (tag k m : ℕ) → length s ≤ m → Whole (standsIn (length s) (withinAfter z tag k)) m → Whole z m
+  unfolding withinAfter
+  value-whole Within.Root tag k m h q = tt
+  value-whole (Within.Definite channel end) tag k m h q = by (ltb (length s) end) refl q
+    where
+      by : (b : Bool) → ltb (length s) end ≡ b → Whole (pick b (Within.Definite channel end) Root) m → end ≤ m
+      by true e q = q
+      by false e q = omega (arith, ltb-false (length s) end e)
+  value-whole (Within.Open channel place) tag k m h q = tt
+
+  value-cut : (z : Within) (tag k m : ℕ) → Cut (standsIn (length s) (withinAfter z tag k)) m → Cut z m
+  unfolding withinAfter
+  value-cut Within.Root tag k m q = q
+  value-cut (Within.Definite channel end) tag k m q = by (ltb (length s) end) q
+    where
+      by : (b : Bool) → Cut (pick b (Within.Definite channel end) Root) m → m < end
+      by true q = q
+      by false q = absurd q
+  value-cut (Within.Open channel place) tag k m q = by (endsOpen tag k) q
+    where
+      by : (b : Bool) → Cut (standsIn (length s) (pick b Root (Within.Open channel place))) m → ⊥
+      by true q = q
+      by false q = q
+
+  -- In a definite group an end is 3 at the group, which is where it was before.
+  group-cut : (z : Within) (m : ℕ) → Cut z m → around ≡ cutAt z at around
+  group-cut Within.Root m q = absurd q
+  group-cut (Within.Definite channel end) m q = refl
+  group-cut (Within.Open channel place) m q = absurd q
+
+  room-fits : (z : Within) (m k : ℕ) → k ≤ m → Inside z k → Whole z m → k ≤ endsIn z m
+  room-fits Within.Root m k h i q = h
+  room-fits (Within.Definite channel end) m k h i q = i
+  room-fits (Within.Open channel place) m k h i q = h
+
+  module _ (tag : ℕ) (i : Begun s x tag 0) (o : Plainly w tag) where
+    abbrev kept : List ℕ
+    kept = take keptLimit (drop (at + i .start) s)
+
+    abbrev found : Item
+    found = itemFound w at tag (i .start) (i .len)
+
+    abbrev after-item : Cursor
+    after-item = cursor n (withinAfter w tag (length kept))
+
+    ends-here : at + i .start + i .len ≡ length s
+    ends-here = omega (arith, i .ends)
+
+    is-found : (t : List ℕ) → Whole w (length (s ++ t)) → nextOf (s ++ t) (x .cursor) ≡ Found found after-item
+    is-found t h =
+        let r = room-fits w (length (s ++ t)) (length s) (longer s t) (p .inside) h in
+        next-fits s t (x .cursor) (i .here) (p .inside) h tag (i .start) (i .len) (i .form) (omega (arith, ends-here))
+        ∙ found-item w at tag (i .start) (i .len)
+        ∙ (λ k. Found found (cursor ((ends-here ∙ sym (p .counts)) k) (after-same s t (x .standing) at tag (i .start) (i .len) ends-here w k)))
+
+    has-effect : (t : List ℕ) → effectOf (s ++ t) (x .standing) found ≡ effectOf kept (x .standing) (itemAt w at tag (length kept))
+    has-effect t = effect-same s t (x .standing) at tag (i .start) (i .len) ends-here w o
+
+    pub done-follows : Follows s (doneItem tag kept (link n x around v ph))
+    done-follows =
+        turned-follows 0 after-item (effectOf kept (x .standing) (itemAt w at tag (length kept)))
+        (record {
+          here = p .counts;
+          fits = inside-less w (length s + 0) (length s) (omega arith) (p .inside);
+          known = λ t h k. subst
+              (λ (e : Effect). TurnStands (s ++ t) (p .met) at (effectTurn x after-item at e))
+              (has-effect t)
+              (subst (λ (q : ℕ). TurnStands (s ++ t) (p .met) at (effectTurn x after-item q (effectOf (s ++ t) (x .standing) found)))
+              (found-place w at tag (i .start) (i .len))
+              (found-is (p .stands t h) (is-found t h) (omega (arith, p .counts))));
+          cuts = λ t h k. let z : ⊥ = omega (arith, longer s t) in absurd z;
+          bare = λ from long e. effect-bare (s ++ []) (x .standing) w at tag (i .start) (i .len) o (has-effect [] ∙ e);
+          after = λ t h.
+              (value-whole w tag (length kept) (length (s ++ t)) (longer s t)
+              (subst (λ (k : ℕ). Whole (standsIn k (withinAfter w tag (length kept))) (length (s ++ t))) (p .counts) h), omega (arith, longer s t));
+          cut = λ t h.
+              let g = value-cut w tag (length kept) (length (s ++ t)) (subst (λ (k : ℕ). Cut (standsIn k (withinAfter w tag (length kept))) (length (s ++ t))) (p .counts) h) in
+              p .cut t g ∙ ap (λ (q : ℕ). refused (refusal pastEnd q)) (group-cut w (length (s ++ t)) g);
+        })
+
+  -- ---- a group begins
+
+  module _ (outside : w ≡ Root) (channel start : ℕ) (here : at < length s) (all : at + start ≡ length s) where
+    whole-here : (m : ℕ) → Whole w m
+    whole-here m = rw outside tt
+
+    ends-root : (m : ℕ) → endsIn w m ≡ m
+    ends-root m = rw outside refl
+
+    stands-here : (t : List ℕ) → Stands (s ++ t) (p .met) x
+    stands-here t = p .stands t (whole-here (length (s ++ t)))
+
+    cut-is : cutPlace ≡ at
+    cut-is = rw outside refl
+
+    group-effect : (t u : List ℕ) → effectOf t (x .standing) (Item.Group at channel) ≡ effectOf u (x .standing) (Item.Group at channel)
+    unfolding effectOf
+    group-effect t u = refl
+
+    -- What is known of the group where the file has all of it.
+    group-known : (t : List ℕ) (c : Cursor) → c .at ≤ octetsLimit → nextOf (s ++ t) (x .cursor) ≡ Found (Item.Group at channel) c
+        → TurnStands (s ++ t) (p .met) at (effectTurn x c at (effectOf [] (x .standing) (Item.Group at channel)))
+    unfolding placeAt
+    group-known t c h e =
+        subst (λ (q : Effect). TurnStands (s ++ t) (p .met) at (effectTurn x c at q)) (group-effect (s ++ t) []) (found-is (stands-here t) e h)
+
+    module _ (len : ℕ) (f : formOf (isInside w) (drop at s) ≡ Form.Definite channel start len) where
+      abbrev in-group : Cursor
+      in-group = cursor n (Within.Definite channel (n + len))
+
+      definite-found : (t : List ℕ) → length s + len ≤ length (s ++ t) → nextOf (s ++ t) (x .cursor) ≡ Found (Item.Group at channel) in-group
+      definite-found t h =
+          let e = all ∙ sym (p .counts) in
+          next-definite s t (x .cursor) here (p .inside) (whole-here (length (s ++ t))) channel start len f (omega (arith, ends-root (length (s ++ t))))
+          ∙ (λ k. Found (Item.Group at channel) (cursor (e k) (Within.Definite channel (e k + len))))
+
+      definite-cut : (t : List ℕ) → length (s ++ t) < length s + len → unlimited (s ++ t) ≡ refused (refusal pastEnd cutPlace)
+      definite-cut t h =
+          fault-is (stands-here t)
+          (next-definite-past s t (x .cursor) here (p .inside) (whole-here (length (s ++ t))) channel start len f (omega (arith, longer s t, ends-root (length (s ++ t)))) (omega (arith, ends-root (length (s ++ t)))))
+          ∙ ap (λ (q : ℕ). refused (refusal pastEnd q)) (sym cut-is)
+
+      definite-whole : (m : ℕ) → length s ≤ m → Whole (standsIn n (Within.Definite channel (n + len))) m → length s + len ≤ m
+      definite-whole m h q = by (ltb n (n + len)) refl q
+        where
+          by : (b : Bool) → ltb n (n + len) ≡ b → Whole (pick b (Within.Definite channel (n + len)) Root) m → length s + len ≤ m
+          by true e q = omega (arith, p .counts)
+          by false e q = omega (arith, p .counts, ltb-false n (n + len) e)
+
+      definite-short : (m : ℕ) → Cut (standsIn n (Within.Definite channel (n + len))) m → m < length s + len
+      definite-short m q = by (ltb n (n + len)) q
+        where
+          by : (b : Bool) → Cut (pick b (Within.Definite channel (n + len)) Root) m → m < length s + len
+          by true q = omega (arith, p .counts)
+          by false q = absurd q
+
+      pub definite-follows : Follows s (groupBegins len channel (Within.Definite channel (n + len)) (link n x around v ph))
+      definite-follows =
+          turned-follows len in-group (effectOf [] (x .standing) (Item.Group at channel))
+          (record {
+            here = p .counts;
+            fits = rw outside tt;
+            known = λ t h k. group-known t in-group (omega (arith, p .counts)) (definite-found t k);
+            cuts = λ t h k. definite-cut t k;
+            bare = λ from long e. group-bare [] (x .standing) at channel e;
+            after = λ t h. (whole-here (length (s ++ t)), definite-whole (length (s ++ t)) (longer s t) h);
+            cut = λ t h. definite-cut t (definite-short (length (s ++ t)) h);
+          })
+
+    pub open-follows : formOf (isInside w) (drop at s) ≡ Form.Open channel start → Follows s (groupBegins 0 channel (Within.Open channel at) (link n x around v ph))
+    open-follows f =
+        turned-follows 0 (cursor n (Within.Open channel at)) (effectOf [] (x .standing) (Item.Group at channel))
+        (record {
+          here = p .counts;
+          fits = rw outside tt;
+          known = λ t h k. group-known t (cursor n (Within.Open channel at)) (omega (arith, p .counts))
+              (next-open s t (x .cursor) here (p .inside) h channel start f
+              ∙ (λ k. Found (Item.Group at channel) (cursor ((all ∙ sym (p .counts)) k) (Within.Open channel at))));
+          cuts = λ t h k. let z : ⊥ = omega (arith, longer s t) in absurd z;
+          bare = λ from long e. group-bare [] (x .standing) at channel e;
+          after = λ t h. (whole-here (length (s ++ t)), omega (arith, longer s t));
+          cut = λ t h. absurd h;
+        })
+
+    -- ---- a waveform begins
+
+    module _ (len : ℕ) (f : formOf (isInside w) (drop at s) ≡ Form.Primitive 0x1E start len) where
+      abbrev behind-wave : Cursor
+      behind-wave = cursor (n + len) Root
+
+      wave-found : (t : List ℕ) → length s + len ≤ length (s ++ t) → nextOf (s ++ t) (x .cursor) ≡ Found (Plain at 0x1E n len) behind-wave
+      unfolding itemOf
+      wave-found t h =
+          let e = all ∙ sym (p .counts) in
+          next-fits s t (x .cursor) here (p .inside) (whole-here (length (s ++ t))) 0x1E start len f (omega (arith, ends-root (length (s ++ t))))
+          ∙ ap (λ (z : Within). itemOf at z (Head.Primitive 0x1E start len)) outside
+          ∙ (λ k. Found (Plain at 0x1E (e k) len) (cursor (e k + len) Root))
+
+      wave-known : n + len ≤ octetsLimit → (t : List ℕ) → length s + len ≤ length (s ++ t) → TurnStands (s ++ t) (p .met) at (effectTurn x behind-wave at (Effect.Frame n len))
+      unfolding placeAt
+      wave-known near t h =
+          subst (λ (q : Effect). TurnStands (s ++ t) (p .met) at (effectTurn x behind-wave at q)) (effect-frame (s ++ t) (x .standing) at n len (omega (arith, p .counts)))
+          (found-is (stands-here t) (wave-found t h) near)
+
+      wave-cut : (t : List ℕ) → length (s ++ t) < length s + len → unlimited (s ++ t) ≡ refused (refusal pastEnd cutPlace)
+      wave-cut t h =
+          fault-is (stands-here t)
+          (next-past s t (x .cursor) here (p .inside) (whole-here (length (s ++ t))) 0x1E start len f (omega (arith, longer s t, ends-root (length (s ++ t)))) (omega (arith, ends-root (length (s ++ t)))))
+          ∙ ap (λ (q : ℕ). refused (refusal pastEnd q)) (sym cut-is)
+
+      -- The frame is taken: its settings are given out.
+      taken-follows : (u : Waveform) (y : Stand) → TurnsTo x behind-wave at (Effect.Frame n len) (stops (stop (Step.Frame u) y))
+          → ((t : List ℕ) → length s + len ≤ length (s ++ t) → TurnStands (s ++ t) (p .met) at (stops (stop (Step.Frame u) y))) → n + len ≤ octetsLimit → Follows s (link n y cutPlace u (waved len firstComing))
+      taken-follows u y to known near =
+          waved-follows s n y cutPlace u len firstComing
+          (record {
+            met = p .met;
+            counts = p .counts;
+            many = to .2 ∙ ap (λ (k : ℕ). k + 1) (p .many);
+            begun = omega (arith, ap frameStart (to .0), p .counts);
+            ends = omega (arith, ap frameStart (to .0), ap frameLength (to .0), p .counts);
+            near = omega (arith, p .counts);
+            stands = λ t h. (known t h .2, known t h .3);
+            cuts = wave-cut;
+            behind = to .1 ∙ ap (λ (k : ℕ). cursor (k + len) Root) (p .counts);
+          })
+
+      pub wave-follows : Follows s (turnedBy len (effectTurn x behind-wave at (Effect.Frame n len)) markedHere)
+      unfolding turnedBy stoppedAt
+      wave-follows = by (effectTurn x behind-wave at (Effect.Frame n len)) (turns-to x behind-wave at (Effect.Frame n len)) wave-known
+        where
+          by-step : (k : Step) (y : Stand) → TurnsTo x behind-wave at (Effect.Frame n len) (stops (stop k y))
+              → (n + len ≤ octetsLimit → (t : List ℕ) → length s + len ≤ length (s ++ t) → TurnStands (s ++ t) (p .met) at (stops (stop k y))) → Follows s (stoppedAt len k y markedHere)
+          by-step (Step.Frame u) y to known =
+              pick-cases (Follows s) (ltb octetsLimit (n + len))
+              (λ e. waiting-follows s markedHere len (refusal longFile 0) limit
+              (record { counts = p .counts; cuts = wave-cut; sure = λ h t k. let z : ⊥ = omega (arith, ltb-true octetsLimit (n + len) e, p .counts) in absurd z }))
+              (λ e. let near = ltb-false octetsLimit (n + len) e in taken-follows u y to (known near) near)
+          by-step Step.Ended y to known = absurd to
+          by-step (Step.Refused r) y to known =
+              condemned-follows s n x around v ph limit p len r (rw outside tt) (λ h t _ k. sym (known (omega (arith, p .counts)) t k)) (λ t _ k. wave-cut t k)
+
+          by : (z : Turn) → TurnsTo x behind-wave at (Effect.Frame n len) z
+              → (n + len ≤ octetsLimit → (t : List ℕ) → length s + len ≤ length (s ++ t) → TurnStands (s ++ t) (p .met) at z) → Follows s (turnedBy len z markedHere)
+          by (on y) to known = absurd (to .0)
+          by (stops z) to known = by-step (z .step) (z .at) to known
+
+  -- ---- faults of form
+
+  -- What stands there is a fault, for each file that has the group around.
+  pub fault-follows : (r : Refusal) → ((t : List ℕ) → Whole w (length (s ++ t)) → nextOf (s ++ t) (x .cursor) ≡ Next.Refused r) → Follows s (condemned 0 r markedHere)
+  fault-follows r f =
+      condemned-follows s n x around v ph limit p 0 r (inside-less w (length s + 0) (length s) (omega arith) (p .inside)) (λ _ t h _. fault-is (p .stands t h) (f t h))
+      (λ t _ k. let z : ⊥ = omega (arith, longer s t) in absurd z)
