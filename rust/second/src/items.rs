@@ -78,7 +78,7 @@ impl Item {
 }
 
 /// The tags that may not stand in a group.
-fn barred(tag: u8) -> bool {
+pub(crate) fn barred(tag: u8) -> bool {
     matches!(
         tag,
         tag::BYTE_ORDER

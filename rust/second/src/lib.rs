@@ -1,10 +1,11 @@
-//! A second MFER reader, writer and maker, written from the papers alone, and generators of files and
-//! of the maker's inputs to compare it with the first.
+//! A second MFER reader, link, writer and maker, written from the papers alone, and generators of files
+//! and of the maker's inputs to compare it with the first.
 #![forbid(unsafe_code)]
 
 pub mod generator;
 pub mod inputs;
 mod items;
+pub mod link;
 pub mod maker;
 pub mod papers;
 mod random;

@@ -219,7 +219,10 @@ pub fn each_channel(
 
 /// The channels of a frame in order.
 #[inline]
-fn channels<'a>(standing: &'a Standing, frame: &'a Frame) -> impl Iterator<Item = Series<'a>> {
+pub(crate) fn channels<'a>(
+    standing: &'a Standing,
+    frame: &'a Frame,
+) -> impl Iterator<Item = Series<'a>> {
     let mut lower = 0;
     standing.records(frame.channels).map(move |record| {
         let series = Series {
@@ -409,7 +412,7 @@ fn series(octets: &[u8], frame: u32, channel: u32) -> Result<Series<'_>, Refusal
 }
 
 /// The value that bits of a sample stand for.
-fn value(bits: u64, record: &Record) -> Value {
+pub(crate) fn value(bits: u64, record: &Record) -> Value {
     if record.null() == Some(bits) {
         return Value::Null;
     }

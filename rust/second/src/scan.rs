@@ -32,6 +32,11 @@ pub(crate) struct Frame<'a> {
 
 impl Frame<'_> {
     pub const CHANNEL_LIMIT: u32 = 256;
+
+    /// Octets of the samples there.
+    fn there(&self) -> usize {
+        (u64::from(self.whole) * self.sequence_octets) as usize + self.cut
+    }
 }
 
 /// Everything that stands at one place of the file.
@@ -44,7 +49,7 @@ pub(crate) struct Standing {
     start: Option<i32>,
     /// Where the next frame starts if no start pointer is given.
     continued: i64,
-    frames: u32,
+    pub frames: u32,
     root: Record,
     records: [Record; Frame::CHANNEL_LIMIT as usize],
     /// Channels from this one on have no setting of their own: the root holds for them, and their
@@ -56,7 +61,7 @@ impl Standing {
     const FRAME_LIMIT: u32 = 4096;
 
     /// A constant, so that the table is copied once and not built first.
-    const DEFAULT: Standing = Standing {
+    pub const DEFAULT: Standing = Standing {
         little: false,
         count: None,
         sequences: None,
@@ -83,7 +88,7 @@ impl Standing {
     }
 
     /// An item outside groups that is neither group nor waveform.
-    fn define_root(&mut self, tag: u8, value: &[u8]) -> Result<(), u8> {
+    pub fn define_root(&mut self, tag: u8, value: &[u8]) -> Result<(), u8> {
         let little = self.little;
         match tag {
             tag::BYTE_ORDER => self.little = choice(value, 1)? == Some(1),
@@ -107,7 +112,7 @@ impl Standing {
     }
 
     /// An item inside a group of a channel below the count.
-    fn define_channel(&mut self, channel: usize, tag: u8, value: &[u8]) -> Result<(), u8> {
+    pub fn define_channel(&mut self, channel: usize, tag: u8, value: &[u8]) -> Result<(), u8> {
         if channel >= self.own {
             self.records[self.own..=channel].fill(self.root);
             self.own = channel + 1;
@@ -115,18 +120,18 @@ impl Standing {
         self.records[channel].define(tag, value, self.little, &self.root)
     }
 
-    /// The channel a group sets; none where the group is ignored.
-    fn named(&self, group: &Item) -> Result<Option<usize>, u8> {
+    /// The channel that a group of this number sets; none where the group is ignored.
+    pub fn named(&self, channel: u32) -> Result<Option<usize>, u8> {
         match self.count {
-            Some(count) if group.channel >= count => Err(Refusal::CHANNEL_NUMBER),
-            Some(_) => Ok(Some(group.channel as usize)),
+            Some(count) if channel >= count => Err(Refusal::CHANNEL_NUMBER),
+            Some(_) => Ok(Some(channel as usize)),
             None => Ok(None),
         }
     }
 
     /// Goes through the group whose tag is at `place` and answers where the next item begins.
     fn group(&mut self, octets: &[u8], place: usize, group: &Item) -> Result<usize, Refusal> {
-        let channel = self.named(group).map_err(refused_at(place))?;
+        let channel = self.named(group.channel).map_err(refused_at(place))?;
         let octets = match group.open {
             true => octets,
             false => &octets[..group.end],
@@ -149,8 +154,8 @@ impl Standing {
         }
     }
 
-    /// The frame that a waveform item makes.
-    fn frame<'a>(&mut self, octets: &'a [u8], item: &Item) -> Result<Frame<'a>, u8> {
+    /// The frame that a waveform of `length` octets at `place` makes, but for the octets.
+    pub fn frame(&mut self, place: usize, length: u64) -> Result<Frame<'static>, u8> {
         if self.frames == Standing::FRAME_LIMIT {
             return Err(Refusal::MANY_FRAMES);
         }
@@ -160,19 +165,17 @@ impl Standing {
             Some(start) => start,
             None => i32::try_from(self.continued).map_err(|_| Refusal::START_RANGE)?,
         };
-        let length = (item.end - item.value) as u64;
         let sequences = match self.sequences {
             Some(sequences) => sequences,
             None => (length / sequence_octets) as u32,
         };
         // Below 2 to the 63: a sequence has at most 2 to the 31 octets.
         let declared = u64::from(sequences) * sequence_octets;
-        let (whole, there, cut) = match declared <= length {
-            true => (sequences, declared, 0),
+        let (whole, cut) = match declared <= length {
+            true => (sequences, 0),
             false => {
-                let rest = length % sequence_octets;
-                let cut = self.samples_within(channels, rest);
-                ((length / sequence_octets) as u32, length - rest + cut, cut)
+                let cut = self.samples_within(channels, length % sequence_octets);
+                ((length / sequence_octets) as u32, cut)
             }
         };
         let frame = Frame {
@@ -183,9 +186,9 @@ impl Standing {
             little: self.little,
             whole,
             sequence_octets,
-            place: item.value,
-            length: item.end - item.value,
-            waveform: &octets[item.value..item.value + there as usize],
+            place,
+            length: length as usize,
+            waveform: &[],
             cut: cut as usize,
         };
         self.frames += 1;
@@ -246,7 +249,9 @@ pub(crate) fn scan<'a>(
         at = match item.tag {
             tag::GROUP => standing.group(octets, at, &item)?,
             tag::WAVEFORM => {
-                let frame = standing.frame(octets, &item).map_err(refused_at(at))?;
+                let length = (item.end - item.value) as u64;
+                let mut frame = standing.frame(item.value, length).map_err(refused_at(at))?;
+                frame.waveform = &octets[item.value..][..frame.there()];
                 visit(&standing, &frame);
                 item.end
             }
