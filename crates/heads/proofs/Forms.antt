@@ -2,7 +2,7 @@
 --     form-found, form-wants    a head lies in the octets that have come, and takes ten at most
 --     form-keeps                once the head is there, octets that follow change nothing
 --     form-exact                a head ends with the octet that settles it
---     inside-none               no group stands in a group
+--     inside-allowed            no group stands in a group, and no tag that may not
 -- With one octet more each part of a head, and so the head, ends there if it was still wanted, and else stays as it was.
 -- Assumes nothing.
 use Prim.Native.Nat.{ℕ, zero, suc, _+_, _-_, _*_, _%_, _≤_, _<_}
@@ -199,32 +199,32 @@ exact-by n f g (inr e) = if-more f (λ w. rw (e, w) tt) tt
 pub form-exact : (inside : Bool) (u : List ℕ) (b : ℕ) → FormExact (length u + 1) (formOf inside u) (formOf inside (u ++ (b ∷ [])))
 form-exact inside u b = exact-by (length u + 1) (formOf inside u) (formOf inside (u ++ (b ∷ []))) (form-comes inside u b)
 
--- ---- no group stands in a group
+-- ---- no group stands in a group, and no tag that may not stand there
 
-abbrev pub NoGroup : Form → Type 0
-NoGroup Form.More = Unit {0}
-NoGroup (Form.Faulty k) = Unit {0}
-NoGroup (Form.Primitive tag start len) = Unit {0}
-NoGroup (Form.Definite channel start len) = ⊥
-NoGroup (Form.Open channel start) = ⊥
+abbrev pub Allowed : Form → Type 0
+Allowed Form.More = Unit {0}
+Allowed (Form.Faulty k) = Unit {0}
+Allowed (Form.Primitive tag start len) = rootOnly tag ≡ false
+Allowed (Form.Definite channel start len) = ⊥
+Allowed (Form.Open channel start) = ⊥
 
-primitive-none : (tag : ℕ) (l : Length) → NoGroup (primitiveForm tag l)
+primitive-allowed : (tag : ℕ) (l : Length) → rootOnly tag ≡ false → Allowed (primitiveForm tag l)
 unfolding primitiveForm
-primitive-none tag (Length.Known n octets) = tt
-primitive-none tag (Length.Open octets) = tt
-primitive-none tag Length.PastEnd = tt
-primitive-none tag Length.Bad = tt
+primitive-allowed tag (Length.Known n octets) h = h
+primitive-allowed tag (Length.Open octets) h = tt
+primitive-allowed tag Length.PastEnd h = tt
+primitive-allowed tag Length.Bad h = tt
 
 barred-group : (tag : ℕ) → eqb tag 0x3F ≡ true → rootOnly tag ≡ true
 unfolding rootOnly
 barred-group tag e = simp (e, either-true)
 
-pub inside-none : (u : List ℕ) → NoGroup (formOf true u)
+pub inside-allowed : (u : List ℕ) → Allowed (formOf true u)
 unfolding formOf
-inside-none [] = tt
-inside-none (tag ∷ u) =
-    pick-cases NoGroup (unknownContext tag) (λ _. tt)
-    (λ _. pick-cases NoGroup (rootOnly tag) (λ _. tt)
-    (λ e. pick-cases NoGroup (eqb tag 0x3F)
+inside-allowed [] = tt
+inside-allowed (tag ∷ u) =
+    pick-cases Allowed (unknownContext tag) (λ _. tt)
+    (λ _. pick-cases Allowed (rootOnly tag) (λ _. tt)
+    (λ e. pick-cases Allowed (eqb tag 0x3F)
     (λ z. let t = barred-group tag z in let w : _≡_ {A = ℕ} 0 1 = cc in let v : ⊥ = omega arith in absurd v)
-    (λ _. primitive-none tag (lengthOf u))))
+    (λ _. primitive-allowed tag (lengthOf u) e)))

@@ -21,23 +21,23 @@ pub record Covered (cs : List Settings) (sequences o : ℕ) : Type 0 where
   pub inside : i < widthIn (channelIn channel cs)
   pub place : offsetOf cs channel n + i ≡ o
 
--- The octets of the k samples of a channel from number n on.
-unfoldable pub block : (ℕ → ℕ → List ℕ) → ℕ → ℕ → ℕ → List ℕ
+-- What the k samples of a channel from number n on give, where g gives it of each by channel and number: their octets, or what else is told of them.
+unfoldable pub block : {A : Type 0} → (ℕ → ℕ → List A) → ℕ → ℕ → ℕ → List A
 block g channel n zero = []
 block g channel n (suc k) = g channel n ++ block g channel (suc n) k
 
--- The octets of sequence q: a block of each channel, in order.
-unfoldable pub sequence : (ℕ → ℕ → List ℕ) → ℕ → List Settings → ℕ → List ℕ
+-- The same of sequence q: a block of each channel, in order.
+unfoldable pub sequence : {A : Type 0} → (ℕ → ℕ → List A) → ℕ → List Settings → ℕ → List A
 sequence g channel [] q = []
 sequence g channel (c ∷ cs) q = block g channel (q * c .block) (c .block) ++ sequence g (suc channel) cs q
 
--- The octets of the sequences from q on.
-unfoldable pub laidFrom : (ℕ → ℕ → List ℕ) → List Settings → ℕ → ℕ → List ℕ
+-- The same of m sequences from q on.
+unfoldable pub laidFrom : {A : Type 0} → (ℕ → ℕ → List A) → List Settings → ℕ → ℕ → List A
 laidFrom g cs q zero = []
 laidFrom g cs q (suc m) = sequence g 0 cs q ++ laidFrom g cs (suc q) m
 
--- The samples of a waveform in file order, where g gives the octets of each by channel and number.
-unfoldable pub laid : (ℕ → ℕ → List ℕ) → List Settings → ℕ → List ℕ
+-- The samples of a waveform in file order.
+unfoldable pub laid : {A : Type 0} → (ℕ → ℕ → List A) → List Settings → ℕ → List A
 laid g cs sequences = laidFrom g cs 0 sequences
 
 -- A sample's octets in a waveform.

@@ -18,12 +18,10 @@ use Rattle.octets.specs.Pick.{pick, both}
 use Rattle.octets.proofs.Pick.{pick-cases, either-true}
 use Rattle.heads.specs.declared.Refusal.{Refusal}
 use Rattle.heads.specs.declared.Form.{Form}
-use Rattle.heads.specs.declared.Channel.{Channel}
-use Rattle.heads.specs.declared.Length.{Length}
-use Rattle.heads.specs.Head.{unknownContext, rootOnly, lengthOf, channelOf, primitiveForm, groupLength, groupForm, formOf}
+use Rattle.heads.specs.Head.{rootOnly, formOf}
 use Rattle.heads.specs.Refusals.{pastEnd, unendedGroup, longFile}
 use Rattle.heads.specs.Answer.{Answer, answered, refusedAs}
-use Rattle.heads.proofs.Forms.{FormKept, form-keeps, FormExact, form-exact, NoGroup, inside-none}
+use Rattle.heads.proofs.Forms.{FormKept, form-keeps, FormExact, form-exact, Allowed, inside-allowed}
 use Rattle.items.specs.declared.Within.{Within}
 use Rattle.items.specs.declared.Within.the-variants.{Root}
 use Rattle.items.specs.declared.Next.{Next}
@@ -49,42 +47,6 @@ use Rattle.link.proofs.Steps.{next-follows, waved-follows, done-follows
 
 true-false : true ≡ false → ⊥
 true-false e = let w : _≡_ {A = ℕ} 0 1 = cc in let v : ⊥ = omega arith in v
-
--- In a group stands no tag that may not.
-abbrev Allowed : Form → Type 0
-Allowed Form.More = Unit {0}
-Allowed (Form.Faulty k) = Unit {0}
-Allowed (Form.Primitive tag start len) = rootOnly tag ≡ false
-Allowed (Form.Definite channel start len) = Unit {0}
-Allowed (Form.Open channel start) = Unit {0}
-
-primitive-allowed : (tag : ℕ) (l : Length) → rootOnly tag ≡ false → Allowed (primitiveForm tag l)
-unfolding primitiveForm
-primitive-allowed tag (Length.Known n octets) h = h
-primitive-allowed tag (Length.Open octets) h = tt
-primitive-allowed tag Length.PastEnd h = tt
-primitive-allowed tag Length.Bad h = tt
-
-length-allowed : (channel k : ℕ) (l : Length) → Allowed (groupLength channel k l)
-unfolding groupLength
-length-allowed channel k (Length.Known n octets) = tt
-length-allowed channel k (Length.Open octets) = tt
-length-allowed channel k Length.PastEnd = tt
-length-allowed channel k Length.Bad = tt
-
-group-allowed : (u : List ℕ) (c : Channel) → Allowed (groupForm u c)
-unfolding groupForm
-group-allowed u (Channel.Number channel k) = length-allowed channel k (lengthOf (drop k u))
-group-allowed u Channel.PastEnd = tt
-group-allowed u Channel.TooLong = tt
-
-inside-allowed : (u : List ℕ) → Allowed (formOf true u)
-unfolding formOf
-inside-allowed [] = tt
-inside-allowed (tag ∷ u) =
-    pick-cases Allowed (unknownContext tag) (λ _. tt)
-    (λ _. pick-cases Allowed (rootOnly tag) (λ _. tt)
-    (λ e. pick-cases Allowed (eqb tag 0x3F) (λ _. group-allowed u (channelOf 4 0 0 u)) (λ _. primitive-allowed tag (lengthOf u) e)))
 
 module _ (s : List ℕ) (n : ℕ) (x : Stand) (around : ℕ) (v : Waveform) (ph : Phase) (limit : length s ≤ octetsLimit) (p : Resumes s n x around) (here : x .cursor .at < length s) where
   abbrev at : ℕ
@@ -153,9 +115,6 @@ module _ (s : List ℕ) (n : ℕ) (x : Stand) (around : ℕ) (v : Waveform) (ph 
 
   -- In groups.
   module _ (inside : isInside w ≡ true) where
-    no-group : {f : Form} → formOf (isInside w) come ≡ f → NoGroup f
-    no-group e = subst NoGroup (sym (ap (λ (b : Bool). formOf b come) inside) ∙ e) (inside-none come)
-
     allowed : {f : Form} → formOf (isInside w) come ≡ f → Allowed f
     allowed e = subst Allowed (sym (ap (λ (b : Bool). formOf b come) inside) ∙ e) (inside-allowed come)
 
@@ -189,14 +148,14 @@ module _ (s : List ℕ) (n : ℕ) (x : Stand) (around : ℕ) (v : Waveform) (ph 
       let more = ltb-true (end - n) len q in
       bad-follows pastEnd (λ t h. next-past s t _ here (p .inside) h tag start len e (rw ew (omega arith)) (rw ew (omega (arith, p .counts)))))
       (λ q. let fits = ltb-false (end - n) len q in member-follows (rw ew refl) tag start len e all (rw ew (omega (arith, p .counts))) (rw ew tt))
-  headed-follows (Within.Definite channel end) ew (Form.Definite c start len) e k = absurd (no-group (rw ew refl) e)
-  headed-follows (Within.Definite channel end) ew (Form.Open c start) e k = absurd (no-group (rw ew refl) e)
+  headed-follows (Within.Definite channel end) ew (Form.Definite c start len) e k = absurd (allowed (rw ew refl) e)
+  headed-follows (Within.Definite channel end) ew (Form.Open c start) e k = absurd (allowed (rw ew refl) e)
   headed-follows (Within.Open channel place) ew Form.More e k = more-follows e (rw ew tt)
   headed-follows (Within.Open channel place) ew (Form.Faulty number) e k = faulty-follows number e
   headed-follows (Within.Open channel place) ew (Form.Primitive tag start len) e k =
       member-follows (rw ew refl) tag start len e (omega (arith, length-drop at s)) (rw ew tt) (rw ew tt)
-  headed-follows (Within.Open channel place) ew (Form.Definite c start len) e k = absurd (no-group (rw ew refl) e)
-  headed-follows (Within.Open channel place) ew (Form.Open c start) e k = absurd (no-group (rw ew refl) e)
+  headed-follows (Within.Open channel place) ew (Form.Definite c start len) e k = absurd (allowed (rw ew refl) e)
+  headed-follows (Within.Open channel place) ew (Form.Open c start) e k = absurd (allowed (rw ew refl) e)
 
 -- ---- one octet more
 

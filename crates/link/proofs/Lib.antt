@@ -3,3 +3,5 @@ pub mod Item
 pub mod Follows
 pub mod Steps
 pub mod Fed
+pub mod Rest
+pub mod Arrives

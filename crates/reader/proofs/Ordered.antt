@@ -17,7 +17,7 @@ use Rattle.items.specs.declared.Cursor.{Cursor}
 use Rattle.items.proofs.Walks.{FoundAt, ItemLies, next-found}
 use Rattle.settings.specs.declared.Settings.{Settings}
 use Rattle.settings.specs.Settings.{channelLimit}
-use Rattle.layout.specs.Frame.{Frame, sequenceOctets, allAgree}
+use Rattle.layout.specs.Frame.{Frame, sequenceOctets, allAgree, channelIn}
 use Rattle.there.specs.There.{Wide}
 use Rattle.standing.specs.declared.Standing.{Standing}
 use Rattle.effects.specs.Effects.{valueAt}
@@ -28,11 +28,12 @@ use Rattle.pass.specs.Scan.{zeroFrame}
 use Rattle.verdict.proofs.Keeps.{Kept, Keeps, firstCursor, accepted-by, accepted-kept}
 use Rattle.verdict.proofs.Steps.{Waveform, TakenBy, ItemStep, passes, stands, resets, changes, sets, frames, meaning-steps}
 use Rattle.verdict.proofs.Every.{Every, every-at, every-snoc, every-imp}
-use Rattle.verdict.proofs.Bounds.{Bounded, bounded-first, bounded-step, frame-channels, channels-wide}
+use Rattle.verdict.proofs.Bounds.{Bounded, bounded-first, bounded-step, frame-channels, channels-wide, channels-some}
 
--- A frame whose waveform lies in the file, with 1 to 256 channels, whose samples have octets.
+-- A frame whose waveform lies in the file, with 1 to 256 channels, whose samples have octets and whose blocks have samples.
 pub record Lies (s : List ℕ) (f : Frame) : Type 0 where
   pub wide : Wide (f .channels)
+  pub blocks : (c : ℕ) → c < length (f .channels) → 0 < channelIn c (f .channels) .block
   pub inside : f .place + length (f .waveform) ≤ length s
   pub octets : f .waveform ≡ take (length (f .waveform)) (drop (f .place) s)
   pub some : 0 < length (f .channels)
@@ -93,6 +94,7 @@ module _ (s : List ℕ) (x : State) (c d : Cursor) (p : Lying s x c) where
         let k = frame-channels x (p .bounded) in
         record {
           wide = channels-wide x (p .bounded);
+          blocks = channels-some x (p .bounded);
           inside = rw long-is (omega arith);
           octets = rw long-is;
           some = k .0;

@@ -1,7 +1,7 @@
 -- What holds at every state that a file's items lead to.
 --     reached-bounded     no more channels are counted and no more frames met than there may be, and each attribute of each record is in its range
 --     frame-channels, octets-some    so a frame there has 1 to 256 channels, and a sequence has octets
---     root-small, channels-wide      the root block length is small, and samples have octets
+--     root-small, channels-wide, channels-some    the root block length is small, samples have octets, and blocks have samples
 -- Assumes nothing.
 use mathlib.Core.Path.{_≡_, refl, _∙_}
 use mathlib.Core.List.{List, [], _∷_}
@@ -110,13 +110,20 @@ module _ (x : State) (b : Bounded x) where
       let n = x .standing .root .block in
       leb-true n blockLimit (both-split (leb 1 n) (leb n blockLimit) (b .ranged .root .block) .1)
 
-  -- A channel's samples have octets.
+  ranged-channels : Every (EachAttribute InRange) (frameChannels x)
+  ranged-channels = every-take (EachAttribute InRange) (channelsOf (x .standing .counted)) (x .channels) (b .ranged .table)
+
+  ranged-at : (c : ℕ) → c < length (frameChannels x) → EachAttribute InRange (channelIn c (frameChannels x))
+  ranged-at c h = every-at (EachAttribute InRange) (frameChannels x) ranged-channels zeroSettings c h
+
+  -- A channel's samples have octets, and its blocks have samples.
   pub channels-wide : Wide (frameChannels x)
-  channels-wide c h =
-      let ranged = every-take (EachAttribute InRange) (channelsOf (x .standing .counted)) (x .channels) (b .ranged .table) in
-      let n = channelIn c (frameChannels x) .datatype in
-      width-some n (leb-true n lastDataType (every-at (EachAttribute InRange) (frameChannels x) ranged zeroSettings c h .datatype))
+  channels-wide c h = let n = channelIn c (frameChannels x) .datatype in width-some n (leb-true n lastDataType (ranged-at c h .datatype))
+
+  pub channels-some : (c : ℕ) → c < length (frameChannels x) → 0 < channelIn c (frameChannels x) .block
+  channels-some c h =
+      let n = channelIn c (frameChannels x) .block in
+      leb-true 1 n (both-split (leb 1 n) (leb n blockLimit) (ranged-at c h .block) .0)
 
   pub octets-some : 0 < sequenceOctets (frameChannels x)
-  octets-some =
-      sequence-octets-some (frameChannels x) (every-take (EachAttribute InRange) (channelsOf (x .standing .counted)) (x .channels) (b .ranged .table)) (frame-channels .0)
+  octets-some = sequence-octets-some (frameChannels x) ranged-channels (frame-channels .0)

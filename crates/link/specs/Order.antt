@@ -1,0 +1,24 @@
+-- What a frame gives out (document 02, request 3): "in file order and each once, the samples there, with the place and value that 01 gives".
+use mathlib.Core.List.{List, [], _∷_, _++_}
+use Prim.Native.Nat.{ℕ}
+use lib.ListN.{length}
+use Rattle.octets.specs.Pick.{pick}
+use Rattle.layout.specs.Frame.{Frame}
+use Rattle.laid.specs.Laid.{laid}
+use Rattle.there.specs.There.{isThere}
+use Rattle.reader.specs.Answer.{sampleIn}
+use Rattle.link.specs.Link.{Given}
+
+-- A sample by channel and number, as the questions answer it; nothing where it is not there.
+unfoldable pub sampleGiven : Frame → ℕ → ℕ → List Given
+sampleGiven f channel n =
+    pick (isThere (f .channels) (length (f .waveform)) channel n) (record { channel = channel; number = n; sample = sampleIn channel n f } ∷ []) []
+
+-- The samples there of a frame, in file order.
+unfoldable pub samplesGiven : Frame → List Given
+samplesGiven f = laid (sampleGiven f) (f .channels) (f .sequences)
+
+-- Those of frames, one after the other.
+unfoldable pub framesGiven : List Frame → List Given
+framesGiven [] = []
+framesGiven (f ∷ fs) = samplesGiven f ++ framesGiven fs
