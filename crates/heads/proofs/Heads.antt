@@ -148,7 +148,7 @@ channel-within (suc allowed) passed value (b ∷ u) =
     pick-cases (ChannelWithin passed (suc allowed) (suc (length u))) (ltb b 128) (λ _. omega arith)
     (λ _. channel-later passed allowed (length u) (channelOf allowed (passed + 1) v u) (channel-within allowed (passed + 1) v u))
 
--- A head takes its tag and more, none past the end, and ten octets at most; where more are wanted there are fewer. A fault has one of the numbers up to 5.
+-- A head takes at least one octet, none past the end, and ten at most; where more are wanted there are fewer. A fault has one of the numbers up to 5.
 abbrev pub FormWithin : ℕ → Form → Type 0
 FormWithin end Form.More = end < 10
 FormWithin end (Form.Faulty k) = k ≤ barredTag
