@@ -13,7 +13,7 @@ use native.Mathlib.Omega.{arith}
 use borrow.Author.Tests.{ltb-true, ltb-false, eqb-true, eqb-false, lt-leb}
 use lib.Dec.{ltb, leb, eqb}
 use lib.ListN.{length, take, drop, length-append, length-take, length-drop, drop-of-length-le}
-use lib.Seq.{drop-append-le, take-nil}
+use lib.Seq.{take-nil}
 use Rattle.octets.specs.Pick.{pick, both}
 use Rattle.octets.proofs.Pick.{pick-cases, either-true}
 use Rattle.heads.specs.declared.Refusal.{Refusal}
@@ -37,18 +37,21 @@ use Rattle.walk.specs.Advance.{Stand, firstStand, nextTurn, turnOf}
 use Rattle.walk.specs.Joined.{frameBy}
 use Rattle.walk.proofs.Joins.{Stands, Counts, TurnStands, Near, turn-stands, stands-first}
 use Rattle.walking.specs.Steps.{noWaveform}
-use Rattle.link.specs.Link.{Coming, Phase, head, value, waveform, waits, decided, Link, link, firstLink, cutAt, waiting, condemned, waved, valued, doneItem, keptLimit, primitiveBegins, confined, seenIn, headed, takenIn, isDecided, stepped, fedWith, endedIn, endIn, endOf}
+use Rattle.link.specs.Link.{Given, Phase, head, value, waveform, waits, decided, Link, link, firstLink, cutAt, waiting, condemned, waved, valued, doneItem, keptLimit, primitiveBegins, confined, seenIn, headed, counted, takenIn, isDecided, stepped, fedWith, givesIn, gives, givenBy, endedIn, endIn, endOf}
+use Rattle.link.specs.Order.{framesGiven}
 use Rattle.link.proofs.Seen.{endsIn, Whole, Inside, tailOf, longer, next-faulty, next-wanting, next-past}
 use Rattle.link.proofs.Item.{Plainly}
 use Rattle.link.proofs.Follows.{withinOf, Cut, Resumes, fault-is, InHead, Begun, InValue, InWave, Sure, Settled, FollowsIn, Follows, waiting-follows}
-use Rattle.link.proofs.Steps.{next-follows, waved-follows, done-follows, definite-follows, open-follows, wave-follows, fault-follows}
+use Rattle.link.proofs.Grown.{grown, grown-long, to-grown, of-grown, drop-grown}
+use Rattle.link.proofs.Waves.{wave-on}
+use Rattle.link.proofs.Steps.{inside-less, next-follows, waved-follows, done-follows, definite-follows, open-follows, wave-follows, fault-follows}
 
 -- ---- the octets of a head
 
 true-false : true ≡ false → ⊥
 true-false e = let w : _≡_ {A = ℕ} 0 1 = cc in let v : ⊥ = omega arith in v
 
-module _ (s : List ℕ) (n : ℕ) (x : Stand) (around : ℕ) (v : Waveform) (ph : Phase) (limit : length s ≤ octetsLimit) (p : Resumes s n x around) (here : x .cursor .at < length s) where
+module _ (s : List ℕ) (n : ℕ) (x : Stand) (around : ℕ) (v : Waveform) (ph : Phase) (gs : List Given) (limit : length s ≤ octetsLimit) (p : Resumes s n x around gs) (here : x .cursor .at < length s) where
   abbrev at : ℕ
   at = x .cursor .at
 
@@ -62,28 +65,28 @@ module _ (s : List ℕ) (n : ℕ) (x : Stand) (around : ℕ) (v : Waveform) (ph 
   l = link n x around v ph
 
   -- More octets are wanted, and may come.
-  more-follows : formOf (isInside w) come ≡ Form.More → Inside w (suc (length s)) → Follows s (headed come Form.More l)
+  more-follows : formOf (isInside w) come ≡ Form.More → Inside w (suc (length s)) → Follows s gs (headed come Form.More l)
   unfolding headed
   more-follows e g = record { resumes = p; octets = refl; wants = e; goes = g }
 
   -- A fault of form, by what stands there in each file that has the group around.
-  bad-follows : (number : ℕ) → ((t : List ℕ) → Whole w (length (s ++ t)) → nextOf (s ++ t) (x .cursor) ≡ Next.Refused (refusal number at)) → Follows s (headed come (Form.Faulty number) l)
+  bad-follows : (number : ℕ) → ((t : List ℕ) → Whole w (length (s ++ t)) → nextOf (s ++ t) (x .cursor) ≡ Next.Refused (refusal number at)) → Follows s gs (headed come (Form.Faulty number) l)
   unfolding headed
-  bad-follows number f = fault-follows s n x around v ph limit p (refusal number at) f
+  bad-follows number f = fault-follows s n x around v ph gs limit p (refusal number at) f
 
-  faulty-follows : (number : ℕ) → formOf (isInside w) come ≡ Form.Faulty number → Follows s (headed come (Form.Faulty number) l)
+  faulty-follows : (number : ℕ) → formOf (isInside w) come ≡ Form.Faulty number → Follows s gs (headed come (Form.Faulty number) l)
   faulty-follows number e = bad-follows number (λ t h. next-faulty s t (x .cursor) here (p .inside) h number e)
 
   -- A value, of which nothing has come.
-  value-follows : (tag start len : ℕ) → formOf (isInside w) come ≡ Form.Primitive tag start len → at + start ≡ length s → Inside w (length s + len) → Plainly w tag → Follows s (valued tag len [] l)
+  value-follows : (tag start len : ℕ) → formOf (isInside w) come ≡ Form.Primitive tag start len → at + start ≡ length s → Inside w (length s + len) → Plainly w tag → Follows s gs (valued tag len [] l)
   unfolding valued
   value-follows tag start len e all fits o =
       let none : [] ≡ take keptLimit (drop (at + start) s) = ap (take keptLimit) (sym (drop-of-length-le s {i = at + start} (omega arith))) in
-      pick-cases (Follows s) (eqb len 0)
+      pick-cases (Follows s gs) (eqb len 0)
       (λ q.
       let z = eqb-true len 0 q in
       let i : Begun s x tag 0 = record { start = start; len = len; here = here; form = e; begun = omega arith; ends = omega arith; fits = rw z at fits } in
-      subst (λ (u : List ℕ). Follows s (doneItem tag u l)) (sym none) (done-follows s n x around v ph limit p tag i o))
+      subst (λ (u : List ℕ). Follows s gs (doneItem tag u l)) (sym none) (done-follows s n x around v ph gs limit p tag i o))
       (λ q.
       let z = eqb-false len 0 q in
       record {
@@ -96,22 +99,22 @@ module _ (s : List ℕ) (n : ℕ) (x : Stand) (around : ℕ) (v : Waveform) (ph 
 
   -- Outside groups.
   module _ (outside : w ≡ Root) where
-    primitive-follows : (tag start len : ℕ) → formOf (isInside w) come ≡ Form.Primitive tag start len → at + start ≡ length s → Follows s (headed come (Form.Primitive tag start len) l)
+    primitive-follows : (tag start len : ℕ) → formOf (isInside w) come ≡ Form.Primitive tag start len → at + start ≡ length s → Follows s gs (headed come (Form.Primitive tag start len) l)
     unfolding headed primitiveBegins
     primitive-follows tag start len e all =
-        pick-cases (Follows s) (eqb tag 0x1E)
+        pick-cases (Follows s gs) (eqb tag 0x1E)
         (λ q.
         let z = eqb-true tag 0x1E q in
-        wave-follows s n x around v ph limit p outside 0 start here all len (e ∙ ap (λ (k : ℕ). Form.Primitive k start len) z))
+        wave-follows s n x around v ph gs limit p outside 0 start here all len (e ∙ ap (λ (k : ℕ). Form.Primitive k start len) z))
         (λ q. value-follows tag start len e all (rw outside tt) (rw outside (eqb-false tag 0x1E q)))
 
-    root-follows : (f : Form) → formOf (isInside w) come ≡ f → FormExact (length come) Form.More f → Follows s (headed come f l)
+    root-follows : (f : Form) → formOf (isInside w) come ≡ f → FormExact (length come) Form.More f → Follows s gs (headed come f l)
     unfolding headed
     root-follows Form.More e k = more-follows e (rw outside tt)
     root-follows (Form.Faulty number) e k = faulty-follows number e
     root-follows (Form.Primitive tag start len) e k = primitive-follows tag start len e (omega (arith, length-drop at s))
-    root-follows (Form.Definite channel start len) e k = definite-follows s n _ around v ph limit p outside channel start here (omega (arith, length-drop at s)) len e
-    root-follows (Form.Open channel start) e k = open-follows s n _ around v ph limit p outside channel start here (omega (arith, length-drop at s)) e
+    root-follows (Form.Definite channel start len) e k = definite-follows s n _ around v ph gs limit p outside channel start here (omega (arith, length-drop at s)) len e
+    root-follows (Form.Open channel start) e k = open-follows s n _ around v ph gs limit p outside channel start here (omega (arith, length-drop at s)) e
 
   -- In groups.
   module _ (inside : isInside w ≡ true) where
@@ -123,17 +126,17 @@ module _ (s : List ℕ) (n : ℕ) (x : Stand) (around : ℕ) (v : Waveform) (ph 
     unfolding rootOnly
     no-wave tag start len e z = true-false (ap rootOnly (sym z) ∙ allowed e)
 
-    member-follows : (tag start len : ℕ) → formOf (isInside w) come ≡ Form.Primitive tag start len → at + start ≡ length s → Inside w (length s + len) → Plainly w tag → Follows s (headed come (Form.Primitive tag start len) l)
+    member-follows : (tag start len : ℕ) → formOf (isInside w) come ≡ Form.Primitive tag start len → at + start ≡ length s → Inside w (length s + len) → Plainly w tag → Follows s gs (headed come (Form.Primitive tag start len) l)
     unfolding headed primitiveBegins
     member-follows tag start len e all fits o =
-        pick-cases (Follows s) (eqb tag 0x1E) (λ q. absurd (no-wave tag start len e (eqb-true tag 0x1E q))) (λ q. value-follows tag start len e all fits o)
+        pick-cases (Follows s gs) (eqb tag 0x1E) (λ q. absurd (no-wave tag start len e (eqb-true tag 0x1E q))) (λ q. value-follows tag start len e all fits o)
 
   -- What the octets of the head say, where they have come to.
-  pub headed-follows : (z : Within) → w ≡ z → (f : Form) → formOf (isInside w) come ≡ f → FormExact (length come) Form.More f → Follows s (headed come (seenIn z n f) l)
+  pub headed-follows : (z : Within) → w ≡ z → (f : Form) → formOf (isInside w) come ≡ f → FormExact (length come) Form.More f → Follows s gs (headed come (seenIn z n f) l)
   unfolding seenIn confined
   headed-follows Within.Root ew f e k = root-follows ew f e k
   headed-follows (Within.Definite channel end) ew Form.More e k =
-      pick-cases (λ (g : Form). Follows s (headed come g l)) (eqb (end - n) 0)
+      pick-cases (λ (g : Form). Follows s gs (headed come g l)) (eqb (end - n) 0)
       (λ q.
       let z = eqb-true (end - n) 0 q in
       let none : end - length s ≡ 0 = omega (arith, p .counts) in
@@ -143,7 +146,7 @@ module _ (s : List ℕ) (n : ℕ) (x : Stand) (around : ℕ) (v : Waveform) (ph 
   headed-follows (Within.Definite channel end) ew (Form.Primitive tag start len) e k =
       let all : at + start ≡ length s = omega (arith, length-drop at s) in
       let i : length s ≤ end = rw ew at (p .inside) in
-      pick-cases (λ (g : Form). Follows s (headed come g l)) (ltb (end - n) len)
+      pick-cases (λ (g : Form). Follows s gs (headed come g l)) (ltb (end - n) len)
       (λ q.
       let more = ltb-true (end - n) len q in
       bad-follows pastEnd (λ t h. next-past s t _ here (p .inside) h tag start len e (rw ew (omega arith)) (rw ew (omega (arith, p .counts)))))
@@ -161,75 +164,46 @@ module _ (s : List ℕ) (n : ℕ) (x : Stand) (around : ℕ) (v : Waveform) (ph 
 
 -- What is claimed of s with more behind it is claimed of s with one octet more.
 module _ (s : List ℕ) (b : ℕ) where
-  abbrev pub grown : List ℕ
-  grown = s ++ (b ∷ [])
-
-  grown-long : length grown ≡ suc (length s)
-  grown-long = rw length-append (omega arith)
-
-  grown-is : (t : List ℕ) → grown ++ t ≡ s ++ (b ∷ t)
-  grown-is t = append-assoc s (b ∷ []) t
-
-  module _ (P : List ℕ → Type 0) (t : List ℕ) where
-    to-grown : P (s ++ (b ∷ t)) → P (grown ++ t)
-    to-grown h = subst P (sym (grown-is t)) h
-
-    of-grown : P (grown ++ t) → P (s ++ (b ∷ t))
-    of-grown h = subst P (grown-is t) h
-
-  drop-grown : (k : ℕ) → k ≤ length s → drop k grown ≡ drop k s ++ (b ∷ [])
-  drop-grown k h = drop-append-le k s (b ∷ []) h
-
-  resumes-on : (n : ℕ) (x : Stand) (around : ℕ) → Resumes s n x around → Inside (withinOf x) (suc (length s)) → Resumes grown (n + 1) x around
-  resumes-on n x around p i =
+  resumes-on : (n : ℕ) (x : Stand) (around : ℕ) (gs : List Given) → Resumes s n x around gs → Inside (withinOf x) (suc (length s)) → Resumes (grown s b) (n + 1) x around gs
+  resumes-on n x around gs p i =
       record {
         met = p .met;
-        counts = omega (arith, p .counts, grown-long);
+        out = p .out;
+        counts = omega (arith, p .counts, grown-long s b);
         many = p .many;
-        before = omega (arith, p .before, grown-long);
-        inside = subst (Inside (withinOf x)) (sym grown-long) i;
-        stands = λ t h. to-grown (λ (u : List ℕ). Stands u (p .met) x) t (p .stands (b ∷ t) (of-grown (λ (u : List ℕ). Whole (withinOf x) (length u)) t h));
-        cut = λ t h. to-grown (λ (u : List ℕ). unlimited u ≡ refused (refusal pastEnd around)) t (p .cut (b ∷ t) (of-grown (λ (u : List ℕ). Cut (withinOf x) (length u)) t h));
+        before = omega (arith, p .before, grown-long s b);
+        inside = subst (Inside (withinOf x)) (sym (grown-long s b)) i;
+        stands = λ t h. to-grown s b (λ (u : List ℕ). Stands u (p .met) x) t (p .stands (b ∷ t) (of-grown s b (λ (u : List ℕ). Whole (withinOf x) (length u)) t h));
+        cut = λ t h. to-grown s b (λ (u : List ℕ). unlimited u ≡ refused (refusal pastEnd around)) t (p .cut (b ∷ t) (of-grown s b (λ (u : List ℕ). Cut (withinOf x) (length u)) t h));
       }
 
-  sure-on : (n around left : ℕ) (r : Refusal) → 0 < left → Sure s n around left r → Sure grown (n + 1) around (left - 1) r
+  sure-on : (n around left : ℕ) (r : Refusal) → 0 < left → Sure s n around left r → Sure (grown s b) (n + 1) around (left - 1) r
   sure-on n around left r some p =
       record {
-        counts = omega (arith, p .counts, grown-long);
-        cuts = λ t h. to-grown (λ (u : List ℕ). unlimited u ≡ refused (refusal pastEnd around)) t (p .cuts (b ∷ t) (of-grown (λ (u : List ℕ). length u < length s + left) t (omega (arith, grown-long))));
-        sure = λ h t k. to-grown (λ (u : List ℕ). unlimited u ≡ refused r) t (p .sure (omega (arith, grown-long)) (b ∷ t) (of-grown (λ (u : List ℕ). length s + left ≤ length u) t (omega (arith, grown-long))));
+        counts = omega (arith, p .counts, grown-long s b);
+        cuts = λ t h. to-grown s b (λ (u : List ℕ). unlimited u ≡ refused (refusal pastEnd around)) t
+            (p .cuts (b ∷ t) (of-grown s b (λ (u : List ℕ). length u < length s + left) t (omega (arith, grown-long s b))));
+        sure = λ h t k. to-grown s b (λ (u : List ℕ). unlimited u ≡ refused r) t
+            (p .sure (omega (arith, grown-long s b)) (b ∷ t) (of-grown s b (λ (u : List ℕ). length s + left ≤ length u) t (omega (arith, grown-long s b))));
       }
 
-  wave-on : (n : ℕ) (y : Stand) (around : ℕ) (v : Waveform) (left : ℕ) → 0 < left → InWave s n y around v left → InWave grown (n + 1) y around v (left - 1)
-  wave-on n y around v left some p =
-      record {
-        met = p .met;
-        counts = omega (arith, p .counts, grown-long);
-        many = p .many;
-        begun = omega (arith, p .begun, grown-long);
-        ends = omega (arith, p .ends, grown-long);
-        near = omega (arith, p .near, grown-long);
-        stands = λ t h. to-grown (λ (u : List ℕ). Stands u (p .met ++ (frameBy u v y ∷ [])) y × Counts v (frameBy u v y)) t
-            (p .stands (b ∷ t) (of-grown (λ (u : List ℕ). length s + left ≤ length u) t (omega (arith, grown-long))));
-        cuts = λ t h. to-grown (λ (u : List ℕ). unlimited u ≡ refused (refusal pastEnd around)) t (p .cuts (b ∷ t) (of-grown (λ (u : List ℕ). length u < length s + left) t (omega (arith, grown-long))));
-        behind = let e : length s + left ≡ length grown + (left - 1) = omega (arith, grown-long) in p .behind ∙ ap (λ (k : ℕ). cursor k Root) e;
-      }
-
-  settled-on : (a : Answer ℕ) → Settled s a → Settled grown a
+  settled-on : (a : Answer ℕ) → Settled s a → Settled (grown s b) a
   settled-on (answered n) p = p
-  settled-on (refusedAs number place) p = λ t. to-grown (λ (u : List ℕ). unlimited u ≡ refused (refusal number place)) t (p (b ∷ t))
+  settled-on (refusedAs number place) p = λ t. to-grown s b (λ (u : List ℕ). unlimited u ≡ refused (refusal number place)) t (p (b ∷ t))
 
-  begun-on : (x : Stand) (tag left : ℕ) → 0 < left → Begun s x tag left → Begun grown x tag (left - 1)
+  begun-on : (x : Stand) (tag left : ℕ) → 0 < left → Begun s x tag left → Begun (grown s b) x tag (left - 1)
   begun-on x tag left some i =
+      let inside = isInside (withinOf x) in
+      let come = drop (x .cursor .at) s in
       record {
         start = i .start;
         len = i .len;
-        here = omega (arith, i .here, grown-long);
-        form = ap (formOf (isInside (withinOf x))) (drop-grown (x .cursor .at) (omega (arith, i .here)))
-            ∙ subst (λ (f : Form). FormKept f (formOf (isInside (withinOf x)) (drop (x .cursor .at) s ++ (b ∷ [])))) (i .form) (form-keeps (isInside (withinOf x)) (drop (x .cursor .at) s) (b ∷ []));
-        begun = omega (arith, i .begun, grown-long);
-        ends = omega (arith, i .ends, grown-long);
-        fits = let e : length s + left ≡ length grown + (left - 1) = omega (arith, grown-long) in subst (Inside (withinOf x)) e (i .fits);
+        here = omega (arith, i .here, grown-long s b);
+        form = ap (formOf inside) (drop-grown s b (x .cursor .at) (omega (arith, i .here)))
+            ∙ subst (λ (f : Form). FormKept f (formOf inside (come ++ (b ∷ [])))) (i .form) (form-keeps inside come (b ∷ []));
+        begun = omega (arith, i .begun, grown-long s b);
+        ends = omega (arith, i .ends, grown-long s b);
+        fits = let e : length s + left ≡ length (grown s b) + (left - 1) = omega (arith, grown-long s b) in subst (Inside (withinOf x)) e (i .fits);
       }
 
 -- The first octets of a value stay the first.
@@ -238,58 +212,63 @@ kept-on zero u t = refl
 kept-on (suc k) [] t = refl
 kept-on (suc k) (a ∷ u) t = ap (λ (r : List ℕ). a ∷ r) (kept-on k u t)
 
-inside-some : (w : Within) (m n : ℕ) → m ≤ n → Inside w n → Inside w m
-inside-some Within.Root m n h i = tt
-inside-some (Within.Definite channel end) m n h i = omega arith
-inside-some (Within.Open channel place) m n h i = tt
-
 module _ (s : List ℕ) (b : ℕ) (limit : length s < octetsLimit) where
   within : length (grown s b) ≤ octetsLimit
   within = omega (arith, grown-long s b)
 
   -- An octet of a head.
-  head-step : (n : ℕ) (x : Stand) (around : ℕ) (v : Waveform) (ph : Phase) (p : List ℕ) → InHead s n x around p → Follows (grown s b) (takenIn b (head p) (link (n + 1) x around v ph))
+  head-step : (n : ℕ) (x : Stand) (around : ℕ) (v : Waveform) (ph : Phase) (gs : List Given) (p : List ℕ) → InHead s n x around gs p → Follows (grown s b) gs (takenIn b (head p) (link (n + 1) x around v ph))
   unfolding takenIn
-  head-step n x around v ph p q =
+  head-step n x around v ph gs p q =
       let at = x .cursor .at in
+      let inside = isInside (withinOf x) in
       let e : drop at (grown s b) ≡ p ++ (b ∷ []) = drop-grown s b at (q .resumes .before) ∙ ap (λ (u : List ℕ). u ++ (b ∷ [])) (q .octets) in
-      let exact : FormExact (length (drop at (grown s b))) Form.More (formOf (isInside (withinOf x)) (drop at (grown s b))) =
-      subst (λ (u : List ℕ). FormExact (length u) Form.More (formOf (isInside (withinOf x)) u)) (sym e)
-      (subst (λ (k : ℕ). FormExact k Form.More (formOf (isInside (withinOf x)) (p ++ (b ∷ [])))) (sym (length-append p (b ∷ [])))
-      (subst (λ (f : Form). FormExact (length p + 1) f (formOf (isInside (withinOf x)) (p ++ (b ∷ [])))) (q .wants) (form-exact (isInside (withinOf x)) p b))) in
-      subst (λ (u : List ℕ). Follows (grown s b) (headed u (seenIn (withinOf x) (n + 1) (formOf (isInside (withinOf x)) u)) (link (n + 1) x around noWaveform ph))) e
-      (headed-follows (grown s b) (n + 1) x around noWaveform ph within (resumes-on s b n x around (q .resumes) (q .goes)) (omega (arith, q .resumes .before, grown-long s b))
-      (withinOf x) refl (formOf (isInside (withinOf x)) (drop at (grown s b))) refl exact)
+      let exact : FormExact (length (drop at (grown s b))) Form.More (formOf inside (drop at (grown s b))) =
+      subst (λ (u : List ℕ). FormExact (length u) Form.More (formOf inside u)) (sym e)
+      (subst (λ (k : ℕ). FormExact k Form.More (formOf inside (p ++ (b ∷ [])))) (sym (length-append p (b ∷ [])))
+      (subst (λ (f : Form). FormExact (length p + 1) f (formOf inside (p ++ (b ∷ [])))) (q .wants) (form-exact inside p b))) in
+      subst (λ (u : List ℕ). Follows (grown s b) gs (headed u (seenIn (withinOf x) (n + 1) (formOf inside u)) (link (n + 1) x around noWaveform ph))) e
+      (headed-follows (grown s b) (n + 1) x around noWaveform ph gs within (resumes-on s b n x around gs (q .resumes) (q .goes)) (omega (arith, q .resumes .before, grown-long s b))
+      (withinOf x) refl (formOf inside (drop at (grown s b))) refl exact)
 
   -- An octet of a value.
-  value-step : (n : ℕ) (x : Stand) (around : ℕ) (v : Waveform) (ph : Phase) (tag left : ℕ) (kept : List ℕ) → InValue s n x around tag left kept → Follows (grown s b) (takenIn b (value tag left kept) (link (n + 1) x around v ph))
+  value-step : (n : ℕ) (x : Stand) (around : ℕ) (v : Waveform) (ph : Phase) (gs : List Given) (tag left : ℕ) (kept : List ℕ) → InValue s n x around gs tag left kept
+      → Follows (grown s b) gs (takenIn b (value tag left kept) (link (n + 1) x around v ph))
   unfolding takenIn valued begun-on
-  value-step n x around v ph tag left kept q =
-      let at = x .cursor .at in
+  value-step n x around v ph gs tag left kept q =
+      let from = x .cursor .at + q .item .start in
       let i = begun-on s b x tag left (q .some) (q .item) in
-      let p = resumes-on s b n x around (q .resumes) (inside-some (withinOf x) (suc (length s)) (length s + left) (omega (arith, q .some)) (q .item .fits)) in
-      let keeps : take keptLimit (kept ++ (b ∷ [])) ≡ take keptLimit (drop (at + q .item .start) (grown s b)) =
-      ap (λ (u : List ℕ). take keptLimit (u ++ (b ∷ []))) (q .keeps) ∙ kept-on keptLimit (drop (at + q .item .start) s) (b ∷ []) ∙ ap (take keptLimit) (sym (drop-grown s b (at + q .item .start) (q .item .begun))) in
-      pick-cases (Follows (grown s b)) (eqb (left - 1) 0)
+      let p = resumes-on s b n x around gs (q .resumes) (inside-less (withinOf x) (suc (length s)) (length s + left) (omega (arith, q .some)) (q .item .fits)) in
+      let keeps : take keptLimit (kept ++ (b ∷ [])) ≡ take keptLimit (drop from (grown s b)) =
+      ap (λ (u : List ℕ). take keptLimit (u ++ (b ∷ []))) (q .keeps) ∙ kept-on keptLimit (drop from s) (b ∷ []) ∙ ap (take keptLimit) (sym (drop-grown s b from (q .item .begun))) in
+      pick-cases (Follows (grown s b) gs) (eqb (left - 1) 0)
       (λ e.
       let z = eqb-true (left - 1) 0 e in
-      subst (λ (u : List ℕ). Follows (grown s b) (doneItem tag u (link (n + 1) x around v ph))) (sym keeps)
-      (done-follows (grown s b) (n + 1) x around v ph within p tag (subst (Begun (grown s b) x tag) z i) (q .plain)))
+      subst (λ (u : List ℕ). Follows (grown s b) gs (doneItem tag u (link (n + 1) x around v ph))) (sym keeps)
+      (done-follows (grown s b) (n + 1) x around v ph gs within p tag (subst (Begun (grown s b) x tag) z i) (q .plain)))
       (λ e. let z = eqb-false (left - 1) 0 e in record { resumes = p; item = i; some = omega arith; plain = q .plain; keeps = keeps })
 
-  taken-follows : (n : ℕ) (x : Stand) (around : ℕ) (v : Waveform) (q : Phase) → FollowsIn s n x around v q → Follows (grown s b) (takenIn b q (link (n + 1) x around v q))
-  unfolding takenIn
-  taken-follows n x around v (head p) q = head-step n x around v (head p) p q
-  taken-follows n x around v (value tag left kept) q = value-step n x around v (value tag left kept) tag left kept q
-  taken-follows n x around v (waveform left t) q = waved-follows (grown s b) (n + 1) x around v (left - 1) _ (wave-on s b n x around v left (q .1) (q .0))
-  taken-follows n x around v (waits left r) q = waiting-follows (grown s b) (link (n + 1) x around v (waits left r)) (left - 1) r within (sure-on s b n around left r (q .1) (q .0))
-  taken-follows n x around v (decided a) q = settled-on s b a q
+  -- Where an octet gives nothing out.
+  quiet : (gs : List Given) (l : Link) → Follows (grown s b) gs l → Follows (grown s b) (gs ++ []) l
+  quiet gs l p = rw (append-nil gs) p
+
+  taken-follows : (n : ℕ) (x : Stand) (around : ℕ) (v : Waveform) (gs : List Given) (q : Phase) → FollowsIn s n x around v gs q
+      → Follows (grown s b) (gs ++ givesIn b q (link (n + 1) x around v q)) (takenIn b q (link (n + 1) x around v q))
+  unfolding takenIn givesIn
+  taken-follows n x around v gs (head p) q = quiet gs (takenIn b (head p) (link (n + 1) x around v (head p))) (head-step n x around v (head p) gs p q)
+  taken-follows n x around v gs (value tag left kept) q = quiet gs (takenIn b (value tag left kept) (link (n + 1) x around v (value tag left kept))) (value-step n x around v (value tag left kept) gs tag left kept q)
+  taken-follows n x around v gs (waveform left t) q =
+      waved-follows (grown s b) (n + 1) x around v _ (left - 1) _ (wave-on s b n x around v (waveform left t) gs left t (q .1) (q .0))
+  taken-follows n x around v gs (waits left r) q =
+      quiet gs (waiting (left - 1) r (link (n + 1) x around v (waits left r)))
+      (waiting-follows (grown s b) gs (link (n + 1) x around v (waits left r)) (left - 1) r within (sure-on s b n around left r (q .1) (q .0)))
+  taken-follows n x around v gs (decided a) q = settled-on s b a q
 
 -- Without an answer as many octets have come as are counted.
-follows-counts : (s : List ℕ) (l : Link) → isDecided (l .phase) ≡ false → Follows s l → l .count ≡ length s
-follows-counts s l e p = by (l .phase) e p
+follows-counts : (s : List ℕ) (gs : List Given) (l : Link) → isDecided (l .phase) ≡ false → Follows s gs l → l .count ≡ length s
+follows-counts s gs l e p = by (l .phase) e p
   where
-    by : (q : Phase) → isDecided q ≡ false → FollowsIn s (l .count) (l .stand) (l .around) (l .frame) q → l .count ≡ length s
+    by : (q : Phase) → isDecided q ≡ false → FollowsIn s (l .count) (l .stand) (l .around) (l .frame) gs q → l .count ≡ length s
     by (head p) e f = f .resumes .counts
     by (value tag left kept) e f = f .resumes .counts
     by (waveform left t) e f = f .0 .counts
@@ -297,16 +276,21 @@ follows-counts s l e p = by (l .phase) e p
     by (decided a) e f = absurd (true-false e)
 
 -- One octet more, within the limit.
-pub stepped-follows : (s : List ℕ) (b : ℕ) (l : Link) → length s < octetsLimit → Follows s l → Follows (grown s b) (stepped l b)
+pub stepped-follows : (s : List ℕ) (b : ℕ) (gs : List Given) (l : Link) → length s < octetsLimit → Follows s gs l → Follows (grown s b) (gs ++ gives l b) (stepped l b)
 unfolding stepped
-stepped-follows s b l limit p =
-    pick-cases (Follows (grown s b)) (isDecided (l .phase))
+stepped-follows s b gs l limit p =
+    pick-cases (Follows (grown s b) (gs ++ gives l b)) (isDecided (l .phase))
     (λ e. decided-on (l .phase) e p)
-    (λ e. pick-cases (Follows (grown s b)) (leb octetsLimit (l .count))
-    (λ h. let k : l .count < octetsLimit = omega (arith, follows-counts s l e p) in absurd (true-false (sym h ∙ lt-leb octetsLimit (l .count) k)))
-    (λ _. taken-follows s b limit (l .count) (l .stand) (l .around) (l .frame) (l .phase) p))
+    (λ e.
+    let k : l .count < octetsLimit = omega (arith, follows-counts s gs l e p) in
+    pick-cases (Follows (grown s b) (gs ++ gives l b)) (leb octetsLimit (l .count))
+    (λ h. absurd (true-false (sym h ∙ lt-leb octetsLimit (l .count) k)))
+    (λ _. subst (λ (g : List Given). Follows (grown s b) (gs ++ g) (takenIn b (l .phase) (counted l))) (sym (gives-here k)) (taken-follows s b limit (l .count) (l .stand) (l .around) (l .frame) gs (l .phase) p)))
   where
-    decided-on : (q : Phase) → isDecided q ≡ true → FollowsIn s (l .count) (l .stand) (l .around) (l .frame) q → FollowsIn (grown s b) (l .count) (l .stand) (l .around) (l .frame) q
+    gives-here : l .count < octetsLimit → gives l b ≡ givesIn b (l .phase) (counted l)
+    gives-here k = unfold gives in simp (lt-leb octetsLimit (l .count) k)
+
+    decided-on : (q : Phase) → isDecided q ≡ true → FollowsIn s (l .count) (l .stand) (l .around) (l .frame) gs q → FollowsIn (grown s b) (l .count) (l .stand) (l .around) (l .frame) (gs ++ gives l b) q
     decided-on (head p) e f = absurd (true-false (sym e))
     decided-on (value tag left kept) e f = absurd (true-false (sym e))
     decided-on (waveform left t) e f = absurd (true-false (sym e))
@@ -315,18 +299,20 @@ stepped-follows s b l limit p =
 
 -- ---- all octets
 
-first-follows : Follows [] firstLink
-first-follows = next-follows [] 0 firstStand 0 noWaveform (cursor 0 Root) [] refl refl refl refl (λ t _. stands-first t) (λ t h. absurd h)
+first-follows : Follows [] [] firstLink
+unfolding framesGiven
+first-follows = next-follows [] 0 firstStand 0 noWaveform [] (cursor 0 Root) [] refl refl refl refl refl (λ t _. stands-first t) (λ t h. absurd h)
 
-fed-from : (s u : List ℕ) (l : Link) → length (s ++ u) ≤ octetsLimit → Follows s l → Follows (s ++ u) (fedWith l u)
-unfolding fedWith
-fed-from s [] l h p = rw (append-nil s) p
-fed-from s (b ∷ u) l h p =
-    subst (λ (z : List ℕ). Follows z (fedWith (stepped l b) u)) (append-assoc s (b ∷ []) u)
-    (fed-from (grown s b) u (stepped l b) (rw (append-assoc s (b ∷ []) u) h) (stepped-follows s b l (omega (arith, length-append s (b ∷ u))) p))
+fed-from : (s u : List ℕ) (gs : List Given) (l : Link) → length (s ++ u) ≤ octetsLimit → Follows s gs l → Follows (s ++ u) (gs ++ givenBy l u) (fedWith l u)
+unfolding fedWith givenBy
+fed-from s [] gs l h p = rw (append-nil s, append-nil gs) p
+fed-from s (b ∷ u) gs l h p =
+    subst (λ (z : List ℕ). Follows z (gs ++ (gives l b ++ givenBy (stepped l b) u)) (fedWith (stepped l b) u)) (append-assoc s (b ∷ []) u)
+    (subst (λ (g : List Given). Follows (grown s b ++ u) g (fedWith (stepped l b) u)) (append-assoc gs (gives l b) (givenBy (stepped l b) u))
+    (fed-from (grown s b) u (gs ++ gives l b) (stepped l b) (rw (append-assoc s (b ∷ []) u) h) (stepped-follows s b gs l (omega (arith, length-append s (b ∷ u))) p)))
 
-pub fed-follows : (s : List ℕ) → length s ≤ octetsLimit → Follows s (fedWith firstLink s)
-fed-follows s h = fed-from [] s firstLink h first-follows
+pub fed-follows : (s : List ℕ) → length s ≤ octetsLimit → Follows s (givenBy firstLink s) (fedWith firstLink s)
+fed-follows s h = fed-from [] s [] firstLink h first-follows
 
 -- ---- the end
 
@@ -346,11 +332,11 @@ alone : (P : List ℕ → Type 0) (s : List ℕ) → P (s ++ []) → P s
 alone P s h = subst P (append-nil s) h
 
 -- The end between two items.
-ended-follows : (s : List ℕ) (n : ℕ) (x : Stand) (around : ℕ) → InHead s n x around [] → checkedAs (unlimited s) ≡ endedIn (withinOf x) around (x .frames)
+ended-follows : (s : List ℕ) (n : ℕ) (x : Stand) (around : ℕ) (gs : List Given) → InHead s n x around gs [] → checkedAs (unlimited s) ≡ endedIn (withinOf x) around (x .frames)
 unfolding endedIn checkedAs
-ended-follows s n x around q = by (withinOf x) refl
+ended-follows s n x around gs q = by (withinOf x) refl
   where
-    p : Resumes s n x around
+    p : Resumes s n x around gs
     p = q .resumes
 
     past : length s ≤ x .cursor .at
@@ -369,11 +355,11 @@ ended-follows s n x around q = by (withinOf x) refl
         ap checkedAs (fault-is (alone (λ (u : List ℕ). Stands u (p .met) x) s (p .stands [] (rw e tt))) (sym (next (Within.Open channel place) e)))
 
 -- The end inside an item whose octets are not all there: 3 at its place, and in a definite group at the group's.
-cut-follows : (s : List ℕ) (n : ℕ) (x : Stand) (around : ℕ) (p : Resumes s n x around) → Inside (withinOf x) (suc (length s))
+cut-follows : (s : List ℕ) (n : ℕ) (x : Stand) (around : ℕ) (gs : List Given) (p : Resumes s n x around gs) → Inside (withinOf x) (suc (length s))
     → (Whole (withinOf x) (length (s ++ [])) → nextOf (s ++ []) (x .cursor) ≡ Next.Refused (refusal pastEnd (x .cursor .at)))
     → checkedAs (unlimited s) ≡ refusedAs pastEnd (cutAt (withinOf x) (x .cursor .at) around)
 unfolding checkedAs
-cut-follows s n x around p goes f = ap checkedAs (alone (λ (u : List ℕ). unlimited u ≡ refused (refusal pastEnd (cutAt (withinOf x) (x .cursor .at) around))) s (by (withinOf x) (p .stands []) (p .cut []) goes f))
+cut-follows s n x around gs p goes f = ap checkedAs (alone (λ (u : List ℕ). unlimited u ≡ refused (refusal pastEnd (cutAt (withinOf x) (x .cursor .at) around))) s (by (withinOf x) (p .stands []) (p .cut []) goes f))
   where
     by : (w : Within) → (Whole w (length (s ++ [])) → Stands (s ++ []) (p .met) x) → (Cut w (length (s ++ [])) → unlimited (s ++ []) ≡ refused (refusal pastEnd around)) → Inside w (suc (length s))
         → (Whole w (length (s ++ [])) → nextOf (s ++ []) (x .cursor) ≡ Next.Refused (refusal pastEnd (x .cursor .at))) → unlimited (s ++ []) ≡ refused (refusal pastEnd (cutAt w (x .cursor .at) around))
@@ -398,24 +384,24 @@ room-begun Within.Root m k h i = h
 room-begun (Within.Definite channel end) m k h i = i
 room-begun (Within.Open channel place) m k h i = h
 
-pub end-follows : (s : List ℕ) (l : Link) → Follows s l → checkedAs (unlimited s) ≡ endOf l
+pub end-follows : (s : List ℕ) (gs : List Given) (l : Link) → Follows s gs l → checkedAs (unlimited s) ≡ endOf l
 unfolding endIn checkedAs
-end-follows s l p = by (l .phase) p
+end-follows s gs l p = by (l .phase) p
   where
     x : Stand
     x = l .stand
 
-    by : (q : Phase) → FollowsIn s (l .count) x (l .around) (l .frame) q → checkedAs (unlimited s) ≡ endIn q l
-    by (head []) f = ended-follows s (l .count) x (l .around) f
+    by : (q : Phase) → FollowsIn s (l .count) x (l .around) (l .frame) gs q → checkedAs (unlimited s) ≡ endIn q l
+    by (head []) f = ended-follows s (l .count) x (l .around) gs f
     by (head (b ∷ p)) f =
         let r = f .resumes in
         let here : x .cursor .at < length s = omega (arith, ap length (f .octets), length-drop (x .cursor .at) s) in
-        cut-follows s (l .count) x (l .around) r (f .goes)
+        cut-follows s (l .count) x (l .around) gs r (f .goes)
         (λ h. next-wanting s [] (x .cursor) here (r .inside) h (tail-none s (withinOf x)) (ap (formOf (isInside (withinOf x))) (f .octets) ∙ f .wants))
     by (value tag left kept) f =
         let r = f .resumes in
         let i = f .item in
-        cut-follows s (l .count) x (l .around) r (inside-some (withinOf x) (suc (length s)) (length s + left) (omega (arith, f .some)) (i .fits))
+        cut-follows s (l .count) x (l .around) gs r (inside-less (withinOf x) (suc (length s)) (length s + left) (omega (arith, f .some)) (i .fits))
         (λ h.
         let short : length (s ++ []) < length s + left = rw (append-nil s) (omega (arith, f .some)) in
         let k = room-short (withinOf x) (length (s ++ [])) (length s + left) short (i .fits) h in

@@ -28,7 +28,8 @@ use Rattle.items.specs.declared.Item.{Item}
 use Rattle.items.specs.declared.Next.{Next}
 use Rattle.items.specs.declared.Next.the-variants.{Found}
 use Rattle.items.specs.Walk.{refusal, cursor, standsIn, isInside, nextOf}
-use Rattle.settings.specs.Settings.{applied}
+use Rattle.settings.specs.declared.Settings.{Settings}
+use Rattle.dated.specs.Dated.{held}
 use Rattle.layout.specs.Frame.{Frame}
 use Rattle.standing.specs.declared.Standing.{Standing}
 use Rattle.standing.specs.Standing.{octetsLimit}
@@ -41,9 +42,12 @@ use Rattle.walk.specs.declared.Step.{Step}
 use Rattle.walk.specs.Advance.{Stand, Stop, stop, Turn, on, stops, framedTurn, effectTurn, nextTurn, turnOf}
 use Rattle.walk.specs.Joined.{frameBy}
 use Rattle.walk.proofs.Joins.{Stands, Counts, TurnStands, Near, turn-stands}
-use Rattle.link.specs.Link.{Coming, Phase, head, value, waveform, waits, decided, Link, link, refusedIn, cutAt, waiting, lastsIn, condemned, keptLimit}
+use Rattle.link.specs.Link.{Coming, Given, Phase, head, value, waveform, waits, decided, Link, link, refusedIn, cutAt, waiting, lastsIn, condemned, keptLimit}
+use Rattle.link.specs.Order.{sampleGiven, samplesGiven, framesGiven}
 use Rattle.link.proofs.Seen.{endsIn, Whole, Inside, longer}
 use Rattle.link.proofs.Item.{Plainly}
+use Rattle.link.proofs.Rest.{rest}
+use Rattle.link.proofs.Arrives.{Good, ArrivesAt}
 
 -- ---- where the walk stands
 
@@ -56,9 +60,10 @@ Cut Within.Root n = ⊥
 Cut (Within.Definite channel end) n = n < end
 Cut (Within.Open channel place) n = ⊥
 
--- After n octets the item at hand begins at the stand x; where the file ends in the definite group around it, that is 3 at `around`.
-pub record Resumes (s : List ℕ) (n : ℕ) (x : Stand) (around : ℕ) : Type 0 where
+-- After n octets the item at hand begins at the stand x, and gs was given out; where the file ends in the definite group around the item, that is 3 at `around`.
+pub record Resumes (s : List ℕ) (n : ℕ) (x : Stand) (around : ℕ) (gs : List Given) : Type 0 where
   pub met : List Frame
+  pub out : gs ≡ framesGiven met
   pub counts : n ≡ length s
   pub many : x .frames ≡ length met
   pub before : x .cursor .at ≤ length s
@@ -126,8 +131,8 @@ module _ (x : Stand) (c : Cursor) (place : ℕ) where
 -- ---- phase by phase
 
 -- In a head that wants more octets. In a definite group there are more to come.
-pub record InHead (s : List ℕ) (n : ℕ) (x : Stand) (around : ℕ) (p : List ℕ) : Type 0 where
-  pub resumes : Resumes s n x around
+pub record InHead (s : List ℕ) (n : ℕ) (x : Stand) (around : ℕ) (gs : List Given) (p : List ℕ) : Type 0 where
+  pub resumes : Resumes s n x around gs
   pub octets : drop (x .cursor .at) s ≡ p
   pub wants : formOf (isInside (withinOf x)) p ≡ Form.More
   pub goes : Inside (withinOf x) (suc (length s))
@@ -142,24 +147,35 @@ pub record Begun (s : List ℕ) (x : Stand) (tag left : ℕ) : Type 0 where
   pub ends : x .cursor .at + start + len ≡ length s + left
   pub fits : Inside (withinOf x) (length s + left)
 
-pub record InValue (s : List ℕ) (n : ℕ) (x : Stand) (around tag left : ℕ) (kept : List ℕ) : Type 0 where
-  pub resumes : Resumes s n x around
+pub record InValue (s : List ℕ) (n : ℕ) (x : Stand) (around : ℕ) (gs : List Given) (tag left : ℕ) (kept : List ℕ) : Type 0 where
+  pub resumes : Resumes s n x around gs
   pub item : Begun s x tag left
   pub some : 0 < left
   pub plain : Plainly (withinOf x) tag
   pub keeps : kept ≡ take keptLimit (drop (x .cursor .at + item .start) s)
 
--- In the waveform of a frame, behind which the walk will be at y.
-pub record InWave (s : List ℕ) (n : ℕ) (y : Stand) (around : ℕ) (v : Waveform) (left : ℕ) : Type 0 where
+-- The channels of the frame whose settings were given out.
+abbrev pub channelsBy : Waveform → Stand → List Settings
+channelsBy v y = take (v .channels) (held (y .records))
+
+-- In the waveform of a frame, behind which the walk will be at y. `here` was given out of its samples, of which t is the next to come.
+pub record InWave (s : List ℕ) (n : ℕ) (y : Stand) (around : ℕ) (v : Waveform) (gs : List Given) (left : ℕ) (t : Coming) : Type 0 where
   pub met : List Frame
+  pub here : List Given
+  pub out : gs ≡ framesGiven met ++ here
   pub counts : n ≡ length s
   pub many : y .frames ≡ length met + 1
   pub begun : v .place ≤ length s
   pub ends : v .place + v .len ≡ length s + left
   pub near : length s + left ≤ octetsLimit
-  pub stands : (t : List ℕ) → length s + left ≤ length (s ++ t) → Stands (s ++ t) (met ++ (frameBy (s ++ t) v y ∷ [])) y × Counts v (frameBy (s ++ t) v y)
-  pub cuts : (t : List ℕ) → length (s ++ t) < length s + left → unlimited (s ++ t) ≡ refused (refusal pastEnd around)
+  pub stands : (u : List ℕ) → length s + left ≤ length (s ++ u) → Stands (s ++ u) (met ++ (frameBy (s ++ u) v y ∷ [])) y × Counts v (frameBy (s ++ u) v y)
+  pub cuts : (u : List ℕ) → length (s ++ u) < length s + left → unlimited (s ++ u) ≡ refused (refusal pastEnd around)
   pub behind : y .cursor ≡ cursor (length s + left) Root
+  pub many-channels : v .channels ≡ length (channelsBy v y)
+  pub good : Good (channelsBy v y)
+  pub arrives : t .sequence < v .sequences → ArrivesAt s (channelsBy v y) (v .place) t
+  pub coming : (u : List ℕ) → length s + left ≤ length (s ++ u)
+      → samplesGiven (frameBy (s ++ u) v y) ≡ here ++ rest (sampleGiven (frameBy (s ++ u) v y)) (channelsBy v y) (v .sequences) t
 
 -- A refusal is sure once so many octets have come; where that passes the limit, 15 comes first.
 pub record Sure (s : List ℕ) (n around left : ℕ) (r : Refusal) : Type 0 where
@@ -172,30 +188,31 @@ abbrev pub Settled : List ℕ → Answer ℕ → Type 0
 Settled s (answered n) = ⊥
 Settled s (refusedAs number place) = (t : List ℕ) → unlimited (s ++ t) ≡ refused (refusal number place)
 
-abbrev pub FollowsIn : List ℕ → ℕ → Stand → ℕ → Waveform → Phase → Type 0
-FollowsIn s n x around v (head p) = InHead s n x around p
-FollowsIn s n x around v (value tag left kept) = InValue s n x around tag left kept
-FollowsIn s n x around v (waveform left t) = InWave s n x around v left × (0 < left)
-FollowsIn s n x around v (waits left r) = Sure s n around left r × (0 < left)
-FollowsIn s n x around v (decided a) = Settled s a
+abbrev pub FollowsIn : List ℕ → ℕ → Stand → ℕ → Waveform → List Given → Phase → Type 0
+FollowsIn s n x around v gs (head p) = InHead s n x around gs p
+FollowsIn s n x around v gs (value tag left kept) = InValue s n x around gs tag left kept
+FollowsIn s n x around v gs (waveform left t) = InWave s n x around v gs left t × (0 < left)
+FollowsIn s n x around v gs (waits left r) = Sure s n around left r × (0 < left)
+FollowsIn s n x around v gs (decided a) = Settled s a
 
-abbrev pub Follows : List ℕ → Link → Type 0
-Follows s l = FollowsIn s (l .count) (l .stand) (l .around) (l .frame) (l .phase)
+-- A link that was fed s, and has given out gs.
+abbrev pub Follows : List ℕ → List Given → Link → Type 0
+Follows s gs l = FollowsIn s (l .count) (l .stand) (l .around) (l .frame) gs (l .phase)
 
 -- ---- refusals
 
 -- A refusal that waits.
-pub waiting-follows : (s : List ℕ) (l : Link) (left : ℕ) (r : Refusal) → length s ≤ octetsLimit → Sure s (l .count) (l .around) left r → Follows s (waiting left r l)
+pub waiting-follows : (s : List ℕ) (gs : List Given) (l : Link) (left : ℕ) (r : Refusal) → length s ≤ octetsLimit → Sure s (l .count) (l .around) left r → Follows s gs (waiting left r l)
 unfolding waiting
-waiting-follows s l left r h p =
-    pick-cases (Follows s) (eqb left 0)
+waiting-follows s gs l left r h p =
+    pick-cases (Follows s gs) (eqb left 0)
     (λ e.
     let z = eqb-true left 0 e in
     λ t. p .sure (omega arith) t (omega (arith, longer s t)))
     (λ e. let z = eqb-false left 0 e in (p, omega arith))
 
 -- A refusal of an item of which `left` octets are still to come: what each file comes to that reaches to the end of what is around it, with the item and without.
-module _ (s : List ℕ) (n : ℕ) (x : Stand) (around : ℕ) (v : Waveform) (ph : Phase) (limit : length s ≤ octetsLimit) (p : Resumes s n x around) where
+module _ (s : List ℕ) (n : ℕ) (x : Stand) (around : ℕ) (v : Waveform) (ph : Phase) (gs : List Given) (limit : length s ≤ octetsLimit) (p : Resumes s n x around gs) where
   -- Where an end inside the item is 3.
   abbrev pub cutHere : ℕ
   cutHere = cutAt (withinOf x) (x .cursor .at) around
@@ -203,22 +220,22 @@ module _ (s : List ℕ) (n : ℕ) (x : Stand) (around : ℕ) (v : Waveform) (ph 
   pub condemned-follows : (left : ℕ) (r : Refusal) → Inside (withinOf x) (length s + left)
       → (length s + left ≤ octetsLimit → (t : List ℕ) → Whole (withinOf x) (length (s ++ t)) → length s + left ≤ length (s ++ t) → unlimited (s ++ t) ≡ refused r)
       → ((t : List ℕ) → Whole (withinOf x) (length (s ++ t)) → length (s ++ t) < length s + left → unlimited (s ++ t) ≡ refused (refusal pastEnd cutHere))
-      → Follows s (condemned left r (link n x cutHere v ph))
+      → Follows s gs (condemned left r (link n x cutHere v ph))
   unfolding condemned
   condemned-follows left r fits f g = by (withinOf x) (p .cut) fits f g
     where
       by : (w : Within) → ((t : List ℕ) → Cut w (length (s ++ t)) → unlimited (s ++ t) ≡ refused (refusal pastEnd around)) → Inside w (length s + left)
           → (length s + left ≤ octetsLimit → (t : List ℕ) → Whole w (length (s ++ t)) → length s + left ≤ length (s ++ t) → unlimited (s ++ t) ≡ refused r)
           → ((t : List ℕ) → Whole w (length (s ++ t)) → length (s ++ t) < length s + left → unlimited (s ++ t) ≡ refused (refusal pastEnd (cutAt w (x .cursor .at) around)))
-          → Follows s (waiting (lastsIn w n left) r (link n x (cutAt w (x .cursor .at) around) v ph))
+          → Follows s gs (waiting (lastsIn w n left) r (link n x (cutAt w (x .cursor .at) around) v ph))
       by Within.Root c i f g =
-          waiting-follows s (link n x (x .cursor .at) v ph) left r limit (record { counts = p .counts; cuts = λ t k. g t tt k; sure = λ h t k. f h t tt k })
+          waiting-follows s gs (link n x (x .cursor .at) v ph) left r limit (record { counts = p .counts; cuts = λ t k. g t tt k; sure = λ h t k. f h t tt k })
       by (Within.Definite channel end) c i f g =
-          waiting-follows s (link n x around v ph) (end - n) r limit
+          waiting-follows s gs (link n x around v ph) (end - n) r limit
           (record {
             counts = p .counts;
             cuts = λ t k. c t (omega (arith, p .counts));
             sure = λ h t k. f (omega (arith, p .counts)) t (omega (arith, p .counts)) (omega (arith, p .counts));
           })
       by (Within.Open channel place) c i f g =
-          waiting-follows s (link n x (x .cursor .at) v ph) left r limit (record { counts = p .counts; cuts = λ t k. g t tt k; sure = λ h t k. f h t tt k })
+          waiting-follows s gs (link n x (x .cursor .at) v ph) left r limit (record { counts = p .counts; cuts = λ t k. g t tt k; sure = λ h t k. f h t tt k })

@@ -1,7 +1,9 @@
 pub mod Seen
+pub mod Grown
 pub mod Item
-pub mod Follows
-pub mod Steps
-pub mod Fed
 pub mod Rest
 pub mod Arrives
+pub mod Follows
+pub mod Waves
+pub mod Steps
+pub mod Fed

@@ -8,13 +8,14 @@
 -- Assumes nothing.
 use Prim.Native.Nat.{ℕ, zero, suc, _+_, _-_, _≤_, _<_}
 use mathlib.Core.Path.{_≡_, refl, sym, _∙_, ap, subst}
-use mathlib.Core.List.{List, [], _∷_, _++_, append-nil}
+use mathlib.Core.List.{List, [], _∷_, _++_, append-nil, append-assoc}
 use mathlib.Core.Bool.{Bool, true, false}
 use native.Mathlib.Omega.{arith}
-use borrow.Author.Tests.{ltb-true, ltb-false}
+use native.Mathlib.Decide.{decLt}
+use borrow.Author.Tests.{ltb-true, ltb-false, lt-leb}
 use lib.Dec.{ltb, eqb}
-use lib.ListN.{length, take, drop, length-append, length-drop, drop-of-length-le}
-use lib.Seq.{drop-append-le, take-append-le}
+use lib.ListN.{length, take, drop, replicate, length-append, length-take, length-drop, length-replicate, drop-of-length-le}
+use lib.Seq.{getD-append-seam}
 use Rattle.octets.specs.Pick.{pick}
 use Rattle.octets.proofs.Pick.{pick-cases}
 use Rattle.heads.specs.declared.Refusal.{Refusal}
@@ -31,20 +32,27 @@ use Rattle.items.specs.declared.Next.{Next}
 use Rattle.items.specs.declared.Next.the-variants.{Found}
 use Rattle.items.specs.Walk.{refusal, cursor, standsIn, isInside, endsOpen, itemOf, nextOf}
 use Rattle.dated.specs.Dated.{held}
-use Rattle.layout.specs.Frame.{Frame}
+use Rattle.layout.specs.Frame.{Frame, widthIn, channelIn, offsetOf}
+use Rattle.there.specs.There.{isThere}
 use Rattle.standing.specs.Standing.{octetsLimit}
 use Rattle.effects.specs.declared.Effect.{Effect}
 use Rattle.effects.specs.Effects.{valueAt, effectOf}
 use Rattle.verdict.specs.Verdict.{placeAt, refused, unlimited}
+use Rattle.verdict.proofs.Every.{every-at}
+use Rattle.pass.specs.Scan.{zeroFrame}
+use Rattle.reader.proofs.Ordered.{Lies, reached-lies}
 use Rattle.walk.specs.declared.Waveform.{Waveform}
 use Rattle.walk.specs.declared.Step.{Step}
 use Rattle.walk.specs.Advance.{Stand, stop, Turn, on, stops, effectTurn, nextTurn, turnOf}
 use Rattle.walk.specs.Joined.{frameBy}
 use Rattle.walk.proofs.Joins.{Stands, TurnStands}
-use Rattle.link.specs.Link.{Coming, Phase, head, Link, link, cutAt, waiting, condemned, firstComing, waved, stoppedAt, turnedBy, keptLimit, itemAt, withinAfter, doneItem, groupBegins, effected}
+use Rattle.link.specs.Link.{Coming, Given, Phase, head, Link, link, cutAt, waiting, condemned, firstComing, waved, stoppedAt, turnedBy, keptLimit, itemAt, withinAfter, doneItem, groupBegins, effected}
+use Rattle.link.specs.Order.{sampleGiven, samplesGiven, framesGiven}
 use Rattle.link.proofs.Seen.{endsIn, Whole, Inside, longer, next-faulty, next-wanting, next-fits, next-past, next-definite, next-definite-past, next-open}
 use Rattle.link.proofs.Item.{Plainly, itemFound, found-item, found-place, value-is, keptOf, effect-same, after-same, effect-frame, effect-bare, group-bare}
-use Rattle.link.proofs.Follows.{withinOf, Cut, Resumes, fault-is, found-is, TurnsTo, turns-to, InHead, Begun, InWave, Sure, Follows, waiting-follows, cutHere, condemned-follows}
+use Rattle.link.proofs.Rest.{rest, rest-first, rest-past}
+use Rattle.link.proofs.Arrives.{Good, ArrivesAt, arrives-first, rest-none}
+use Rattle.link.proofs.Follows.{withinOf, Cut, Resumes, fault-is, found-is, TurnsTo, turns-to, InHead, Begun, channelsBy, InWave, Sure, Follows, waiting-follows, cutHere, condemned-follows}
 
 -- ---- the next item begins
 
@@ -54,25 +62,26 @@ stands-below n Within.Root = tt
 stands-below n (Within.Definite channel end) = pick-cases (λ (z : Within). Inside z (suc n)) (ltb n end) (λ e. ltb-true n end e) (λ _. tt)
 stands-below n (Within.Open channel place) = tt
 
-inside-less : (w : Within) (m n : ℕ) → m ≤ n → Inside w n → Inside w m
+pub inside-less : (w : Within) (m n : ℕ) → m ≤ n → Inside w n → Inside w m
 inside-less Within.Root m n h i = tt
 inside-less (Within.Definite channel end) m n h i = omega arith
 inside-less (Within.Open channel place) m n h i = tt
 
-module _ (s : List ℕ) (n : ℕ) (y : Stand) (around : ℕ) (v : Waveform) where
+module _ (s : List ℕ) (n : ℕ) (y : Stand) (around : ℕ) (v : Waveform) (gs : List Given) where
   -- What is known where an item has led on to y.
-  pub next-follows : (c : Cursor) (met : List Frame) → n ≡ length s → y .cursor ≡ c → c .at ≡ length s → y .frames ≡ length met
+  pub next-follows : (c : Cursor) (met : List Frame) → gs ≡ framesGiven met → n ≡ length s → y .cursor ≡ c → c .at ≡ length s → y .frames ≡ length met
       → ((t : List ℕ) → Whole (standsIn (c .at) (c .within)) (length (s ++ t)) → Stands (s ++ t) met y)
       → ((t : List ℕ) → Cut (standsIn (c .at) (c .within)) (length (s ++ t)) → unlimited (s ++ t) ≡ refused (refusal pastEnd around))
-      → Follows s (link n y around v (head []))
+      → Follows s gs (link n y around v (head []))
   unfolding formOf
-  next-follows c met counts is here many stands cut =
+  next-follows c met out counts is here many stands cut =
       let at : y .cursor .at ≡ length s = ap (λ (d : Cursor). d .at) is ∙ here in
       let goes : Inside (withinOf y) (suc (length s)) = subst (λ (k : ℕ). Inside (withinOf y) (suc k)) at (stands-below (y .cursor .at) (y .cursor .within)) in
       record {
         resumes =
             record {
               met = met;
+              out = out;
               counts = counts;
               many = many;
               before = omega (arith, at);
@@ -84,6 +93,18 @@ module _ (s : List ℕ) (n : ℕ) (y : Stand) (around : ℕ) (v : Waveform) wher
         wants = refl;
         goes = goes;
       }
+
+-- ---- what frames give out
+
+-- A sample that ends behind the waveform is not there.
+not-there : (f : Frame) (c k : ℕ) → length (f .waveform) < offsetOf (f .channels) c k + widthIn (channelIn c (f .channels)) → sampleGiven f c k ≡ []
+unfolding sampleGiven isThere
+not-there f c k h = simp (lt-leb (offsetOf (f .channels) c k + widthIn (channelIn c (f .channels))) (length (f .waveform)) h)
+
+frames-more : (fs : List Frame) (f : Frame) → framesGiven (fs ++ (f ∷ [])) ≡ framesGiven fs ++ samplesGiven f
+unfolding framesGiven
+frames-more [] f = append-nil (samplesGiven f)
+frames-more (g ∷ fs) f = ap (λ (l : List Given). samplesGiven g ++ l) (frames-more fs f) ∙ sym (append-assoc (samplesGiven g) (framesGiven fs) (samplesGiven f))
 
 -- ---- a waveform is over
 
@@ -104,19 +125,61 @@ frame-longer s t v y e =
       waveform = same k;
     }
 
-over-follows : (s : List ℕ) (n : ℕ) (y : Stand) (around : ℕ) (v : Waveform) → InWave s n y around v 0 → Follows s (link n y around v (head []))
-over-follows s n y around v p =
-    let ends : v .place + v .len ≡ length s = omega (arith, p .ends) in
-    next-follows s n y around v (cursor (length s + 0) Root) (p .met ++ (frameNow s v y ∷ [])) (p .counts) (p .behind) (omega arith)
-    (p .many ∙ sym (length-append (p .met) (frameNow s v y ∷ [])))
-    (λ t h. subst (λ (f : Frame). Stands (s ++ t) (p .met ++ (f ∷ [])) y) (frame-longer s t v y ends) (p .stands t (omega (arith, longer s t)) .0))
-    (λ t h. absurd h)
+-- All its samples that are there were given out.
+module _ (s : List ℕ) (n : ℕ) (y : Stand) (around : ℕ) (v : Waveform) (gs : List Given) (t : Coming) (p : InWave s n y around v gs 0 t) where
+  ends-now : v .place + v .len ≡ length s
+  ends-now = omega (arith, p .ends)
+
+  alone : s ++ [] ≡ s
+  alone = append-nil s
+
+  -- None of those still to come is there.
+  none-there : rest (sampleGiven (frameNow s v y)) (channelsBy v y) (v .sequences) t ≡ []
+  none-there = by (decLt (t .sequence) (v .sequences))
+    where
+      long : length (frameNow s v y .waveform) ≡ v .len
+      long = rw (length-take, length-drop) (omega (arith, ends-now))
+
+      by : Dec (t .sequence < v .sequences) → rest (sampleGiven (frameNow s v y)) (channelsBy v y) (v .sequences) t ≡ []
+      by (yes h) =
+          let a = p .arrives h in
+          rest-none (sampleGiven (frameNow s v y)) (channelsBy v y) (v .sequences) (v .len) (p .good)
+          (λ c k l. not-there (frameNow s v y) c k (rw long l)) t (a .among) (omega (arith, a .place, a .come, ends-now))
+      by (no h) = rest-past (sampleGiven (frameNow s v y)) (channelsBy v y) (v .sequences) t (omega arith)
+
+  all-given : p .here ≡ samplesGiven (frameNow s v y)
+  all-given =
+      sym
+      (subst (λ (u : List ℕ). samplesGiven (frameBy u v y) ≡ p .here ++ rest (sampleGiven (frameBy u v y)) (channelsBy v y) (v .sequences) t) alone (p .coming [] (rw alone (omega arith)))
+      ∙ ap (λ (r : List Given). p .here ++ r) none-there
+      ∙ append-nil (p .here))
+
+  over-follows : Follows s gs (link n y around v (head []))
+  over-follows =
+      next-follows s n y around v gs (cursor (length s + 0) Root) (p .met ++ (frameNow s v y ∷ []))
+      (p .out ∙ ap (λ (l : List Given). framesGiven (p .met) ++ l) all-given ∙ sym (frames-more (p .met) (frameNow s v y)))
+      (p .counts) (p .behind) (omega arith)
+      (p .many ∙ sym (length-append (p .met) (frameNow s v y ∷ [])))
+      (λ u h. subst (λ (f : Frame). Stands (s ++ u) (p .met ++ (f ∷ [])) y) (frame-longer s u v y ends-now) (p .stands u (omega (arith, longer s u)) .0))
+      (λ u h. absurd h)
 
 -- In a waveform of which so many octets are still to come, or behind it.
-pub waved-follows : (s : List ℕ) (n : ℕ) (y : Stand) (around : ℕ) (v : Waveform) (left : ℕ) (t : Coming) → InWave s n y around v left → Follows s (link n y around v (waved left t))
+pub waved-follows : (s : List ℕ) (n : ℕ) (y : Stand) (around : ℕ) (v : Waveform) (gs : List Given) (left : ℕ) (t : Coming) → InWave s n y around v gs left t → Follows s gs (link n y around v (waved left t))
 unfolding waved
-waved-follows s n y around v zero t p = over-follows s n y around v p
-waved-follows s n y around v (suc left) t p = (p, omega arith)
+waved-follows s n y around v gs zero t p = over-follows s n y around v gs t p
+waved-follows s n y around v gs (suc left) t p = (p, omega arith)
+
+-- At its first octet all its samples are to come.
+samples-first : (f : Frame) → 0 < length (f .channels) → samplesGiven f ≡ [] ++ rest (sampleGiven f) (f .channels) (f .sequences) firstComing
+unfolding samplesGiven
+samples-first f h = rest-first (sampleGiven f) (f .channels) (f .sequences) h
+
+-- Blocks and samples have octets in a frame that is met.
+frame-good : {s : List ℕ} (met : List Frame) (f : Frame) {y : Stand} → Stands s (met ++ (f ∷ [])) y → Good (f .channels)
+frame-good {s} met f p =
+    let k : length met < length (met ++ (f ∷ [])) = rw length-append (omega arith) in
+    let l = subst (Lies s) (getD-append-seam met f [] zeroFrame) (every-at (Lies s) (met ++ (f ∷ [])) (reached-lies (p .reached)) zeroFrame (length met) k) in
+    record { some = l .some; blocks = l .blocks; widths = l .wide }
 
 -- What a waveform's effect says.
 abbrev frameStart : Effect → ℕ
@@ -143,7 +206,7 @@ frameLength (Effect.Refused n) = 0
 
 -- ---- an item that is no waveform
 
-module _ (s : List ℕ) (n : ℕ) (x : Stand) (around : ℕ) (v : Waveform) (ph : Phase) (limit : length s ≤ octetsLimit) (p : Resumes s n x around) where
+module _ (s : List ℕ) (n : ℕ) (x : Stand) (around : ℕ) (v : Waveform) (ph : Phase) (gs : List Given) (limit : length s ≤ octetsLimit) (p : Resumes s n x around gs) where
   abbrev at : ℕ
   at = x .cursor .at
 
@@ -151,7 +214,7 @@ module _ (s : List ℕ) (n : ℕ) (x : Stand) (around : ℕ) (v : Waveform) (ph 
   w = withinOf x
 
   abbrev pub cutPlace : ℕ
-  cutPlace = cutHere s n x around v ph limit p
+  cutPlace = cutHere s n x around v ph gs limit p
 
   abbrev pub markedHere : Link
   markedHere = link n x cutPlace v ph
@@ -166,19 +229,19 @@ module _ (s : List ℕ) (n : ℕ) (x : Stand) (around : ℕ) (v : Waveform) (ph 
     pub after : (t : List ℕ) → Whole (standsIn (c .at) (c .within)) (length (s ++ t)) → Whole w (length (s ++ t)) × (length s + left ≤ length (s ++ t))
     pub cut : (t : List ℕ) → Cut (standsIn (c .at) (c .within)) (length (s ++ t)) → unlimited (s ++ t) ≡ refused (refusal pastEnd cutPlace)
 
-  pub turned-follows : (left : ℕ) (c : Cursor) (e : Effect) → Leads left c e → Follows s (turnedBy left (effectTurn x c at e) markedHere)
+  pub turned-follows : (left : ℕ) (c : Cursor) (e : Effect) → Leads left c e → Follows s gs (turnedBy left (effectTurn x c at e) markedHere)
   unfolding turnedBy stoppedAt
   turned-follows left c e q = by (effectTurn x c at e) (turns-to x c at e) (q .known)
     where
       by-step : (k : Step) (y : Stand) → TurnsTo x c at e (stops (stop k y))
-          → ((t : List ℕ) → Whole w (length (s ++ t)) → length s + left ≤ length (s ++ t) → TurnStands (s ++ t) (p .met) at (stops (stop k y))) → Follows s (stoppedAt left k y markedHere)
+          → ((t : List ℕ) → Whole w (length (s ++ t)) → length s + left ≤ length (s ++ t) → TurnStands (s ++ t) (p .met) at (stops (stop k y))) → Follows s gs (stoppedAt left k y markedHere)
       by-step (Step.Frame u) y to f = absurd (q .bare (u .place) (u .len) (to .0))
       by-step Step.Ended y to f = absurd to
-      by-step (Step.Refused r) y to f = condemned-follows s n x around v ph limit p left r (q .fits) (λ _ t h k. sym (f t h k)) (q .cuts)
+      by-step (Step.Refused r) y to f = condemned-follows s n x around v ph gs limit p left r (q .fits) (λ _ t h k. sym (f t h k)) (q .cuts)
 
-      by : (z : Turn) → TurnsTo x c at e z → ((t : List ℕ) → Whole w (length (s ++ t)) → length s + left ≤ length (s ++ t) → TurnStands (s ++ t) (p .met) at z) → Follows s (turnedBy left z markedHere)
+      by : (z : Turn) → TurnsTo x c at e z → ((t : List ℕ) → Whole w (length (s ++ t)) → length s + left ≤ length (s ++ t) → TurnStands (s ++ t) (p .met) at z) → Follows s gs (turnedBy left z markedHere)
       by (on y) to f =
-          next-follows s n y cutPlace v c (p .met) (p .counts) (to .1) (q .here) (to .2 ∙ p .many)
+          next-follows s n y cutPlace v gs c (p .met) (p .out) (p .counts) (to .1) (q .here) (to .2 ∙ p .many)
           (λ t h. let g = q .after t h in f t (g .0) (g .1)) (q .cut)
       by (stops z) to f = by-step (z .step) (z .at) to f
 
@@ -243,7 +306,7 @@ module _ (s : List ℕ) (n : ℕ) (x : Stand) (around : ℕ) (v : Waveform) (ph 
     has-effect : (t : List ℕ) → effectOf (s ++ t) (x .standing) found ≡ effectOf kept (x .standing) (itemAt w at tag (length kept))
     has-effect t = effect-same s t (x .standing) at tag (i .start) (i .len) ends-here w o
 
-    pub done-follows : Follows s (doneItem tag kept (link n x around v ph))
+    pub done-follows : Follows s gs (doneItem tag kept (link n x around v ph))
     done-follows =
         turned-follows 0 after-item (effectOf kept (x .standing) (itemAt w at tag (length kept)))
         (record {
@@ -321,7 +384,7 @@ module _ (s : List ℕ) (n : ℕ) (x : Stand) (around : ℕ) (v : Waveform) (ph 
           by true q = omega (arith, p .counts)
           by false q = absurd q
 
-      pub definite-follows : Follows s (groupBegins len channel (Within.Definite channel (n + len)) (link n x around v ph))
+      pub definite-follows : Follows s gs (groupBegins len channel (Within.Definite channel (n + len)) (link n x around v ph))
       definite-follows =
           turned-follows len in-group (effectOf [] (x .standing) (Item.Group at channel))
           (record {
@@ -334,7 +397,7 @@ module _ (s : List ℕ) (n : ℕ) (x : Stand) (around : ℕ) (v : Waveform) (ph 
             cut = λ t h. definite-cut t (definite-short (length (s ++ t)) h);
           })
 
-    pub open-follows : formOf (isInside w) (drop at s) ≡ Form.Open channel start → Follows s (groupBegins 0 channel (Within.Open channel at) (link n x around v ph))
+    pub open-follows : formOf (isInside w) (drop at s) ≡ Form.Open channel start → Follows s gs (groupBegins 0 channel (Within.Open channel at) (link n x around v ph))
     open-follows f =
         turned-follows 0 (cursor n (Within.Open channel at)) (effectOf [] (x .standing) (Item.Group at channel))
         (record {
@@ -377,11 +440,15 @@ module _ (s : List ℕ) (n : ℕ) (x : Stand) (around : ℕ) (v : Waveform) (ph 
 
       -- The frame is taken: its settings are given out.
       taken-follows : (u : Waveform) (y : Stand) → TurnsTo x behind-wave at (Effect.Frame n len) (stops (stop (Step.Frame u) y))
-          → ((t : List ℕ) → length s + len ≤ length (s ++ t) → TurnStands (s ++ t) (p .met) at (stops (stop (Step.Frame u) y))) → n + len ≤ octetsLimit → Follows s (link n y cutPlace u (waved len firstComing))
+          → ((t : List ℕ) → length s + len ≤ length (s ++ t) → TurnStands (s ++ t) (p .met) at (stops (stop (Step.Frame u) y))) → n + len ≤ octetsLimit → Follows s gs (link n y cutPlace u (waved len firstComing))
       taken-follows u y to known near =
-          waved-follows s n y cutPlace u len firstComing
+          let filled : length s + len ≤ length (s ++ replicate len 0) = rw (length-append, length-replicate) (omega arith) in
+          let good-here = frame-good (p .met) (frameBy (s ++ replicate len 0) u y) (known (replicate len 0) filled .2) in
+          waved-follows s n y cutPlace u gs len firstComing
           (record {
             met = p .met;
+            here = [];
+            out = p .out ∙ sym (append-nil (framesGiven (p .met)));
             counts = p .counts;
             many = to .2 ∙ ap (λ (k : ℕ). k + 1) (p .many);
             begun = omega (arith, ap frameStart (to .0), p .counts);
@@ -390,32 +457,36 @@ module _ (s : List ℕ) (n : ℕ) (x : Stand) (around : ℕ) (v : Waveform) (ph 
             stands = λ t h. (known t h .2, known t h .3);
             cuts = wave-cut;
             behind = to .1 ∙ ap (λ (k : ℕ). cursor (k + len) Root) (p .counts);
+            many-channels = known (replicate len 0) filled .3 .channels;
+            good = good-here;
+            arrives = λ _. subst (λ (k : ℕ). ArrivesAt s (channelsBy u y) k firstComing) (sym (p .counts) ∙ ap frameStart (to .0)) (arrives-first s (channelsBy u y) good-here);
+            coming = λ t h. samples-first (frameBy (s ++ t) u y) (good-here .some);
           })
 
-      pub wave-follows : Follows s (turnedBy len (effectTurn x behind-wave at (Effect.Frame n len)) markedHere)
+      pub wave-follows : Follows s gs (turnedBy len (effectTurn x behind-wave at (Effect.Frame n len)) markedHere)
       unfolding turnedBy stoppedAt
       wave-follows = by (effectTurn x behind-wave at (Effect.Frame n len)) (turns-to x behind-wave at (Effect.Frame n len)) wave-known
         where
           by-step : (k : Step) (y : Stand) → TurnsTo x behind-wave at (Effect.Frame n len) (stops (stop k y))
-              → (n + len ≤ octetsLimit → (t : List ℕ) → length s + len ≤ length (s ++ t) → TurnStands (s ++ t) (p .met) at (stops (stop k y))) → Follows s (stoppedAt len k y markedHere)
+              → (n + len ≤ octetsLimit → (t : List ℕ) → length s + len ≤ length (s ++ t) → TurnStands (s ++ t) (p .met) at (stops (stop k y))) → Follows s gs (stoppedAt len k y markedHere)
           by-step (Step.Frame u) y to known =
-              pick-cases (Follows s) (ltb octetsLimit (n + len))
-              (λ e. waiting-follows s markedHere len (refusal longFile 0) limit
+              pick-cases (Follows s gs) (ltb octetsLimit (n + len))
+              (λ e. waiting-follows s gs markedHere len (refusal longFile 0) limit
               (record { counts = p .counts; cuts = wave-cut; sure = λ h t k. let z : ⊥ = omega (arith, ltb-true octetsLimit (n + len) e, p .counts) in absurd z }))
               (λ e. let near = ltb-false octetsLimit (n + len) e in taken-follows u y to (known near) near)
           by-step Step.Ended y to known = absurd to
           by-step (Step.Refused r) y to known =
-              condemned-follows s n x around v ph limit p len r (rw outside tt) (λ h t _ k. sym (known (omega (arith, p .counts)) t k)) (λ t _ k. wave-cut t k)
+              condemned-follows s n x around v ph gs limit p len r (rw outside tt) (λ h t _ k. sym (known (omega (arith, p .counts)) t k)) (λ t _ k. wave-cut t k)
 
           by : (z : Turn) → TurnsTo x behind-wave at (Effect.Frame n len) z
-              → (n + len ≤ octetsLimit → (t : List ℕ) → length s + len ≤ length (s ++ t) → TurnStands (s ++ t) (p .met) at z) → Follows s (turnedBy len z markedHere)
+              → (n + len ≤ octetsLimit → (t : List ℕ) → length s + len ≤ length (s ++ t) → TurnStands (s ++ t) (p .met) at z) → Follows s gs (turnedBy len z markedHere)
           by (on y) to known = absurd (to .0)
           by (stops z) to known = by-step (z .step) (z .at) to known
 
   -- ---- faults of form
 
   -- What stands there is a fault, for each file that has the group around.
-  pub fault-follows : (r : Refusal) → ((t : List ℕ) → Whole w (length (s ++ t)) → nextOf (s ++ t) (x .cursor) ≡ Next.Refused r) → Follows s (condemned 0 r markedHere)
+  pub fault-follows : (r : Refusal) → ((t : List ℕ) → Whole w (length (s ++ t)) → nextOf (s ++ t) (x .cursor) ≡ Next.Refused r) → Follows s gs (condemned 0 r markedHere)
   fault-follows r f =
-      condemned-follows s n x around v ph limit p 0 r (inside-less w (length s + 0) (length s) (omega arith) (p .inside)) (λ _ t h _. fault-is (p .stands t h) (f t h))
+      condemned-follows s n x around v ph gs limit p 0 r (inside-less w (length s + 0) (length s) (omega arith) (p .inside)) (λ _ t h _. fault-is (p .stands t h) (f t h))
       (λ t _ k. let z : ⊥ = omega (arith, longer s t) in absurd z)

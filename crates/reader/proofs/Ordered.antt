@@ -25,7 +25,8 @@ use Rattle.standing.specs.Standing.{octetsLimit, framesLimit}
 use Rattle.framing.specs.Framing.{pointerFits}
 use Rattle.verdict.specs.Verdict.{State, state, firstState, frameChannels, frameAt, accepted, verdict}
 use Rattle.pass.specs.Scan.{zeroFrame}
-use Rattle.verdict.proofs.Keeps.{Kept, Keeps, firstCursor, accepted-by, accepted-kept}
+use Rattle.verdict.specs.Reached.{Reached}
+use Rattle.verdict.proofs.Keeps.{Kept, Keeps, firstCursor, accepted-by, accepted-kept, reached-keeps}
 use Rattle.verdict.proofs.Steps.{Waveform, TakenBy, ItemStep, passes, stands, resets, changes, sets, frames, meaning-steps}
 use Rattle.verdict.proofs.Every.{Every, every-at, every-snoc, every-imp}
 use Rattle.verdict.proofs.Bounds.{Bounded, bounded-first, bounded-step, frame-channels, channels-wide, channels-some}
@@ -141,6 +142,10 @@ module _ (s : List ℕ) where
 
   lying-first : Lying s firstState firstCursor
   lying-first = record { bounded = bounded-first s; lies = tt; behind = tt; order = λ i j h l. let z : ⊥ = omega arith in absurd z }
+
+-- The frames met so far lie in the file, however it goes on.
+pub reached-lies : {s : List ℕ} {x : State} {c : Cursor} → Reached s x c → Every (Lies s) (x .frames)
+reached-lies {s} r = reached-keeps s (Lying s) (lying-keeps s) (lying-first s) r .lies
 
 module _ (s : List ℕ) (fs : List Frame) (e : verdict s ≡ accepted fs) where
   kept : Kept (Lying s) fs

@@ -1,0 +1,36 @@
+-- One call of the feed (document 02, request 3): it takes octets as long as there is room for the samples that they give out, and stops behind the octet with
+-- which a frame's settings are due or the answer comes.
+use Prim.Native.Nat.{ℕ, suc, _-_}
+use mathlib.Core.List.{List, [], _∷_, _++_}
+use mathlib.Core.Bool.{Bool}
+use lib.ListN.{length}
+use lib.Dec.{ltb}
+use Rattle.octets.specs.Pick.{pick, either}
+use Rattle.link.specs.Link.{Link, isDecided, stepped, Given, gives}
+
+-- How many octets are taken, what is held behind them, and what they gave out.
+pub record Fed : Type 0 where
+  pub taken : ℕ
+  pub link : Link
+  pub given : List Given
+
+abbrev pub fed : ℕ → Link → List Given → Fed
+fed taken l given = record { taken = taken; link = l; given = given }
+
+-- The octet is the last of a waveform's head, and the frame is taken: its settings are due.
+unfoldable pub due : Link → ℕ → Bool
+due l b = ltb (l .stand .frames) (stepped l b .stand .frames)
+
+-- One octet, and what the call goes on to take.
+abbrev pub onto : List Given → Fed → Fed
+onto given f = fed (suc (f .taken)) (f .link) (given ++ f .given)
+
+-- "No octet is taken without room for its sample."
+unfoldable pub feedOf : ℕ → Link → List ℕ → Fed
+feedOf room l [] = fed 0 l []
+feedOf room l (b ∷ s) =
+    let rest = feedOf (room - length (gives l b)) (stepped l b) s in
+    pick (isDecided (l .phase)) (fed 0 l [])
+    (pick (ltb room (length (gives l b))) (fed 0 l [])
+    (pick (either (isDecided (stepped l b .phase)) (due l b)) (fed 1 (stepped l b) (gives l b))
+    (onto (gives l b) rest)))
