@@ -3,12 +3,13 @@
 --     stepped-follows    one octet more, within the limit
 --     fed-follows        all octets that were fed
 --     end-follows        the answer, if the file ends here
---     fed-decided, fed-past    an answer stays; past the limit there is one
+--     accepted-given     what was given out, if the file is accepted that ends here
 -- Assumes nothing.
 use Prim.Native.Nat.{ℕ, zero, suc, _+_, _-_, _≤_, _<_}
 use mathlib.Core.Path.{_≡_, refl, sym, _∙_, ap, subst}
 use mathlib.Core.List.{List, [], _∷_, _++_, append-nil, append-assoc}
 use mathlib.Core.Bool.{Bool, true, false}
+use mathlib.Core.Logic.{inl}
 use native.Mathlib.Omega.{arith}
 use borrow.Author.Tests.{ltb-true, ltb-false, eqb-true, eqb-false, lt-leb}
 use lib.Dec.{ltb, leb, eqb}
@@ -41,17 +42,17 @@ use Rattle.link.specs.Link.{Given, Phase, head, value, waveform, waits, 
 use Rattle.link.specs.Order.{framesGiven}
 use Rattle.link.proofs.Seen.{endsIn, Whole, Inside, tailOf, longer, next-faulty, next-wanting, next-past}
 use Rattle.link.proofs.Item.{Plainly}
-use Rattle.link.proofs.Follows.{withinOf, Cut, Resumes, fault-is, InHead, Begun, InValue, InWave, Sure, Settled, FollowsIn, Follows, waiting-follows}
+use Rattle.link.proofs.Follows.{withinOf, Cut, Resumes, fault-is, Silent, InHead, Begun, InValue, InWave, Sure, Settled, FollowsIn, Follows, waiting-follows}
 use Rattle.link.proofs.Grown.{grown, grown-long, to-grown, of-grown, drop-grown}
 use Rattle.link.proofs.Waves.{wave-on}
 use Rattle.link.proofs.Steps.{inside-less, next-follows, waved-follows, done-follows, definite-follows, open-follows, wave-follows, fault-follows}
 
 -- ---- the octets of a head
 
-true-false : true ≡ false → ⊥
+pub true-false : true ≡ false → ⊥
 true-false e = let w : _≡_ {A = ℕ} 0 1 = cc in let v : ⊥ = omega arith in v
 
-module _ (s : List ℕ) (n : ℕ) (x : Stand) (around : ℕ) (v : Waveform) (ph : Phase) (gs : List Given) (limit : length s ≤ octetsLimit) (p : Resumes s n x around gs) (here : x .cursor .at < length s) where
+module _ (s : List ℕ) (n : ℕ) (x : Stand) (around : ℕ) (v : Waveform) (ph : Phase) (gs : List Given) (limit : length s ≤ octetsLimit) (silent : Silent v) (p : Resumes s n x around gs) (here : x .cursor .at < length s) where
   abbrev at : ℕ
   at = x .cursor .at
 
@@ -67,12 +68,12 @@ module _ (s : List ℕ) (n : ℕ) (x : Stand) (around : ℕ) (v : Waveform) (ph 
   -- More octets are wanted, and may come.
   more-follows : formOf (isInside w) come ≡ Form.More → Inside w (suc (length s)) → Follows s gs (headed come Form.More l)
   unfolding headed
-  more-follows e g = record { resumes = p; octets = refl; wants = e; goes = g }
+  more-follows e g = record { resumes = p; tells = inl silent; octets = refl; wants = e; goes = g }
 
   -- A fault of form, by what stands there in each file that has the group around.
   bad-follows : (number : ℕ) → ((t : List ℕ) → Whole w (length (s ++ t)) → nextOf (s ++ t) (x .cursor) ≡ Next.Refused (refusal number at)) → Follows s gs (headed come (Form.Faulty number) l)
   unfolding headed
-  bad-follows number f = fault-follows s n x around v ph gs limit p (refusal number at) f
+  bad-follows number f = fault-follows s n x around v ph gs limit silent p (refusal number at) f
 
   faulty-follows : (number : ℕ) → formOf (isInside w) come ≡ Form.Faulty number → Follows s gs (headed come (Form.Faulty number) l)
   faulty-follows number e = bad-follows number (λ t h. next-faulty s t (x .cursor) here (p .inside) h number e)
@@ -86,11 +87,12 @@ module _ (s : List ℕ) (n : ℕ) (x : Stand) (around : ℕ) (v : Waveform) (ph 
       (λ q.
       let z = eqb-true len 0 q in
       let i : Begun s x tag 0 = record { start = start; len = len; here = here; form = e; begun = omega arith; ends = omega arith; fits = rw z at fits } in
-      subst (λ (u : List ℕ). Follows s gs (doneItem tag u l)) (sym none) (done-follows s n x around v ph gs limit p tag i o))
+      subst (λ (u : List ℕ). Follows s gs (doneItem tag u l)) (sym none) (done-follows s n x around v ph gs limit silent p tag i o))
       (λ q.
       let z = eqb-false len 0 q in
       record {
         resumes = p;
+        silent = silent;
         item = record { start = start; len = len; here = here; form = e; begun = omega arith; ends = omega arith; fits = fits };
         some = omega arith;
         plain = o;
@@ -105,7 +107,7 @@ module _ (s : List ℕ) (n : ℕ) (x : Stand) (around : ℕ) (v : Waveform) (ph 
         pick-cases (Follows s gs) (eqb tag 0x1E)
         (λ q.
         let z = eqb-true tag 0x1E q in
-        wave-follows s n x around v ph gs limit p outside 0 start here all len (e ∙ ap (λ (k : ℕ). Form.Primitive k start len) z))
+        wave-follows s n x around v ph gs limit silent p outside 0 start here all len (e ∙ ap (λ (k : ℕ). Form.Primitive k start len) z))
         (λ q. value-follows tag start len e all (rw outside tt) (rw outside (eqb-false tag 0x1E q)))
 
     root-follows : (f : Form) → formOf (isInside w) come ≡ f → FormExact (length come) Form.More f → Follows s gs (headed come f l)
@@ -113,8 +115,8 @@ module _ (s : List ℕ) (n : ℕ) (x : Stand) (around : ℕ) (v : Waveform) (ph 
     root-follows Form.More e k = more-follows e (rw outside tt)
     root-follows (Form.Faulty number) e k = faulty-follows number e
     root-follows (Form.Primitive tag start len) e k = primitive-follows tag start len e (omega (arith, length-drop at s))
-    root-follows (Form.Definite channel start len) e k = definite-follows s n _ around v ph gs limit p outside channel start here (omega (arith, length-drop at s)) len e
-    root-follows (Form.Open channel start) e k = open-follows s n _ around v ph gs limit p outside channel start here (omega (arith, length-drop at s)) e
+    root-follows (Form.Definite channel start len) e k = definite-follows s n _ around v ph gs limit silent p outside channel start here (omega (arith, length-drop at s)) len e
+    root-follows (Form.Open channel start) e k = open-follows s n _ around v ph gs limit silent p outside channel start here (omega (arith, length-drop at s)) e
 
   -- In groups.
   module _ (inside : isInside w ≡ true) where
@@ -217,7 +219,7 @@ module _ (s : List ℕ) (b : ℕ) (limit : length s < octetsLimit) where
   within = omega (arith, grown-long s b)
 
   -- An octet of a head.
-  head-step : (n : ℕ) (x : Stand) (around : ℕ) (v : Waveform) (ph : Phase) (gs : List Given) (p : List ℕ) → InHead s n x around gs p → Follows (grown s b) gs (takenIn b (head p) (link (n + 1) x around v ph))
+  head-step : (n : ℕ) (x : Stand) (around : ℕ) (v : Waveform) (ph : Phase) (gs : List Given) (p : List ℕ) → InHead s n x around v gs p → Follows (grown s b) gs (takenIn b (head p) (link (n + 1) x around v ph))
   unfolding takenIn
   head-step n x around v ph gs p q =
       let at = x .cursor .at in
@@ -228,11 +230,11 @@ module _ (s : List ℕ) (b : ℕ) (limit : length s < octetsLimit) where
       (subst (λ (k : ℕ). FormExact k Form.More (formOf inside (p ++ (b ∷ [])))) (sym (length-append p (b ∷ [])))
       (subst (λ (f : Form). FormExact (length p + 1) f (formOf inside (p ++ (b ∷ [])))) (q .wants) (form-exact inside p b))) in
       subst (λ (u : List ℕ). Follows (grown s b) gs (headed u (seenIn (withinOf x) (n + 1) (formOf inside u)) (link (n + 1) x around noWaveform ph))) e
-      (headed-follows (grown s b) (n + 1) x around noWaveform ph gs within (resumes-on s b n x around gs (q .resumes) (q .goes)) (omega (arith, q .resumes .before, grown-long s b))
+      (headed-follows (grown s b) (n + 1) x around noWaveform ph gs within refl (resumes-on s b n x around gs (q .resumes) (q .goes)) (omega (arith, q .resumes .before, grown-long s b))
       (withinOf x) refl (formOf inside (drop at (grown s b))) refl exact)
 
   -- An octet of a value.
-  value-step : (n : ℕ) (x : Stand) (around : ℕ) (v : Waveform) (ph : Phase) (gs : List Given) (tag left : ℕ) (kept : List ℕ) → InValue s n x around gs tag left kept
+  value-step : (n : ℕ) (x : Stand) (around : ℕ) (v : Waveform) (ph : Phase) (gs : List Given) (tag left : ℕ) (kept : List ℕ) → InValue s n x around v gs tag left kept
       → Follows (grown s b) gs (takenIn b (value tag left kept) (link (n + 1) x around v ph))
   unfolding takenIn valued begun-on
   value-step n x around v ph gs tag left kept q =
@@ -245,8 +247,8 @@ module _ (s : List ℕ) (b : ℕ) (limit : length s < octetsLimit) where
       (λ e.
       let z = eqb-true (left - 1) 0 e in
       subst (λ (u : List ℕ). Follows (grown s b) gs (doneItem tag u (link (n + 1) x around v ph))) (sym keeps)
-      (done-follows (grown s b) (n + 1) x around v ph gs within p tag (subst (Begun (grown s b) x tag) z i) (q .plain)))
-      (λ e. let z = eqb-false (left - 1) 0 e in record { resumes = p; item = i; some = omega arith; plain = q .plain; keeps = keeps })
+      (done-follows (grown s b) (n + 1) x around v ph gs within (q .silent) p tag (subst (Begun (grown s b) x tag) z i) (q .plain)))
+      (λ e. let z = eqb-false (left - 1) 0 e in record { resumes = p; silent = q .silent; item = i; some = omega arith; plain = q .plain; keeps = keeps })
 
   -- Where an octet gives nothing out.
   quiet : (gs : List Given) (l : Link) → Follows (grown s b) gs l → Follows (grown s b) (gs ++ []) l
@@ -261,11 +263,11 @@ module _ (s : List ℕ) (b : ℕ) (limit : length s < octetsLimit) where
       waved-follows (grown s b) (n + 1) x around v _ (left - 1) _ (wave-on s b n x around v (waveform left t) gs left t (q .1) (q .0))
   taken-follows n x around v gs (waits left r) q =
       quiet gs (waiting (left - 1) r (link (n + 1) x around v (waits left r)))
-      (waiting-follows (grown s b) gs (link (n + 1) x around v (waits left r)) (left - 1) r within (sure-on s b n around left r (q .1) (q .0)))
-  taken-follows n x around v gs (decided a) q = settled-on s b a q
+      (waiting-follows (grown s b) gs (link (n + 1) x around v (waits left r)) (left - 1) r within (q .2) (sure-on s b n around left r (q .1) (q .0)))
+  taken-follows n x around v gs (decided a) q = (settled-on s b a (q .0), q .1)
 
 -- Without an answer as many octets have come as are counted.
-follows-counts : (s : List ℕ) (gs : List Given) (l : Link) → isDecided (l .phase) ≡ false → Follows s gs l → l .count ≡ length s
+pub follows-counts : (s : List ℕ) (gs : List Given) (l : Link) → isDecided (l .phase) ≡ false → Follows s gs l → l .count ≡ length s
 follows-counts s gs l e p = by (l .phase) e p
   where
     by : (q : Phase) → isDecided q ≡ false → FollowsIn s (l .count) (l .stand) (l .around) (l .frame) gs q → l .count ≡ length s
@@ -295,13 +297,13 @@ stepped-follows s b gs l limit p =
     decided-on (value tag left kept) e f = absurd (true-false (sym e))
     decided-on (waveform left t) e f = absurd (true-false (sym e))
     decided-on (waits left r) e f = absurd (true-false (sym e))
-    decided-on (decided a) e f = settled-on s b a f
+    decided-on (decided a) e f = (settled-on s b a (f .0), f .1)
 
 -- ---- all octets
 
 first-follows : Follows [] [] firstLink
 unfolding framesGiven
-first-follows = next-follows [] 0 firstStand 0 noWaveform [] (cursor 0 Root) [] refl refl refl refl refl (λ t _. stands-first t) (λ t h. absurd h)
+first-follows = next-follows [] 0 firstStand 0 noWaveform [] (cursor 0 Root) [] (inl refl) refl refl refl refl refl (λ t _. stands-first t) (λ t h. absurd h)
 
 fed-from : (s u : List ℕ) (gs : List Given) (l : Link) → length (s ++ u) ≤ octetsLimit → Follows s gs l → Follows (s ++ u) (gs ++ givenBy l u) (fedWith l u)
 unfolding fedWith givenBy
@@ -331,10 +333,18 @@ end-next {s} {met} {x} p e = sym (subst (λ (n : Next). TurnStands s met (x .cur
 alone : (P : List ℕ → Type 0) (s : List ℕ) → P (s ++ []) → P s
 alone P s h = subst P (append-nil s) h
 
+-- Outside groups the file is accepted.
+ended-accepted : (s : List ℕ) (n : ℕ) (x : Stand) (around : ℕ) (v : Waveform) (gs : List Given) (q : InHead s n x around v gs []) → withinOf x ≡ Root → unlimited s ≡ accepted (q .resumes .met)
+ended-accepted s n x around v gs q e =
+    let p = q .resumes in
+    let past : length s ≤ x .cursor .at = omega (arith, ap length (q .octets), length-drop (x .cursor .at) s, p .before) in
+    end-next (alone (λ (u : List ℕ). Stands u (p .met) x) s (p .stands [] (rw e tt)))
+    (sym (next-none s (x .cursor) Root (extent s (x .cursor .at) Root) (sym e) refl (nothing-left s (x .cursor .at) Root past)))
+
 -- The end between two items.
-ended-follows : (s : List ℕ) (n : ℕ) (x : Stand) (around : ℕ) (gs : List Given) → InHead s n x around gs [] → checkedAs (unlimited s) ≡ endedIn (withinOf x) around (x .frames)
+ended-follows : (s : List ℕ) (n : ℕ) (x : Stand) (around : ℕ) (v : Waveform) (gs : List Given) → InHead s n x around v gs [] → checkedAs (unlimited s) ≡ endedIn (withinOf x) around (x .frames)
 unfolding endedIn checkedAs
-ended-follows s n x around gs q = by (withinOf x) refl
+ended-follows s n x around v gs q = by (withinOf x) refl
   where
     p : Resumes s n x around gs
     p = q .resumes
@@ -346,8 +356,7 @@ ended-follows s n x around gs q = by (withinOf x) refl
     next w e = next-none s (x .cursor) w (extent s (x .cursor .at) w) (sym e) refl (nothing-left s (x .cursor .at) w past)
 
     by : (w : Within) → withinOf x ≡ w → checkedAs (unlimited s) ≡ endedIn w around (x .frames)
-    by Within.Root e =
-        ap checkedAs (end-next (alone (λ (u : List ℕ). Stands u (p .met) x) s (p .stands [] (rw e tt))) (sym (next Within.Root e))) ∙ ap answered (sym (p .many))
+    by Within.Root e = ap checkedAs (ended-accepted s n x around v gs q e) ∙ ap answered (sym (p .many))
     by (Within.Definite channel end) e =
         let short : length (s ++ []) < end = subst (λ (w : Within). Inside w (suc (length (s ++ [])))) e (rw (append-nil s) (q .goes)) in
         ap checkedAs (alone (λ (u : List ℕ). unlimited u ≡ refused (refusal pastEnd around)) s (p .cut [] (rw e short)))
@@ -392,7 +401,7 @@ end-follows s gs l p = by (l .phase) p
     x = l .stand
 
     by : (q : Phase) → FollowsIn s (l .count) x (l .around) (l .frame) gs q → checkedAs (unlimited s) ≡ endIn q l
-    by (head []) f = ended-follows s (l .count) x (l .around) gs f
+    by (head []) f = ended-follows s (l .count) x (l .around) (l .frame) gs f
     by (head (b ∷ p)) f =
         let r = f .resumes in
         let here : x .cursor .at < length s = omega (arith, ap length (f .octets), length-drop (x .cursor .at) s) in
@@ -409,5 +418,42 @@ end-follows s gs l p = by (l .phase) p
         next-past s [] (x .cursor) (i .here) (r .inside) h tag (i .start) (i .len) (i .form) (omega (arith, i .begun, g)) (omega (arith, i .ends, k)))
     by (waveform left t) f = ap checkedAs (alone (λ (u : List ℕ). unlimited u ≡ refused (refusal pastEnd (l .around))) s (f .0 .cuts [] (rw (append-nil s) (omega (arith, f .1)))))
     by (waits left r) f = ap checkedAs (alone (λ (u : List ℕ). unlimited u ≡ refused (refusal pastEnd (l .around))) s (f .0 .cuts [] (rw (append-nil s) (omega (arith, f .1)))))
-    by (decided (answered n)) f = absurd f
-    by (decided (refusedAs number place)) f = ap checkedAs (alone (λ (u : List ℕ). unlimited u ≡ refused (refusal number place)) s (f []))
+    by (decided (answered n)) f = absurd (f .0)
+    by (decided (refusedAs number place)) f = ap checkedAs (alone (λ (u : List ℕ). unlimited u ≡ refused (refusal number place)) s (f .0 []))
+
+-- ---- an accepted file
+
+-- The frames of an accepted file.
+abbrev framesOf : Verdict → List Frame
+framesOf (accepted fs) = fs
+framesOf (refused r) = []
+
+abbrev IsAnswered : Answer ℕ → Type 0
+IsAnswered (answered n) = Unit {0}
+IsAnswered (refusedAs number place) = ⊥
+
+-- What a link has given out where the file is accepted that ends here.
+pub accepted-given : (s : List ℕ) (gs : List Given) (l : Link) (fs : List Frame) → Follows s gs l → unlimited s ≡ accepted fs → gs ≡ framesGiven fs
+unfolding checkedAs endIn endedIn
+accepted-given s gs l fs p e = by (l .phase) p (end-follows s gs l p)
+  where
+    x : Stand
+    x = l .stand
+
+    -- The end is no refusal.
+    never : {number place : ℕ} → checkedAs (unlimited s) ≡ refusedAs number place → ⊥
+    never f = subst IsAnswered (sym (ap checkedAs e) ∙ f) tt
+
+    between : (w : Within) → withinOf x ≡ w → InHead s (l .count) x (l .around) (l .frame) gs [] → checkedAs (unlimited s) ≡ endedIn w (l .around) (x .frames) → gs ≡ framesGiven fs
+    between Within.Root ew q f = q .resumes .out ∙ ap framesGiven (ap framesOf (sym (ended-accepted s (l .count) x (l .around) (l .frame) gs q ew) ∙ e))
+    between (Within.Definite channel end) ew q f = absurd (never f)
+    between (Within.Open channel place) ew q f = absurd (never f)
+
+    by : (q : Phase) → FollowsIn s (l .count) x (l .around) (l .frame) gs q → checkedAs (unlimited s) ≡ endIn q l → gs ≡ framesGiven fs
+    by (head []) q f = between (withinOf x) refl q f
+    by (head (b ∷ p)) q f = absurd (never f)
+    by (value tag left kept) q f = absurd (never f)
+    by (waveform left t) q f = absurd (never f)
+    by (waits left r) q f = absurd (never f)
+    by (decided (answered n)) q f = absurd (q .0)
+    by (decided (refusedAs number place)) q f = absurd (never f)

@@ -9,6 +9,7 @@ use Prim.Native.Nat.{ℕ, zero, suc, _+_, _-_, _≤_, _<_}
 use mathlib.Core.Path.{_≡_, refl, sym, _∙_, ap, subst}
 use mathlib.Core.List.{List, [], _∷_, _++_, append-nil, append-assoc}
 use mathlib.Core.Bool.{Bool, true, false}
+use mathlib.Core.Logic.{_⊎_}
 use native.Mathlib.Omega.{arith}
 use borrow.Author.Tests.{ltb-true, ltb-false, eqb-true, eqb-false, le-ltb, lt-ltb, eq-eqb, ne-eqb}
 use lib.Dec.{ltb, eqb}
@@ -130,9 +131,24 @@ module _ (x : Stand) (c : Cursor) (place : ℕ) where
 
 -- ---- phase by phase
 
+-- No frame is told.
+abbrev pub Silent : Waveform → Type 0
+Silent v = v .channels ≡ 0
+
+-- The last frame met is told, directly behind its waveform.
+pub record Last (s : List ℕ) (v : Waveform) (x : Stand) (met : List Frame) : Type 0 where
+  pub before : List Frame
+  pub is : met ≡ before ++ (frameBy s v x ∷ [])
+  pub counted : Counts v (frameBy s v x)
+  pub here : x .cursor ≡ cursor (length s) Root
+
+abbrev pub Tells : List ℕ → Waveform → Stand → List Frame → Type 0
+Tells s v x met = Silent v ⊎ Last s v x met
+
 -- In a head that wants more octets. In a definite group there are more to come.
-pub record InHead (s : List ℕ) (n : ℕ) (x : Stand) (around : ℕ) (gs : List Given) (p : List ℕ) : Type 0 where
+pub record InHead (s : List ℕ) (n : ℕ) (x : Stand) (around : ℕ) (v : Waveform) (gs : List Given) (p : List ℕ) : Type 0 where
   pub resumes : Resumes s n x around gs
+  pub tells : Tells s v x (resumes .met)
   pub octets : drop (x .cursor .at) s ≡ p
   pub wants : formOf (isInside (withinOf x)) p ≡ Form.More
   pub goes : Inside (withinOf x) (suc (length s))
@@ -147,8 +163,9 @@ pub record Begun (s : List ℕ) (x : Stand) (tag left : ℕ) : Type 0 where
   pub ends : x .cursor .at + start + len ≡ length s + left
   pub fits : Inside (withinOf x) (length s + left)
 
-pub record InValue (s : List ℕ) (n : ℕ) (x : Stand) (around : ℕ) (gs : List Given) (tag left : ℕ) (kept : List ℕ) : Type 0 where
+pub record InValue (s : List ℕ) (n : ℕ) (x : Stand) (around : ℕ) (v : Waveform) (gs : List Given) (tag left : ℕ) (kept : List ℕ) : Type 0 where
   pub resumes : Resumes s n x around gs
+  pub silent : Silent v
   pub item : Begun s x tag left
   pub some : 0 < left
   pub plain : Plainly (withinOf x) tag
@@ -189,11 +206,11 @@ Settled s (answered n) = ⊥
 Settled s (refusedAs number place) = (t : List ℕ) → unlimited (s ++ t) ≡ refused (refusal number place)
 
 abbrev pub FollowsIn : List ℕ → ℕ → Stand → ℕ → Waveform → List Given → Phase → Type 0
-FollowsIn s n x around v gs (head p) = InHead s n x around gs p
-FollowsIn s n x around v gs (value tag left kept) = InValue s n x around gs tag left kept
+FollowsIn s n x around v gs (head p) = InHead s n x around v gs p
+FollowsIn s n x around v gs (value tag left kept) = InValue s n x around v gs tag left kept
 FollowsIn s n x around v gs (waveform left t) = InWave s n x around v gs left t × (0 < left)
-FollowsIn s n x around v gs (waits left r) = Sure s n around left r × (0 < left)
-FollowsIn s n x around v gs (decided a) = Settled s a
+FollowsIn s n x around v gs (waits left r) = Sure s n around left r × (0 < left) × Silent v
+FollowsIn s n x around v gs (decided a) = Settled s a × Silent v
 
 -- A link that was fed s, and has given out gs.
 abbrev pub Follows : List ℕ → List Given → Link → Type 0
@@ -202,17 +219,17 @@ Follows s gs l = FollowsIn s (l .count) (l .stand) (l .around) (l .frame) gs (l 
 -- ---- refusals
 
 -- A refusal that waits.
-pub waiting-follows : (s : List ℕ) (gs : List Given) (l : Link) (left : ℕ) (r : Refusal) → length s ≤ octetsLimit → Sure s (l .count) (l .around) left r → Follows s gs (waiting left r l)
+pub waiting-follows : (s : List ℕ) (gs : List Given) (l : Link) (left : ℕ) (r : Refusal) → length s ≤ octetsLimit → Silent (l .frame) → Sure s (l .count) (l .around) left r → Follows s gs (waiting left r l)
 unfolding waiting
-waiting-follows s gs l left r h p =
+waiting-follows s gs l left r h q p =
     pick-cases (Follows s gs) (eqb left 0)
     (λ e.
     let z = eqb-true left 0 e in
-    λ t. p .sure (omega arith) t (omega (arith, longer s t)))
-    (λ e. let z = eqb-false left 0 e in (p, omega arith))
+    ((λ t. p .sure (omega arith) t (omega (arith, longer s t))), q))
+    (λ e. let z = eqb-false left 0 e in (p, omega arith, q))
 
 -- A refusal of an item of which `left` octets are still to come: what each file comes to that reaches to the end of what is around it, with the item and without.
-module _ (s : List ℕ) (n : ℕ) (x : Stand) (around : ℕ) (v : Waveform) (ph : Phase) (gs : List Given) (limit : length s ≤ octetsLimit) (p : Resumes s n x around gs) where
+module _ (s : List ℕ) (n : ℕ) (x : Stand) (around : ℕ) (v : Waveform) (ph : Phase) (gs : List Given) (limit : length s ≤ octetsLimit) (silent : Silent v) (p : Resumes s n x around gs) where
   -- Where an end inside the item is 3.
   abbrev pub cutHere : ℕ
   cutHere = cutAt (withinOf x) (x .cursor .at) around
@@ -229,13 +246,13 @@ module _ (s : List ℕ) (n : ℕ) (x : Stand) (around : ℕ) (v : Waveform) (ph 
           → ((t : List ℕ) → Whole w (length (s ++ t)) → length (s ++ t) < length s + left → unlimited (s ++ t) ≡ refused (refusal pastEnd (cutAt w (x .cursor .at) around)))
           → Follows s gs (waiting (lastsIn w n left) r (link n x (cutAt w (x .cursor .at) around) v ph))
       by Within.Root c i f g =
-          waiting-follows s gs (link n x (x .cursor .at) v ph) left r limit (record { counts = p .counts; cuts = λ t k. g t tt k; sure = λ h t k. f h t tt k })
+          waiting-follows s gs (link n x (x .cursor .at) v ph) left r limit silent (record { counts = p .counts; cuts = λ t k. g t tt k; sure = λ h t k. f h t tt k })
       by (Within.Definite channel end) c i f g =
-          waiting-follows s gs (link n x around v ph) (end - n) r limit
+          waiting-follows s gs (link n x around v ph) (end - n) r limit silent
           (record {
             counts = p .counts;
             cuts = λ t k. c t (omega (arith, p .counts));
             sure = λ h t k. f (omega (arith, p .counts)) t (omega (arith, p .counts)) (omega (arith, p .counts));
           })
       by (Within.Open channel place) c i f g =
-          waiting-follows s gs (link n x (x .cursor .at) v ph) left r limit (record { counts = p .counts; cuts = λ t k. g t tt k; sure = λ h t k. f h t tt k })
+          waiting-follows s gs (link n x (x .cursor .at) v ph) left r limit silent (record { counts = p .counts; cuts = λ t k. g t tt k; sure = λ h t k. f h t tt k })

@@ -7,3 +7,5 @@ pub mod Follows
 pub mod Waves
 pub mod Steps
 pub mod Fed
+pub mod Results
+pub mod Feeds

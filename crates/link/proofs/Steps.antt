@@ -10,6 +10,7 @@ use Prim.Native.Nat.{ℕ, zero, suc, _+_, _-_, _≤_, _<_}
 use mathlib.Core.Path.{_≡_, refl, sym, _∙_, ap, subst}
 use mathlib.Core.List.{List, [], _∷_, _++_, append-nil, append-assoc}
 use mathlib.Core.Bool.{Bool, true, false}
+use mathlib.Core.Logic.{inl, inr}
 use native.Mathlib.Omega.{arith}
 use native.Mathlib.Decide.{decLt}
 use borrow.Author.Tests.{ltb-true, ltb-false, lt-leb}
@@ -45,14 +46,14 @@ use Rattle.walk.specs.declared.Waveform.{Waveform}
 use Rattle.walk.specs.declared.Step.{Step}
 use Rattle.walk.specs.Advance.{Stand, stop, Turn, on, stops, effectTurn, nextTurn, turnOf}
 use Rattle.walk.specs.Joined.{frameBy}
-use Rattle.walk.proofs.Joins.{Stands, TurnStands}
+use Rattle.walk.proofs.Joins.{Stands, Counts, TurnStands}
 use Rattle.link.specs.Link.{Coming, Given, Phase, head, Link, link, cutAt, waiting, condemned, firstComing, waved, stoppedAt, turnedBy, keptLimit, itemAt, withinAfter, doneItem, groupBegins, effected}
 use Rattle.link.specs.Order.{sampleGiven, samplesGiven, framesGiven}
 use Rattle.link.proofs.Seen.{endsIn, Whole, Inside, longer, next-faulty, next-wanting, next-fits, next-past, next-definite, next-definite-past, next-open}
 use Rattle.link.proofs.Item.{Plainly, itemFound, found-item, found-place, value-is, keptOf, effect-same, after-same, effect-frame, effect-bare, group-bare}
 use Rattle.link.proofs.Rest.{rest, rest-first, rest-past}
 use Rattle.link.proofs.Arrives.{Good, ArrivesAt, arrives-first, rest-none}
-use Rattle.link.proofs.Follows.{withinOf, Cut, Resumes, fault-is, found-is, TurnsTo, turns-to, InHead, Begun, channelsBy, InWave, Sure, Follows, waiting-follows, cutHere, condemned-follows}
+use Rattle.link.proofs.Follows.{withinOf, Cut, Resumes, fault-is, found-is, TurnsTo, turns-to, Silent, Last, Tells, InHead, Begun, channelsBy, InWave, Sure, Follows, waiting-follows, cutHere, condemned-follows}
 
 -- ---- the next item begins
 
@@ -69,12 +70,12 @@ inside-less (Within.Open channel place) m n h i = tt
 
 module _ (s : List ℕ) (n : ℕ) (y : Stand) (around : ℕ) (v : Waveform) (gs : List Given) where
   -- What is known where an item has led on to y.
-  pub next-follows : (c : Cursor) (met : List Frame) → gs ≡ framesGiven met → n ≡ length s → y .cursor ≡ c → c .at ≡ length s → y .frames ≡ length met
+  pub next-follows : (c : Cursor) (met : List Frame) → Tells s v y met → gs ≡ framesGiven met → n ≡ length s → y .cursor ≡ c → c .at ≡ length s → y .frames ≡ length met
       → ((t : List ℕ) → Whole (standsIn (c .at) (c .within)) (length (s ++ t)) → Stands (s ++ t) met y)
       → ((t : List ℕ) → Cut (standsIn (c .at) (c .within)) (length (s ++ t)) → unlimited (s ++ t) ≡ refused (refusal pastEnd around))
       → Follows s gs (link n y around v (head []))
   unfolding formOf
-  next-follows c met out counts is here many stands cut =
+  next-follows c met tells out counts is here many stands cut =
       let at : y .cursor .at ≡ length s = ap (λ (d : Cursor). d .at) is ∙ here in
       let goes : Inside (withinOf y) (suc (length s)) = subst (λ (k : ℕ). Inside (withinOf y) (suc k)) at (stands-below (y .cursor .at) (y .cursor .within)) in
       record {
@@ -89,6 +90,7 @@ module _ (s : List ℕ) (n : ℕ) (y : Stand) (around : ℕ) (v : Waveform) (gs 
               stands = λ t h. stands t (subst (λ (d : Cursor). Whole (standsIn (d .at) (d .within)) (length (s ++ t))) is h);
               cut = λ t h. cut t (subst (λ (d : Cursor). Cut (standsIn (d .at) (d .within)) (length (s ++ t))) is h);
             };
+        tells = tells;
         octets = drop-of-length-le s {i = y .cursor .at} (omega (arith, at));
         wants = refl;
         goes = goes;
@@ -154,9 +156,19 @@ module _ (s : List ℕ) (n : ℕ) (y : Stand) (around : ℕ) (v : Waveform) (gs 
       ∙ ap (λ (r : List Given). p .here ++ r) none-there
       ∙ append-nil (p .here))
 
+  last : Last s v y (p .met ++ (frameNow s v y ∷ []))
+  last =
+      let end : length s + 0 ≡ length s = omega arith in
+      record {
+        before = p .met;
+        is = refl;
+        counted = subst (λ (u : List ℕ). Counts v (frameBy u v y)) alone (p .stands [] (rw alone (omega arith)) .1);
+        here = p .behind ∙ ap (λ (k : ℕ). cursor k Root) end;
+      }
+
   over-follows : Follows s gs (link n y around v (head []))
   over-follows =
-      next-follows s n y around v gs (cursor (length s + 0) Root) (p .met ++ (frameNow s v y ∷ []))
+      next-follows s n y around v gs (cursor (length s + 0) Root) (p .met ++ (frameNow s v y ∷ [])) (inr last)
       (p .out ∙ ap (λ (l : List Given). framesGiven (p .met) ++ l) all-given ∙ sym (frames-more (p .met) (frameNow s v y)))
       (p .counts) (p .behind) (omega arith)
       (p .many ∙ sym (length-append (p .met) (frameNow s v y ∷ [])))
@@ -206,7 +218,7 @@ frameLength (Effect.Refused n) = 0
 
 -- ---- an item that is no waveform
 
-module _ (s : List ℕ) (n : ℕ) (x : Stand) (around : ℕ) (v : Waveform) (ph : Phase) (gs : List Given) (limit : length s ≤ octetsLimit) (p : Resumes s n x around gs) where
+module _ (s : List ℕ) (n : ℕ) (x : Stand) (around : ℕ) (v : Waveform) (ph : Phase) (gs : List Given) (limit : length s ≤ octetsLimit) (silent : Silent v) (p : Resumes s n x around gs) where
   abbrev at : ℕ
   at = x .cursor .at
 
@@ -214,7 +226,7 @@ module _ (s : List ℕ) (n : ℕ) (x : Stand) (around : ℕ) (v : Waveform) (ph 
   w = withinOf x
 
   abbrev pub cutPlace : ℕ
-  cutPlace = cutHere s n x around v ph gs limit p
+  cutPlace = cutHere s n x around v ph gs limit silent p
 
   abbrev pub markedHere : Link
   markedHere = link n x cutPlace v ph
@@ -237,11 +249,11 @@ module _ (s : List ℕ) (n : ℕ) (x : Stand) (around : ℕ) (v : Waveform) (ph 
           → ((t : List ℕ) → Whole w (length (s ++ t)) → length s + left ≤ length (s ++ t) → TurnStands (s ++ t) (p .met) at (stops (stop k y))) → Follows s gs (stoppedAt left k y markedHere)
       by-step (Step.Frame u) y to f = absurd (q .bare (u .place) (u .len) (to .0))
       by-step Step.Ended y to f = absurd to
-      by-step (Step.Refused r) y to f = condemned-follows s n x around v ph gs limit p left r (q .fits) (λ _ t h k. sym (f t h k)) (q .cuts)
+      by-step (Step.Refused r) y to f = condemned-follows s n x around v ph gs limit silent p left r (q .fits) (λ _ t h k. sym (f t h k)) (q .cuts)
 
       by : (z : Turn) → TurnsTo x c at e z → ((t : List ℕ) → Whole w (length (s ++ t)) → length s + left ≤ length (s ++ t) → TurnStands (s ++ t) (p .met) at z) → Follows s gs (turnedBy left z markedHere)
       by (on y) to f =
-          next-follows s n y cutPlace v gs c (p .met) (p .out) (p .counts) (to .1) (q .here) (to .2 ∙ p .many)
+          next-follows s n y cutPlace v gs c (p .met) (inl silent) (p .out) (p .counts) (to .1) (q .here) (to .2 ∙ p .many)
           (λ t h. let g = q .after t h in f t (g .0) (g .1)) (q .cut)
       by (stops z) to f = by-step (z .step) (z .at) to f
 
@@ -471,12 +483,12 @@ module _ (s : List ℕ) (n : ℕ) (x : Stand) (around : ℕ) (v : Waveform) (ph 
               → (n + len ≤ octetsLimit → (t : List ℕ) → length s + len ≤ length (s ++ t) → TurnStands (s ++ t) (p .met) at (stops (stop k y))) → Follows s gs (stoppedAt len k y markedHere)
           by-step (Step.Frame u) y to known =
               pick-cases (Follows s gs) (ltb octetsLimit (n + len))
-              (λ e. waiting-follows s gs markedHere len (refusal longFile 0) limit
+              (λ e. waiting-follows s gs markedHere len (refusal longFile 0) limit silent
               (record { counts = p .counts; cuts = wave-cut; sure = λ h t k. let z : ⊥ = omega (arith, ltb-true octetsLimit (n + len) e, p .counts) in absurd z }))
               (λ e. let near = ltb-false octetsLimit (n + len) e in taken-follows u y to (known near) near)
           by-step Step.Ended y to known = absurd to
           by-step (Step.Refused r) y to known =
-              condemned-follows s n x around v ph gs limit p len r (rw outside tt) (λ h t _ k. sym (known (omega (arith, p .counts)) t k)) (λ t _ k. wave-cut t k)
+              condemned-follows s n x around v ph gs limit silent p len r (rw outside tt) (λ h t _ k. sym (known (omega (arith, p .counts)) t k)) (λ t _ k. wave-cut t k)
 
           by : (z : Turn) → TurnsTo x behind-wave at (Effect.Frame n len) z
               → (n + len ≤ octetsLimit → (t : List ℕ) → length s + len ≤ length (s ++ t) → TurnStands (s ++ t) (p .met) at z) → Follows s gs (turnedBy len z markedHere)
@@ -488,5 +500,5 @@ module _ (s : List ℕ) (n : ℕ) (x : Stand) (around : ℕ) (v : Waveform) (ph 
   -- What stands there is a fault, for each file that has the group around.
   pub fault-follows : (r : Refusal) → ((t : List ℕ) → Whole w (length (s ++ t)) → nextOf (s ++ t) (x .cursor) ≡ Next.Refused r) → Follows s gs (condemned 0 r markedHere)
   fault-follows r f =
-      condemned-follows s n x around v ph gs limit p 0 r (inside-less w (length s + 0) (length s) (omega arith) (p .inside)) (λ _ t h _. fault-is (p .stands t h) (f t h))
+      condemned-follows s n x around v ph gs limit silent p 0 r (inside-less w (length s + 0) (length s) (omega arith) (p .inside)) (λ _ t h _. fault-is (p .stands t h) (f t h))
       (λ t _ k. let z : ⊥ = omega (arith, longer s t) in absurd z)
