@@ -319,22 +319,22 @@ fed-follows s h = fed-from [] s [] firstLink h first-follows
 -- ---- the end
 
 -- Where nothing is left of the file.
-nothing-left : (s : List ℕ) (at : ℕ) (w : Within) → length s ≤ at → length (extent s at w) ≡ 0
+pub nothing-left : (s : List ℕ) (at : ℕ) (w : Within) → length s ≤ at → length (extent s at w) ≡ 0
 nothing-left s at Within.Root h = rw length-drop (omega arith)
 nothing-left s at (Within.Definite channel end) h = rw (length-take, length-drop) (omega arith)
 nothing-left s at (Within.Open channel place) h = rw length-drop (omega arith)
 
 -- What the end of the file means where the walk stands, if the group around is whole.
-end-next : {s : List ℕ} {met : List Frame} {x : Stand} → Stands s met x → nextOf s (x .cursor) ≡ End → unlimited s ≡ accepted met
+pub end-next : {s : List ℕ} {met : List Frame} {x : Stand} → Stands s met x → nextOf s (x .cursor) ≡ End → unlimited s ≡ accepted met
 unfolding turnOf nextTurn
 end-next {s} {met} {x} p e = sym (subst (λ (n : Next). TurnStands s met (x .cursor .at) (nextTurn s x n)) e (turn-stands p (subst (Near p) (sym e) tt)))
 
 -- What is claimed of s with nothing behind it is claimed of s.
-alone : (P : List ℕ → Type 0) (s : List ℕ) → P (s ++ []) → P s
+pub alone : (P : List ℕ → Type 0) (s : List ℕ) → P (s ++ []) → P s
 alone P s h = subst P (append-nil s) h
 
 -- Outside groups the file is accepted.
-ended-accepted : (s : List ℕ) (n : ℕ) (x : Stand) (around : ℕ) (v : Waveform) (gs : List Given) (q : InHead s n x around v gs []) → withinOf x ≡ Root → unlimited s ≡ accepted (q .resumes .met)
+pub ended-accepted : (s : List ℕ) (n : ℕ) (x : Stand) (around : ℕ) (v : Waveform) (gs : List Given) (q : InHead s n x around v gs []) → withinOf x ≡ Root → unlimited s ≡ accepted (q .resumes .met)
 ended-accepted s n x around v gs q e =
     let p = q .resumes in
     let past : length s ≤ x .cursor .at = omega (arith, ap length (q .octets), length-drop (x .cursor .at) s, p .before) in

@@ -8,4 +8,5 @@ pub mod Waves
 pub mod Steps
 pub mod Fed
 pub mod Results
+pub mod Told
 pub mod Feeds
