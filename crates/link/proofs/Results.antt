@@ -1,5 +1,5 @@
 -- What comes of feeding a file (document 02, request 3).
---     fed-pieces, given-pieces    wherever the cuts fall
+--     fed-pieces, given-pieces, joined-pieces    wherever the cuts fall
 --     fed-check       the end answers as the whole-file reader does
 --     fed-settled     a refusal that is given is settled: every longer file has it
 --     fed-decided     after an answer nothing changes and nothing is given out
@@ -28,6 +28,7 @@ use Rattle.verdict.proofs.Keeps.{within-limit}
 use Rattle.walk.specs.Advance.{Stand}
 use Rattle.link.specs.Link.{Given, Phase, head, value, waveform, waits, decided, Link, firstLink, refusedIn, counted, takenIn, isDecided, stepped, fedWith, givesIn, gives, givenBy, endIn, endOf}
 use Rattle.link.specs.Order.{framesGiven}
+use Rattle.link.specs.Feed.{joined, fedPieces, givenPieces}
 use Rattle.link.proofs.Follows.{withinOf, FollowsIn, Follows}
 use Rattle.link.proofs.Fed.{follows-counts, fed-follows, end-follows, accepted-given}
 
@@ -43,6 +44,13 @@ unfolding givenBy fedWith
 given-pieces l [] u = refl
 given-pieces l (b ∷ s) u =
     ap (λ (g : List Given). gives l b ++ g) (given-pieces (stepped l b) s u) ∙ sym (append-assoc (gives l b) (givenBy (stepped l b) s) (givenBy (fedWith (stepped l b) s) u))
+
+pub joined-pieces : (l : Link) (ps : List (List ℕ)) → (fedPieces l ps ≡ fedWith l (joined ps)) × (givenPieces l ps ≡ givenBy l (joined ps))
+unfolding fedPieces givenPieces joined fedWith givenBy
+joined-pieces l [] = (refl, refl)
+joined-pieces l (p ∷ ps) =
+    let q = joined-pieces (fedWith l p) ps in
+    (q .0 ∙ sym (fed-pieces l p (joined ps)), ap (λ (g : List Given). givenBy l p ++ g) (q .1) ∙ sym (given-pieces l p (joined ps)))
 
 -- ---- the end
 

@@ -1,5 +1,6 @@
 -- The settings that are given out are those of the file up to the waveform's end.
---     told-right    the attributes that a link answers while its frame is told
+--     told-last     while a frame is told, the file up to the waveform's end is accepted, and that frame is its last
+--     told-right    the attributes that the link then answers
 -- Assumes nothing.
 use Prim.Native.Nat.{ℕ, zero, suc, _+_, _-_, _≤_, _<_}
 use mathlib.Core.Path.{_≡_, refl, sym, _∙_, ap, subst}
@@ -57,8 +58,58 @@ ends-there {w} {met} {y} p e =
     (sym (next-none w (y .cursor) Root (extent w (y .cursor .at) Root) (sym (ap (λ (c : Cursor). standsIn (c .at) (c .within)) e)) refl (nothing-left w (y .cursor .at) Root (omega (arith, at)))))
 
 -- The last frame of a file is the one that is told.
-module _ (w : List ℕ) (before : List Frame) (l : Link) (limit : length w ≤ octetsLimit) (some : 0 < l .frame .channels)
-    (e : unlimited w ≡ accepted (before ++ (frameBy w (l .frame) (l .stand) ∷ []))) (counted : Counts (l .frame) (frameBy w (l .frame) (l .stand))) (channel : ℕ) where
+pub record ToldLast (w : List ℕ) (l : Link) : Type 0 where
+  pub before : List Frame
+  pub many : l .stand .frames ≡ length before + 1
+  pub accepts : verdict w ≡ accepted (before ++ (frameBy w (l .frame) (l .stand) ∷ []))
+  pub counted : Counts (l .frame) (frameBy w (l .frame) (l .stand))
+
+-- While a frame is told, the file up to the waveform's end is accepted, and that frame is its last.
+pub told-last : (s u : List ℕ) → length (s ++ u) ≤ octetsLimit → 0 < fedWith firstLink s .frame .channels → length u ≡ leftIn (fedWith firstLink s .phase) → ToldLast (s ++ u) (fedWith firstLink s)
+told-last s u limit some long = by (l .phase) refl (fed-follows s (omega (arith, length-append s u)))
+  where
+    l : Link
+    l = fedWith firstLink s
+
+    x : Stand
+    x = l .stand
+
+    by : (p : Phase) → l .phase ≡ p → FollowsIn s (l .count) x (l .around) (l .frame) (givenBy firstLink s) p → ToldLast (s ++ u) l
+    by (head p) e q = by-tells (q .tells)
+      where
+        by-tells : Tells s (l .frame) x (q .resumes .met) → ToldLast (s ++ u) l
+        by-tells (inl z) = let w : ⊥ = omega (arith, z) in absurd w
+        by-tells (inr k) =
+            let r = q .resumes in
+            let is : s ≡ s ++ u = sym (ap (λ (z : List ℕ). s ++ z) (none-long u (long ∙ ap leftIn e)) ∙ append-nil s) in
+            let root : withinOf x ≡ Root = ap (λ (c : Cursor). standsIn (c .at) (c .within)) (k .here) in
+            let stands = alone (λ (z : List ℕ). Stands z (r .met) x) s (r .stands [] (rw root tt)) in
+            record {
+              before = k .before;
+              many = r .many ∙ ap length (k .is) ∙ length-append (k .before) (frameBy s (l .frame) x ∷ []);
+              accepts = within-limit (s ++ u) limit
+                  ∙ subst (λ (z : List ℕ). unlimited z ≡ accepted (k .before ++ (frameBy z (l .frame) x ∷ []))) is (ends-there stands (k .here) ∙ ap accepted (k .is));
+              counted = subst (λ (z : List ℕ). Counts (l .frame) (frameBy z (l .frame) x)) is (k .counted);
+            }
+    by (value tag left kept) e q = let z : ⊥ = omega (arith, q .silent) in absurd z
+    by (waveform left t) e q =
+        let n : length u ≡ left = long ∙ ap leftIn e in
+        let far : length s + left ≤ length (s ++ u) = omega (arith, length-append s u) in
+        let end : length s + left ≡ length (s ++ u) = omega (arith, length-append s u) in
+        let p = q .0 in
+        let k = p .stands u far in
+        record {
+          before = p .met;
+          many = p .many;
+          accepts = within-limit (s ++ u) limit ∙ ends-there (k .0) (p .behind ∙ ap (λ (i : ℕ). cursor i Root) end);
+          counted = k .1;
+        }
+    by (waits left r) e q = let z : ⊥ = omega (arith, q .2) in absurd z
+    by (decided a) e q = let z : ⊥ = omega (arith, q .1) in absurd z
+
+-- ---- what is told of it
+
+module _ (w : List ℕ) (l : Link) (p : ToldLast w l) (some : 0 < l .frame .channels) (channel : ℕ) where
   abbrev v : Waveform
   v = l .frame
 
@@ -69,57 +120,19 @@ module _ (w : List ℕ) (before : List Frame) (l : Link) (limit : length w ≤ o
       → pick x (answered (attributesIn channel f)) (refusedAs noChannel 0) ≡ pick x (answered (attributesWith (v .start) (v .channels) (v .sequences) (reported (settingsIn l channel)))) (refusedAs noChannel 0)
   unfolding attributesIn
   answer-is true h =
-      let k : channel < length (channelsBy v (l .stand)) = omega (arith, ltb-true channel (v .channels) h, counted .channels) in
-      λ i. answered (attributesWith (v .start) (sym (counted .channels) i) (v .sequences) (reported (sym (settings-is (v .channels) (l .stand .records) channel k) i)))
+      let c = p .counted .channels in
+      let k : channel < length (channelsBy v (l .stand)) = omega (arith, ltb-true channel (v .channels) h, c) in
+      λ i. answered (attributesWith (v .start) (sym c i) (v .sequences) (reported (sym (settings-is (v .channels) (l .stand .records) channel k) i)))
   answer-is false h = refl
 
-  last-told : attributesOf w (length before) channel ≡ settingsTold l channel
+  -- The attributes that the link answers are those of the file's last frame.
+  pub told-right : attributesOf w (l .stand .frames - 1) channel ≡ settingsTold l channel
   unfolding attributesOf settingsTold
-  last-told =
+  told-right =
+      let before = p .before in
+      let n : l .stand .frames - 1 ≡ length before = omega (arith, p .many) in
       let a : length before < length (before ++ (f ∷ [])) = rw length-append (omega arith) in
       let d : getD (before ++ (f ∷ [])) (length before) zeroFrame ≡ f = getD-append-seam before f [] zeroFrame in
-      ap (asked (λ g. answered (attributesIn channel g)) (length before) channel) (within-limit w limit ∙ e)
+      (λ i. asked (λ g. answered (attributesIn channel g)) (n i) channel (p .accepts i))
       ∙ simp (lt-ltb (length before) (length (before ++ (f ∷ []))) a, d, lt-ltb 0 (v .channels) some)
-      (ap (λ (k : ℕ). pick (ltb channel k) (answered (attributesIn channel f)) (refusedAs noChannel 0)) (sym (counted .channels)) ∙ answer-is (ltb channel (v .channels)) refl)
-
--- While a frame is told, the link answers the attributes that the file up to the waveform's end has.
-pub told-right : (s u : List ℕ) (channel : ℕ) → length (s ++ u) ≤ octetsLimit → 0 < fedWith firstLink s .frame .channels → length u ≡ leftIn (fedWith firstLink s .phase)
-    → attributesOf (s ++ u) (fedWith firstLink s .stand .frames - 1) channel ≡ settingsTold (fedWith firstLink s) channel
-told-right s u channel limit some long = by (l .phase) refl (fed-follows s (omega (arith, length-append s u)))
-  where
-    l : Link
-    l = fedWith firstLink s
-
-    x : Stand
-    x = l .stand
-
-    -- The frame's number.
-    told-at : (before : List Frame) → x .frames ≡ length before + 1 → unlimited (s ++ u) ≡ accepted (before ++ (frameBy (s ++ u) (l .frame) x ∷ [])) → Counts (l .frame) (frameBy (s ++ u) (l .frame) x)
-        → attributesOf (s ++ u) (x .frames - 1) channel ≡ settingsTold l channel
-    told-at before n e c =
-        let k : x .frames - 1 ≡ length before = omega arith in
-        ap (λ (i : ℕ). attributesOf (s ++ u) i channel) k ∙ last-told (s ++ u) before l limit some e c channel
-
-    by : (p : Phase) → l .phase ≡ p → FollowsIn s (l .count) x (l .around) (l .frame) (givenBy firstLink s) p → attributesOf (s ++ u) (x .frames - 1) channel ≡ settingsTold l channel
-    by (head p) e q = by-tells (q .tells)
-      where
-        by-tells : Tells s (l .frame) x (q .resumes .met) → attributesOf (s ++ u) (x .frames - 1) channel ≡ settingsTold l channel
-        by-tells (inl z) = let w : ⊥ = omega (arith, z) in absurd w
-        by-tells (inr k) =
-            let r = q .resumes in
-            let is : s ≡ s ++ u = sym (ap (λ (z : List ℕ). s ++ z) (none-long u (long ∙ ap leftIn e)) ∙ append-nil s) in
-            let root : withinOf x ≡ Root = ap (λ (c : Cursor). standsIn (c .at) (c .within)) (k .here) in
-            let stands = alone (λ (z : List ℕ). Stands z (r .met) x) s (r .stands [] (rw root tt)) in
-            told-at (k .before) (r .many ∙ ap length (k .is) ∙ length-append (k .before) (frameBy s (l .frame) x ∷ []))
-            (subst (λ (z : List ℕ). unlimited z ≡ accepted (k .before ++ (frameBy z (l .frame) x ∷ []))) is (ends-there stands (k .here) ∙ ap accepted (k .is)))
-            (subst (λ (z : List ℕ). Counts (l .frame) (frameBy z (l .frame) x)) is (k .counted))
-    by (value tag left kept) e q = let z : ⊥ = omega (arith, q .silent) in absurd z
-    by (waveform left t) e q =
-        let n : length u ≡ left = long ∙ ap leftIn e in
-        let far : length s + left ≤ length (s ++ u) = omega (arith, length-append s u) in
-        let end : length s + left ≡ length (s ++ u) = omega (arith, length-append s u) in
-        let p = q .0 in
-        let k = p .stands u far in
-        told-at (p .met) (p .many) (ends-there (k .0) (p .behind ∙ ap (λ (i : ℕ). cursor i Root) end)) (k .1)
-    by (waits left r) e q = let z : ⊥ = omega (arith, q .2) in absurd z
-    by (decided a) e q = let z : ⊥ = omega (arith, q .1) in absurd z
+      (ap (λ (k : ℕ). pick (ltb channel k) (answered (attributesIn channel f)) (refusedAs noChannel 0)) (sym (p .counted .channels)) ∙ answer-is (ltb channel (v .channels)) refl)

@@ -6,7 +6,7 @@ use mathlib.Core.Bool.{Bool}
 use lib.ListN.{length}
 use lib.Dec.{ltb}
 use Rattle.octets.specs.Pick.{pick, either}
-use Rattle.link.specs.Link.{Link, isDecided, stepped, Given, gives}
+use Rattle.link.specs.Link.{Link, isDecided, stepped, fedWith, Given, gives, givenBy}
 
 -- How many octets are taken, what is held behind them, and what they gave out.
 pub record Fed : Type 0 where
@@ -34,3 +34,19 @@ feedOf room l (b ∷ s) =
     (pick (ltb room (length (gives l b))) (fed 0 l [])
     (pick (either (isDecided (stepped l b .phase)) (due l b)) (fed 1 (stepped l b) (gives l b))
     (onto (gives l b) rest)))
+
+-- ---- pieces
+
+-- Pieces joined together.
+unfoldable pub joined : List (List ℕ) → List ℕ
+joined [] = []
+joined (p ∷ ps) = p ++ joined ps
+
+-- What is held after pieces that were fed one after the other, and what they gave out.
+unfoldable pub fedPieces : Link → List (List ℕ) → Link
+fedPieces l [] = l
+fedPieces l (p ∷ ps) = fedPieces (fedWith l p) ps
+
+unfoldable pub givenPieces : Link → List (List ℕ) → List Given
+givenPieces l [] = []
+givenPieces l (p ∷ ps) = givenBy l p ++ givenPieces (fedWith l p) ps
