@@ -10,3 +10,4 @@ pub mod Fed
 pub mod Results
 pub mod Told
 pub mod Feeds
+pub mod Cases
