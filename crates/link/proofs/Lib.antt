@@ -10,4 +10,5 @@ pub mod Fed
 pub mod Results
 pub mod Told
 pub mod Feeds
+pub mod Right
 pub mod Cases
