@@ -240,7 +240,7 @@ module _ {s d : List ℕ} {x : Stand} {at : ℕ} {e : List ℕ} (p : Writing s d
         → Putting e at (frameGiven (narrowed (v .start)) (v .little) (v .sequences) (take (min (v .channels) channelLimit) (held (y .records))) w) at' e' → Writing s d y at' e'
     unfolding octetsThere
     writing-frame {w} {at'} {e'} o ew q =
-        let full = held-long (y .records) ∙ after .full in
+        let full = held-long (y .records) ∙ after .stands .full in
         let x = valueAt s (v .place) (v .len) in
         let given : (u : List ℕ) → List Settings → List ℕ = λ u cs. frameGiven (narrowed (v .start)) (v .little) (v .sequences) cs u in
         let q' = subst (λ (u : List ℕ). Putting e at u at' e') (λ i. given (ew i) (take-few (v .channels) (held (y .records)) full i)) q in

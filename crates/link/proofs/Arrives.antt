@@ -16,7 +16,6 @@ use borrow.Author.Tests.{ltb-true, ltb-false}
 use lib.Dec.{ltb}
 use lib.ListN.{length, drop, length-append}
 use lib.Seq.{drop-append-le, drop-length, take-length}
-use Rattle.octets.specs.Pick.{pick}
 use Rattle.octets.proofs.Pick.{pick-cases}
 use Rattle.settings.specs.declared.Settings.{Settings}
 use Rattle.layout.specs.Frame.{widthIn, blockOctets, sequenceOctets, octetsBelow, channelIn, offsetOf}

@@ -6,12 +6,11 @@ use Prim.Native.Nat.{ℕ, _-_}
 use mathlib.Core.Path.{_≡_, refl}
 use mathlib.Core.Bool.{Bool, true, false}
 use mathlib.Core.List.{List, [], _∷_, map}
-use lib.IntN.{pos}
 use lib.ListN.{length, take}
 use Rattle.octets.specs.Number.{bigFrom, littleOf, numberOf, twos}
 use Rattle.heads.specs.Answer.{Answer, answered, refusedAs}
 use Rattle.heads.specs.Head.{channelOf, lengthOf, unknownContext, rootOnly, primitiveForm, groupLength, groupForm, formOf}
-use Rattle.values.specs.Sample.{widthOf, isNull, plainOf, valueOf, wholeSaid}
+use Rattle.values.specs.Sample.{widthOf, isNull, plainOf, valueOf}
 use Rattle.dated.specs.Dated.{settledAt, settledIn, refreshed}
 use Rattle.definitions.specs.Define.{tagged, defined}
 use Rattle.layout.specs.Frame.{blockOctets, sequenceOctets, widthAgrees, channelAgrees, allAgree}

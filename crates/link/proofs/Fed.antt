@@ -15,34 +15,31 @@ use borrow.Author.Tests.{ltb-true, ltb-false, eqb-true, eqb-false, lt-leb}
 use lib.Dec.{ltb, leb, eqb}
 use lib.ListN.{length, take, drop, length-append, length-take, length-drop, drop-of-length-le}
 use lib.Seq.{take-nil}
-use Rattle.octets.specs.Pick.{pick, both}
-use Rattle.octets.proofs.Pick.{pick-cases, either-true}
+use Rattle.octets.proofs.Pick.{pick-cases}
 use Rattle.heads.specs.declared.Refusal.{Refusal}
 use Rattle.heads.specs.declared.Form.{Form}
 use Rattle.heads.specs.Head.{rootOnly, formOf}
-use Rattle.heads.specs.Refusals.{pastEnd, unendedGroup, longFile}
+use Rattle.heads.specs.Refusals.{pastEnd}
 use Rattle.heads.specs.Answer.{Answer, answered, refusedAs}
 use Rattle.heads.proofs.Forms.{FormKept, form-keeps, FormExact, form-exact, Allowed, inside-allowed}
 use Rattle.items.specs.declared.Within.{Within}
 use Rattle.items.specs.declared.Within.the-variants.{Root}
 use Rattle.items.specs.declared.Next.{Next}
 use Rattle.items.specs.declared.Next.the-variants.{End}
-use Rattle.items.specs.Walk.{refusal, cursor, standsIn, isInside, extent, ended, nextOf}
+use Rattle.items.specs.Walk.{refusal, cursor, isInside, extent, ended, nextOf}
 use Rattle.items.proofs.Walks.{next-none}
 use Rattle.layout.specs.Frame.{Frame}
 use Rattle.standing.specs.Standing.{octetsLimit}
-use Rattle.effects.specs.declared.Effect.{Effect}
 use Rattle.verdict.specs.Verdict.{Verdict, accepted, refused, unlimited, checkedAs}
 use Rattle.walk.specs.declared.Waveform.{Waveform}
 use Rattle.walk.specs.Advance.{Stand, firstStand, nextTurn, turnOf}
-use Rattle.walk.specs.Joined.{frameBy}
-use Rattle.walk.proofs.Joins.{Stands, Counts, TurnStands, Near, turn-stands, stands-first}
+use Rattle.walk.proofs.Joins.{Stands, TurnStands, Near, turn-stands, stands-first}
 use Rattle.walking.specs.Steps.{noWaveform}
-use Rattle.link.specs.Link.{Given, Phase, head, value, waveform, waits, decided, Link, link, firstLink, cutAt, waiting, condemned, waved, valued, doneItem, keptLimit, primitiveBegins, confined, seenIn, headed, counted, takenIn, isDecided, stepped, fedWith, givesIn, gives, givenBy, endedIn, endIn, endOf}
+use Rattle.link.specs.Link.{Given, Phase, head, value, waveform, waits, decided, Link, link, firstLink, cutAt, waiting, valued, doneItem, keptLimit, primitiveBegins, confined, seenIn, headed, counted, takenIn, isDecided, stepped, fedWith, givesIn, gives, givenBy, endedIn, endIn, endOf}
 use Rattle.link.specs.Order.{framesGiven}
 use Rattle.link.proofs.Seen.{endsIn, Whole, Inside, tailOf, longer, next-faulty, next-wanting, next-past}
 use Rattle.link.proofs.Item.{Plainly}
-use Rattle.link.proofs.Follows.{withinOf, Cut, Resumes, fault-is, Silent, InHead, Begun, InValue, InWave, Sure, Settled, FollowsIn, Follows, waiting-follows}
+use Rattle.link.proofs.Follows.{withinOf, Cut, Resumes, fault-is, Silent, InHead, Begun, InValue, Sure, Settled, FollowsIn, Follows, waiting-follows}
 use Rattle.link.proofs.Grown.{grown, grown-long, to-grown, of-grown, drop-grown}
 use Rattle.link.proofs.Waves.{wave-on}
 use Rattle.link.proofs.Steps.{inside-less, next-follows, waved-follows, done-follows, definite-follows, open-follows, wave-follows, fault-follows}
@@ -209,7 +206,7 @@ module _ (s : List ℕ) (b : ℕ) where
       }
 
 -- The first octets of a value stay the first.
-kept-on : (k : ℕ) (u t : List ℕ) → take k (take k u ++ t) ≡ take k (u ++ t)
+pub kept-on : (k : ℕ) (u t : List ℕ) → take k (take k u ++ t) ≡ take k (u ++ t)
 kept-on zero u t = refl
 kept-on (suc k) [] t = refl
 kept-on (suc k) (a ∷ u) t = ap (λ (r : List ℕ). a ∷ r) (kept-on k u t)

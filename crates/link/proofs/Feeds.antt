@@ -1,8 +1,8 @@
 -- One call of the feed.
 --     feed-feeds    it takes a front of the octets, leaves what feeding those leaves, and gives out what they give, no more than there is room for
 -- Assumes nothing.
-use Prim.Native.Nat.{ℕ, zero, suc, _+_, _-_, _≤_}
-use mathlib.Core.Path.{_≡_, refl, sym, _∙_, ap}
+use Prim.Native.Nat.{ℕ, _+_, _-_, _≤_}
+use mathlib.Core.Path.{_≡_, refl, sym, ap}
 use mathlib.Core.List.{List, [], _∷_, _++_, append-nil}
 use native.Mathlib.Omega.{arith}
 use borrow.Author.Tests.{ltb-false}
@@ -11,7 +11,7 @@ use lib.ListN.{length, take, length-append}
 use Rattle.octets.specs.Pick.{either}
 use Rattle.octets.proofs.Pick.{pick-cases}
 use Rattle.link.specs.Link.{Link, isDecided, stepped, fedWith, Given, gives, givenBy}
-use Rattle.link.specs.Feed.{Fed, fed, due, onto, feedOf}
+use Rattle.link.specs.Feed.{Fed, fed, due, feedOf}
 
 pub record Feeds (room : ℕ) (l : Link) (s : List ℕ) (f : Fed) : Type 0 where
   pub taken : f .taken ≤ length s

@@ -5,23 +5,20 @@
 --     end-follows   the answer, if the file ends here
 -- Inside an item nothing moves: the claim stays that of the item's tag.
 -- Assumes nothing.
-use Prim.Native.Nat.{ℕ, zero, suc, _+_, _-_, _≤_, _<_}
-use mathlib.Core.Path.{_≡_, refl, sym, _∙_, ap, subst}
-use mathlib.Core.List.{List, [], _∷_, _++_, append-nil, append-assoc}
-use mathlib.Core.Bool.{Bool, true, false}
+use Prim.Native.Nat.{ℕ, suc, _+_, _-_, _≤_, _<_}
+use mathlib.Core.Path.{_≡_, refl, sym, subst}
+use mathlib.Core.List.{List, [], _∷_, _++_}
 use mathlib.Core.Logic.{_⊎_}
 use native.Mathlib.Omega.{arith}
-use borrow.Author.Tests.{ltb-true, ltb-false, eqb-true, eqb-false, le-ltb, lt-ltb, eq-eqb, ne-eqb}
-use lib.Dec.{ltb, eqb}
-use lib.ListN.{length, take, drop, length-append, length-drop, length-take}
-use lib.Seq.{drop-append-le, take-append-le}
-use Rattle.octets.specs.Pick.{pick}
+use borrow.Author.Tests.{eqb-true, eqb-false}
+use lib.Dec.{eqb}
+use lib.ListN.{length, take, drop}
 use Rattle.octets.proofs.Pick.{pick-cases}
 use Rattle.heads.specs.declared.Refusal.{Refusal}
 use Rattle.heads.specs.Refusals.{pastEnd}
 use Rattle.heads.specs.declared.Form.{Form}
 use Rattle.heads.specs.Head.{formOf}
-use Rattle.heads.specs.Answer.{Answer, answered, refusedAs, refusedBy}
+use Rattle.heads.specs.Answer.{Answer, answered, refusedAs}
 use Rattle.items.specs.declared.Within.{Within}
 use Rattle.items.specs.declared.Within.the-variants.{Root}
 use Rattle.items.specs.declared.Cursor.{Cursor}
@@ -32,20 +29,19 @@ use Rattle.items.specs.Walk.{refusal, cursor, standsIn, isInside, nextOf}
 use Rattle.settings.specs.declared.Settings.{Settings}
 use Rattle.dated.specs.Dated.{held}
 use Rattle.layout.specs.Frame.{Frame}
-use Rattle.standing.specs.declared.Standing.{Standing}
 use Rattle.standing.specs.Standing.{octetsLimit}
 use Rattle.framing.specs.declared.Framed.{Framed}
 use Rattle.effects.specs.declared.Effect.{Effect}
 use Rattle.effects.specs.Effects.{effectOf}
-use Rattle.verdict.specs.Verdict.{placeAt, Verdict, accepted, refused, unlimited}
+use Rattle.verdict.specs.Verdict.{placeAt, refused, unlimited}
 use Rattle.walk.specs.declared.Waveform.{Waveform}
 use Rattle.walk.specs.declared.Step.{Step}
-use Rattle.walk.specs.Advance.{Stand, Stop, stop, Turn, on, stops, framedTurn, effectTurn, nextTurn, turnOf}
+use Rattle.walk.specs.Advance.{Stand, Turn, on, stops, framedTurn, effectTurn, nextTurn, turnOf}
 use Rattle.walk.specs.Joined.{frameBy}
 use Rattle.walk.proofs.Joins.{Stands, Counts, TurnStands, Near, turn-stands}
-use Rattle.link.specs.Link.{Coming, Given, Phase, head, value, waveform, waits, decided, Link, link, refusedIn, cutAt, waiting, lastsIn, condemned, keptLimit}
+use Rattle.link.specs.Link.{Coming, Given, Phase, head, value, waveform, waits, decided, Link, link, cutAt, waiting, lastsIn, condemned, keptLimit}
 use Rattle.link.specs.Order.{sampleGiven, samplesGiven, framesGiven}
-use Rattle.link.proofs.Seen.{endsIn, Whole, Inside, longer}
+use Rattle.link.proofs.Seen.{Whole, Inside, longer}
 use Rattle.link.proofs.Item.{Plainly}
 use Rattle.link.proofs.Rest.{rest}
 use Rattle.link.proofs.Arrives.{Good, ArrivesAt}

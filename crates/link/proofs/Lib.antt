@@ -1,3 +1,5 @@
+-- The worked examples stand first: what a wrong definition gets wrong is seen there.
+pub mod Cases
 pub mod Seen
 pub mod Grown
 pub mod Item
@@ -11,4 +13,4 @@ pub mod Results
 pub mod Told
 pub mod Feeds
 pub mod Right
-pub mod Cases
+pub mod Runs

@@ -6,12 +6,12 @@
 --     fed-past        past the limit: 15, if nothing was refused before
 --     given-all       the samples there of an accepted file, in file order
 -- Assumes nothing.
-use Prim.Native.Nat.{ℕ, zero, suc, _+_, _-_, _≤_, _<_}
+use Prim.Native.Nat.{ℕ, _+_, _-_, _≤_, _<_}
 use mathlib.Core.Path.{_≡_, refl, sym, _∙_, ap, subst}
 use mathlib.Core.List.{List, [], _∷_, _++_, append-assoc, append-nil}
 use mathlib.Core.Bool.{Bool, true, false}
 use native.Mathlib.Omega.{arith}
-use borrow.Author.Tests.{lt-leb, le-leb}
+use borrow.Author.Tests.{le-leb}
 use lib.Dec.{leb}
 use lib.ListN.{length, take, drop, length-drop, take-append-drop}
 use lib.Seq.{length-take-le}
@@ -19,17 +19,15 @@ use Rattle.octets.specs.Pick.{pick}
 use Rattle.octets.proofs.Pick.{pick-cases}
 use Rattle.heads.specs.Refusals.{longFile}
 use Rattle.heads.specs.Answer.{Answer, answered, refusedAs}
-use Rattle.items.specs.declared.Within.{Within}
 use Rattle.items.specs.Walk.{refusal}
 use Rattle.layout.specs.Frame.{Frame}
 use Rattle.standing.specs.Standing.{octetsLimit}
-use Rattle.verdict.specs.Verdict.{Verdict, accepted, refused, verdict, unlimited, checkedAs, checkOf}
+use Rattle.verdict.specs.Verdict.{accepted, refused, verdict, unlimited, checkedAs, checkOf}
 use Rattle.verdict.proofs.Keeps.{within-limit}
-use Rattle.walk.specs.Advance.{Stand}
-use Rattle.link.specs.Link.{Given, Phase, head, value, waveform, waits, decided, Link, firstLink, refusedIn, counted, takenIn, isDecided, stepped, fedWith, givesIn, gives, givenBy, endIn, endOf}
+use Rattle.link.specs.Link.{Given, Phase, head, value, waveform, waits, decided, Link, firstLink, refusedIn, counted, takenIn, isDecided, stepped, fedWith, givesIn, gives, givenBy, endOf}
 use Rattle.link.specs.Order.{framesGiven}
 use Rattle.link.specs.Feed.{joined, fedPieces, givenPieces}
-use Rattle.link.proofs.Follows.{withinOf, FollowsIn, Follows}
+use Rattle.link.proofs.Follows.{FollowsIn}
 use Rattle.link.proofs.Fed.{follows-counts, fed-follows, end-follows, accepted-given}
 
 -- ---- wherever the cuts fall
@@ -159,10 +157,10 @@ module _ (s : List ℕ) (long : octetsLimit < length s) where
           let ended : (stepped l b .phase) ≡ decided (a .0) = ap (λ (m : Link). m .phase) steps ∙ a .1 in (
             ap (fedWith firstLink) is ∙ fed-pieces firstLink (take octetsLimit s) (b ∷ u) ∙ fed-decided (stepped l b) (a .0) ended u ∙ steps,
             ap (givenBy firstLink) is
-            ∙ given-pieces firstLink (take octetsLimit s) (b ∷ u)
-            ∙ ap (λ (g : List Given). givenBy firstLink (take octetsLimit s) ++ (g ++ givenBy (stepped l b) u)) (past-gives l b counts-limit)
-            ∙ ap (λ (g : List Given). givenBy firstLink (take octetsLimit s) ++ g) (given-decided (stepped l b) (a .0) ended u)
-            ∙ append-nil (givenBy firstLink (take octetsLimit s)),
+                ∙ given-pieces firstLink (take octetsLimit s) (b ∷ u)
+                ∙ ap (λ (g : List Given). givenBy firstLink (take octetsLimit s) ++ (g ++ givenBy (stepped l b) u)) (past-gives l b counts-limit)
+                ∙ ap (λ (g : List Given). givenBy firstLink (take octetsLimit s) ++ g) (given-decided (stepped l b) (a .0) ended u)
+                ∙ append-nil (givenBy firstLink (take octetsLimit s)),
           )
 
 -- ---- what is given out

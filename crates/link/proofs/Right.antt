@@ -3,7 +3,7 @@
 --     given-right      the samples of a frame of an accepted file
 -- Assumes nothing.
 use Prim.Native.Nat.{ℕ, zero, suc, _+_, _*_, _≤_, _<_}
-use mathlib.Core.Path.{_≡_, refl, sym, _∙_, ap, subst}
+use mathlib.Core.Path.{_≡_, sym, _∙_, ap, subst}
 use mathlib.Core.List.{List, [], _∷_, _++_}
 use native.Mathlib.Omega.{arith}
 use native.Mathlib.Nat.{add-mul, one-mul, mul-le-mul-right}
@@ -17,7 +17,7 @@ use Rattle.laid.specs.Laid.{Named, block, sequence, laidFrom, laid}
 use Rattle.there.specs.There.{isThere}
 use Rattle.verdict.specs.Verdict.{accepted, verdict}
 use Rattle.pass.specs.Scan.{zeroFrame}
-use Rattle.reader.specs.Answer.{asked, askedSample, sampleIn, sampleOf}
+use Rattle.reader.specs.Answer.{askedSample, sampleIn, sampleOf}
 use Rattle.link.specs.Link.{Given}
 use Rattle.link.specs.Order.{sampleGiven, samplesGiven}
 

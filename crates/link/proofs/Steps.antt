@@ -14,7 +14,7 @@ use mathlib.Core.Logic.{inl, inr}
 use native.Mathlib.Omega.{arith}
 use native.Mathlib.Decide.{decLt}
 use borrow.Author.Tests.{ltb-true, ltb-false, lt-leb}
-use lib.Dec.{ltb, eqb}
+use lib.Dec.{ltb}
 use lib.ListN.{length, take, drop, replicate, length-append, length-take, length-drop, length-replicate, drop-of-length-le}
 use lib.Seq.{getD-append-seam}
 use Rattle.octets.specs.Pick.{pick}
@@ -41,19 +41,19 @@ use Rattle.effects.specs.Effects.{valueAt, effectOf}
 use Rattle.verdict.specs.Verdict.{placeAt, refused, unlimited}
 use Rattle.verdict.proofs.Every.{every-at}
 use Rattle.pass.specs.Scan.{zeroFrame}
-use Rattle.reader.proofs.Ordered.{Lies, reached-lies}
+use Rattle.reader.proofs.Ordered.{Lies, Blocked, reached-lying}
 use Rattle.walk.specs.declared.Waveform.{Waveform}
 use Rattle.walk.specs.declared.Step.{Step}
-use Rattle.walk.specs.Advance.{Stand, stop, Turn, on, stops, effectTurn, nextTurn, turnOf}
+use Rattle.walk.specs.Advance.{Stand, stop, Turn, on, stops, effectTurn}
 use Rattle.walk.specs.Joined.{frameBy}
 use Rattle.walk.proofs.Joins.{Stands, Counts, TurnStands}
-use Rattle.link.specs.Link.{Coming, Given, Phase, head, Link, link, cutAt, waiting, condemned, firstComing, waved, stoppedAt, turnedBy, keptLimit, itemAt, withinAfter, doneItem, groupBegins, effected}
+use Rattle.link.specs.Link.{Coming, Given, Phase, head, Link, link, cutAt, condemned, firstComing, waved, stoppedAt, turnedBy, keptLimit, itemAt, withinAfter, doneItem, groupBegins}
 use Rattle.link.specs.Order.{sampleGiven, samplesGiven, framesGiven}
-use Rattle.link.proofs.Seen.{endsIn, Whole, Inside, longer, next-faulty, next-wanting, next-fits, next-past, next-definite, next-definite-past, next-open}
-use Rattle.link.proofs.Item.{Plainly, itemFound, found-item, found-place, value-is, keptOf, effect-same, after-same, effect-frame, effect-bare, group-bare}
+use Rattle.link.proofs.Seen.{endsIn, Whole, Inside, longer, next-fits, next-past, next-definite, next-definite-past, next-open}
+use Rattle.link.proofs.Item.{Plainly, itemFound, found-item, found-place, value-is, effect-same, after-same, effect-frame, effect-bare, group-bare}
 use Rattle.link.proofs.Rest.{rest, rest-first, rest-past}
 use Rattle.link.proofs.Arrives.{Good, ArrivesAt, arrives-first, rest-none}
-use Rattle.link.proofs.Follows.{withinOf, Cut, Resumes, fault-is, found-is, TurnsTo, turns-to, Silent, Last, Tells, InHead, Begun, channelsBy, InWave, Sure, Follows, waiting-follows, cutHere, condemned-follows}
+use Rattle.link.proofs.Follows.{withinOf, Cut, Resumes, fault-is, found-is, TurnsTo, turns-to, Silent, Last, Tells, Begun, channelsBy, InWave, Follows, waiting-follows, cutHere, condemned-follows}
 
 -- ---- the next item begins
 
@@ -190,8 +190,11 @@ samples-first f h = rest-first (sampleGiven f) (f .channels) (f .sequences) h
 frame-good : {s : List ℕ} (met : List Frame) (f : Frame) {y : Stand} → Stands s (met ++ (f ∷ [])) y → Good (f .channels)
 frame-good {s} met f p =
     let k : length met < length (met ++ (f ∷ [])) = rw length-append (omega arith) in
-    let l = subst (Lies s) (getD-append-seam met f [] zeroFrame) (every-at (Lies s) (met ++ (f ∷ [])) (reached-lies (p .reached)) zeroFrame (length met) k) in
-    record { some = l .some; blocks = l .blocks; widths = l .wide }
+    let q = reached-lying (p .reached) in
+    let is = getD-append-seam met f [] zeroFrame in
+    let l = subst (Lies s) is (every-at (Lies s) (met ++ (f ∷ [])) (q .lies) zeroFrame (length met) k) in
+    let b = subst Blocked is (every-at Blocked (met ++ (f ∷ [])) (q .blocks) zeroFrame (length met) k) in
+    record { some = l .some; blocks = b; widths = l .wide }
 
 -- What a waveform's effect says.
 abbrev frameStart : Effect → ℕ
@@ -332,9 +335,11 @@ module _ (s : List ℕ) (n : ℕ) (x : Stand) (around : ℕ) (v : Waveform) (ph 
               (found-is (p .stands t h) (is-found t h) (omega (arith, p .counts))));
           cuts = λ t h k. let z : ⊥ = omega (arith, longer s t) in absurd z;
           bare = λ from long e. effect-bare (s ++ []) (x .standing) w at tag (i .start) (i .len) o (has-effect [] ∙ e);
-          after = λ t h.
-              (value-whole w tag (length kept) (length (s ++ t)) (longer s t)
-              (subst (λ (k : ℕ). Whole (standsIn k (withinAfter w tag (length kept))) (length (s ++ t))) (p .counts) h), omega (arith, longer s t));
+          after = λ t h. (
+            value-whole w tag (length kept) (length (s ++ t)) (longer s t)
+                (subst (λ (k : ℕ). Whole (standsIn k (withinAfter w tag (length kept))) (length (s ++ t))) (p .counts) h),
+            omega (arith, longer s t),
+          );
           cut = λ t h.
               let g = value-cut w tag (length kept) (length (s ++ t)) (subst (λ (k : ℕ). Cut (standsIn k (withinAfter w tag (length kept))) (length (s ++ t))) (p .counts) h) in
               p .cut t g ∙ ap (λ (q : ℕ). refused (refusal pastEnd q)) (group-cut w (length (s ++ t)) g);

@@ -2,7 +2,7 @@
 --     told-last     while a frame is told, the file up to the waveform's end is accepted, and that frame is its last
 --     told-right    the attributes that the link then answers
 -- Assumes nothing.
-use Prim.Native.Nat.{ℕ, zero, suc, _+_, _-_, _≤_, _<_}
+use Prim.Native.Nat.{ℕ, _+_, _-_, _≤_, _<_}
 use mathlib.Core.Path.{_≡_, refl, sym, _∙_, ap, subst}
 use mathlib.Core.List.{List, [], _∷_, _++_, append-nil}
 use mathlib.Core.Bool.{Bool, true, false}
@@ -10,33 +10,30 @@ use mathlib.Core.Logic.{inl, inr}
 use native.Mathlib.Omega.{arith}
 use borrow.Author.Tests.{lt-ltb, ltb-true}
 use lib.Dec.{ltb}
-use lib.ListN.{length, getD, length-append, length-drop}
+use lib.ListN.{length, getD, length-append}
 use lib.Seq.{getD-append-seam}
 use Rattle.octets.specs.Pick.{pick}
 use Rattle.heads.specs.Refusals.{noChannel}
-use Rattle.heads.specs.Answer.{Answer, answered, refusedAs}
-use Rattle.items.specs.declared.Within.{Within}
+use Rattle.heads.specs.Answer.{answered, refusedAs}
 use Rattle.items.specs.declared.Within.the-variants.{Root}
 use Rattle.items.specs.declared.Cursor.{Cursor}
 use Rattle.items.specs.Walk.{cursor, standsIn, extent}
 use Rattle.items.proofs.Walks.{next-none}
-use Rattle.settings.specs.declared.Settings.{Settings}
-use Rattle.layout.specs.Frame.{Frame, reported, channelIn}
+use Rattle.layout.specs.Frame.{Frame, reported}
 use Rattle.standing.specs.Standing.{octetsLimit}
-use Rattle.verdict.specs.Verdict.{Verdict, accepted, verdict, unlimited}
+use Rattle.verdict.specs.Verdict.{accepted, verdict, unlimited}
 use Rattle.verdict.proofs.Keeps.{within-limit}
 use Rattle.pass.specs.Scan.{zeroFrame}
-use Rattle.reader.specs.declared.Attributes.{Attributes}
 use Rattle.reader.specs.Answer.{asked, attributesWith, attributesIn, attributesOf}
 use Rattle.walk.specs.declared.Waveform.{Waveform}
 use Rattle.walk.specs.Advance.{Stand}
 use Rattle.walk.specs.Joined.{frameBy}
 use Rattle.walk.proofs.Joins.{Stands, Counts}
-use Rattle.link.specs.Link.{Phase, head, value, waveform, waits, decided, Link, link, firstLink, settingsIn, fedWith, Given, givenBy}
+use Rattle.link.specs.Link.{Phase, head, value, waveform, waits, decided, Link, firstLink, settingsIn, fedWith, givenBy}
 use Rattle.link.specs.Order.{settingsTold}
-use Rattle.link.proofs.Follows.{withinOf, channelsBy, Tells, Last, FollowsIn}
+use Rattle.link.proofs.Follows.{withinOf, channelsBy, Tells, FollowsIn}
 use Rattle.link.proofs.Waves.{settings-is}
-use Rattle.link.proofs.Fed.{nothing-left, end-next, alone, fed-follows, ended-accepted}
+use Rattle.link.proofs.Fed.{nothing-left, end-next, alone, fed-follows}
 
 -- The octets of a waveform that are still to come.
 abbrev pub leftIn : Phase → ℕ

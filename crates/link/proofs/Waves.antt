@@ -3,15 +3,15 @@
 --     given-is       the sample whose last octet has come is the one that the file up to the waveform's end has there
 --     wave-on        what is known of the waveform then
 -- Assumes nothing.
-use Prim.Native.Nat.{ℕ, zero, suc, _+_, _-_, _*_, _≤_, _<_, min}
+use Prim.Native.Nat.{ℕ, suc, _+_, _-_, _*_, _≤_, _<_}
 use mathlib.Core.Path.{_≡_, refl, sym, _∙_, ap, subst}
 use mathlib.Core.List.{List, [], _∷_, _++_, append-nil, append-assoc}
 use mathlib.Core.Bool.{Bool, true, false}
 use native.Mathlib.Omega.{arith}
-use borrow.Author.Tests.{lt-ltb, le-ltb, ltb-true, ltb-false, le-leb}
+use borrow.Author.Tests.{ltb-true, ltb-false, le-leb}
 use lib.Dec.{ltb}
 use lib.ListN.{length, getD, take, drop, length-append, length-take, length-map}
-use lib.Seq.{getD-take, drop-drop, drop-append-le, take-append-le, take-all}
+use lib.Seq.{getD-take, drop-drop, drop-append-le, take-append-le}
 use Rattle.octets.specs.Pick.{pick}
 use Rattle.octets.specs.Number.{numberOf}
 use Rattle.octets.proofs.Laws.{part-of}
@@ -27,20 +27,17 @@ use Rattle.dated.proofs.Refreshed.{held-at}
 use Rattle.layout.specs.Frame.{Frame, widthIn, channelIn, offsetOf, placeOf}
 use Rattle.laid.specs.Laid.{sampleBits}
 use Rattle.there.specs.There.{isThere}
-use Rattle.standing.specs.Standing.{octetsLimit}
-use Rattle.effects.specs.Effects.{valueAt}
 use Rattle.verdict.specs.Verdict.{refused, unlimited}
-use Rattle.reader.specs.Answer.{FoundSample, foundSample, noData, sampleIn}
+use Rattle.reader.specs.Answer.{foundSample, sampleIn}
 use Rattle.walk.specs.declared.Waveform.{Waveform}
 use Rattle.walk.specs.Advance.{Stand}
 use Rattle.walk.specs.Joined.{frameBy}
 use Rattle.walk.proofs.Joins.{Stands, Counts}
 use Rattle.link.specs.Link.{Coming, coming, Given, Phase, waveform, Link, link, settingsIn, nextComing, sampleOn, inSequences, givenAs, sampleBy, givesIn}
 use Rattle.link.specs.Order.{sampleGiven, samplesGiven, framesGiven}
-use Rattle.link.proofs.Seen.{longer}
 use Rattle.link.proofs.Grown.{grown, grown-long, to-grown, of-grown}
 use Rattle.link.proofs.Rest.{rest, rest-next}
-use Rattle.link.proofs.Arrives.{Good, Among, ArrivesAt, numberAt, widthAt, lies, lies-is, nextAt, octetsNow, octets-now, arrives-on, complete, arrives-next}
+use Rattle.link.proofs.Arrives.{ArrivesAt, numberAt, widthAt, lies, lies-is, nextAt, octets-now, arrives-on, complete, arrives-next}
 use Rattle.link.proofs.Follows.{channelsBy, InWave}
 
 -- What stands for a channel of the frame, as its record has it.

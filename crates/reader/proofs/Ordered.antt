@@ -3,6 +3,7 @@
 --     accepted-few       its frames are no more than the limit
 --     every-lies, accepted-lies    each waveform lies in the file, and its samples have octets
 --     accepted-ordered   no frame starts before the end of one before it
+--     reached-lying      all this where a file's items lead, however it goes on
 -- Assumes nothing.
 use mathlib.Core.Path.{_≡_, refl, _∙_, subst}
 use mathlib.Core.List.{List, [], _∷_, _++_}
@@ -31,15 +32,18 @@ use Rattle.verdict.proofs.Steps.{Waveform, TakenBy, ItemStep, passes, stands, r
 use Rattle.verdict.proofs.Every.{Every, every-at, every-snoc, every-imp}
 use Rattle.verdict.proofs.Bounds.{Bounded, bounded-first, bounded-step, frame-channels, channels-wide, channels-some}
 
--- A frame whose waveform lies in the file, with 1 to 256 channels, whose samples have octets and whose blocks have samples.
+-- A frame whose waveform lies in the file, with 1 to 256 channels, whose samples have octets.
 pub record Lies (s : List ℕ) (f : Frame) : Type 0 where
   pub wide : Wide (f .channels)
-  pub blocks : (c : ℕ) → c < length (f .channels) → 0 < channelIn c (f .channels) .block
   pub inside : f .place + length (f .waveform) ≤ length s
   pub octets : f .waveform ≡ take (length (f .waveform)) (drop (f .place) s)
   pub some : 0 < length (f .channels)
   pub few : length (f .channels) ≤ channelLimit
   pub pointer : pointerFits (f .start) ≡ true
+
+-- Each channel's blocks have samples.
+abbrev pub Blocked : Frame → Type 0
+Blocked f = (c : ℕ) → c < length (f .channels) → 0 < channelIn c (f .channels) .block
 
 -- The place behind a frame's waveform.
 abbrev pub waveformEnd : Frame → ℕ
@@ -53,6 +57,7 @@ InOrder fs = (i j : ℕ) → i < j → j < length fs → waveformEnd (getD fs i 
 pub record Lying (s : List ℕ) (x : State) (c : Cursor) : Type 0 where
   pub bounded : Bounded x
   pub lies : Every (Lies s) (x .frames)
+  pub blocks : Every Blocked (x .frames)
   pub behind : Every (λ f. waveformEnd f ≤ c .at) (x .frames)
   pub order : InOrder (x .frames)
 
@@ -77,6 +82,7 @@ module _ (s : List ℕ) (x : State) (c d : Cursor) (p : Lying s x c) where
       record {
         bounded = b;
         lies = p .lies;
+        blocks = p .blocks;
         behind = every-imp (λ f. waveformEnd f ≤ c .at) (λ f. waveformEnd f ≤ d .at) (λ f q. omega arith) (x .frames) (p .behind);
         order = p .order;
       }
@@ -95,7 +101,6 @@ module _ (s : List ℕ) (x : State) (c d : Cursor) (p : Lying s x c) where
         let k = frame-channels x (p .bounded) in
         record {
           wide = channels-wide x (p .bounded);
-          blocks = channels-some x (p .bounded);
           inside = rw long-is (omega arith);
           octets = rw long-is;
           some = k .0;
@@ -108,6 +113,7 @@ module _ (s : List ℕ) (x : State) (c d : Cursor) (p : Lying s x c) where
         record {
           bounded = b;
           lies = every-snoc (Lies s) (x .frames) new (p .lies) new-lies;
+          blocks = every-snoc Blocked (x .frames) new (p .blocks) (channels-some x (p .bounded));
           behind = every-snoc (λ f. waveformEnd f ≤ d .at) (x .frames) new (every-imp (λ f. waveformEnd f ≤ c .at) (λ f. waveformEnd f ≤ d .at) (λ f q. omega arith) (x .frames) (p .behind)) (rw long-is (omega arith));
           order = order-snoc (x .frames) new (p .order) (every-imp (λ f. waveformEnd f ≤ c .at) (λ f. waveformEnd f ≤ start) (λ f q. omega arith) (x .frames) (p .behind));
         }
@@ -141,11 +147,11 @@ module _ (s : List ℕ) where
       lying-step x c i d y p (next-found s c refl e) (bounded-step s x i y (p .bounded) t) t
 
   lying-first : Lying s firstState firstCursor
-  lying-first = record { bounded = bounded-first s; lies = tt; behind = tt; order = λ i j h l. let z : ⊥ = omega arith in absurd z }
+  lying-first = record { bounded = bounded-first s; lies = tt; blocks = tt; behind = tt; order = λ i j h l. let z : ⊥ = omega arith in absurd z }
 
--- The frames met so far lie in the file, however it goes on.
-pub reached-lies : {s : List ℕ} {x : State} {c : Cursor} → Reached s x c → Every (Lies s) (x .frames)
-reached-lies {s} r = reached-keeps s (Lying s) (lying-keeps s) (lying-first s) r .lies
+-- What holds where a file's items lead, however it goes on.
+pub reached-lying : {s : List ℕ} {x : State} {c : Cursor} → Reached s x c → Lying s x c
+reached-lying {s} r = reached-keeps s (Lying s) (lying-keeps s) (lying-first s) r
 
 module _ (s : List ℕ) (fs : List Frame) (e : verdict s ≡ accepted fs) where
   kept : Kept (Lying s) fs
