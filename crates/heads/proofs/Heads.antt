@@ -27,7 +27,7 @@ use Rattle.heads.specs.declared.Length.{Length}
 use Rattle.heads.specs.declared.Length.the-variants.{Known, Bad}
 use Rattle.heads.specs.declared.Form.{Form}
 use Rattle.heads.specs.declared.Head.{Head}
-use Rattle.heads.specs.Refusals.{contextTag, barredTag}
+use Rattle.heads.specs.Refusals.{contextTag, pastEnd, barredTag}
 use Rattle.heads.specs.Head.{channelOf, lengthOf, unknownContext, rootOnly, primitiveForm, groupLength, groupForm, formOf, headBy, headOf}
 
 abbrev first : List ℕ → ℕ
@@ -148,10 +148,10 @@ channel-within (suc allowed) passed value (b ∷ u) =
     pick-cases (ChannelWithin passed (suc allowed) (suc (length u))) (ltb b 128) (λ _. omega arith)
     (λ _. channel-later passed allowed (length u) (channelOf allowed (passed + 1) v u) (channel-within allowed (passed + 1) v u))
 
--- A head takes at least one octet, none past the end, and ten at most; where more are wanted there are fewer. A fault has one of the numbers up to 5.
+-- A head takes at least one octet, none past the end, and ten at most; where more are wanted there are fewer. A fault has one of the numbers up to 5, and not 3.
 abbrev pub FormWithin : ℕ → Form → Type 0
 FormWithin end Form.More = end < 10
-FormWithin end (Form.Faulty k) = k ≤ barredTag
+FormWithin end (Form.Faulty k) = (k ≤ barredTag) × (k ≡ pastEnd → ⊥)
 FormWithin end (Form.Primitive tag start n) = (0 < start) × (start ≤ end) × (start ≤ 10)
 FormWithin end (Form.Definite c start n) = (0 < start) × (start ≤ end) × (start ≤ 10)
 FormWithin end (Form.Open c start) = (0 < start) × (start ≤ end) × (start ≤ 10)
@@ -198,7 +198,7 @@ HeadWithin end (Head.Refused k) = k ≤ barredTag
 by-within : (end : ℕ) (f : Form) → FormWithin end f → HeadWithin end (headBy end f)
 unfolding headBy
 by-within end Form.More w = omega arith
-by-within end (Form.Faulty k) w = w
+by-within end (Form.Faulty k) w = w .0
 by-within end (Form.Primitive tag start n) w =
     pick-cases (HeadWithin end) (ltb (end - start) n) (λ _. omega arith) (λ g. omega (arith, ltb-false (end - start) n g))
 by-within end (Form.Definite c start n) w =

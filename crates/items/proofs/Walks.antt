@@ -3,7 +3,7 @@
 --     extent-found            those octets lie in the file
 --     next-found              an item that is found lies in the file: its place, its value and the cursor behind it
 --     next-later              the cursor behind an item lies behind the item's tag, which is in the file
---     next-refused            a fault of form has one of the numbers up to 10
+--     next-refused            a fault of form has one of the numbers up to 10; 3 is at the cursor
 --     walk-turns              more turns than there are octets change nothing
 --     items-found, items-end, items-refused    the items from a cursor on, by what stands there
 --     found-as                an item found, however the cursor behind it is kept
@@ -22,7 +22,7 @@ use Rattle.items.specs.declared.Item.{Item}
 use Rattle.heads.specs.declared.Refusal.{Refusal}
 use Rattle.items.specs.declared.Next.{Next}
 use Rattle.items.specs.declared.Next.the-variants.{Found, End}
-use Rattle.heads.specs.Refusals.{unendedGroup}
+use Rattle.heads.specs.Refusals.{pastEnd, unendedGroup}
 use Rattle.heads.specs.Head.{headOf}
 use Rattle.items.specs.Walk.{item, finished, fault, standsIn, isInside, extent, ended, endsOpen, itemOf, nextIn, nextOf, follow, walk, itemsFrom}
 use Rattle.heads.proofs.Heads.{HeadWithin, head-within}
@@ -87,7 +87,7 @@ pub record FoundAt (long at : ℕ) (i : Item) (d : Cursor) : Type 0 where
 abbrev Inner : ℕ → ℕ → Next → Type 0
 Inner long at (Next.Found i d) = FoundAt long at i d
 Inner long at Next.End = Unit {0}
-Inner long at (Next.Refused r) = r .number ≤ unendedGroup
+Inner long at (Next.Refused r) = (r .number ≤ unendedGroup) × (r .number ≡ pastEnd → r .place ≡ at)
 
 inner-item : (long at left : ℕ) (w : Within) (h : Head) → at + left ≤ long → HeadWithin left h → Inner long at (itemOf at w h)
 unfolding itemOf
@@ -122,8 +122,8 @@ next-found s c e f = subst (Inner (length s) (c .at)) (sym e ∙ f) (inner-next 
 pub next-later : (s : List ℕ) (c : Cursor) {n : Next} {i : Item} {d : Cursor} → n ≡ nextOf s c → n ≡ Found i d → (c .at < length s) × (c .at < d .at)
 next-later s c e f = let p = next-found s c e f in omega arith
 
--- A fault of form has one of the numbers up to 10.
-pub next-refused : (s : List ℕ) (c : Cursor) {n : Next} {r : Refusal} → n ≡ nextOf s c → n ≡ Next.Refused r → r .number ≤ unendedGroup
+-- A fault of form has one of the numbers up to 10; 3 is at the cursor.
+pub next-refused : (s : List ℕ) (c : Cursor) {n : Next} {r : Refusal} → n ≡ nextOf s c → n ≡ Next.Refused r → (r .number ≤ unendedGroup) × (r .number ≡ pastEnd → r .place ≡ c .at)
 next-refused s c e f = subst (Inner (length s) (c .at)) (sym e ∙ f) (inner-next s c)
 
 -- ---- all items

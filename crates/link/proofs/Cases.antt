@@ -19,7 +19,7 @@ use Rattle.framing.specs.AnyNumbers.{framedBy}
 use Rattle.effects.specs.Effects.{orderEffect, countEffect, sequencesEffect, startEffect, compressedEffect, rootEffect, plainEffect, memberEffect, allEffect, oneEffect, groupEffect, effectOf}
 use Rattle.reader.specs.Answer.{foundSample}
 use Rattle.walk.specs.Advance.{framedTurn, effectTurn}
-use Rattle.link.specs.Link.{Given, waiting, condemned, waved, stoppedAt, turnedBy, itemAt, withinAfter, valued, primitiveBegins, confined, seenIn, headed, nextComing, sampleOn, takenIn, isDecided, stepped, fedWith, firstLink, sampleBy, givesIn, gives, givenBy, endedIn, endIn, endOf}
+use Rattle.link.specs.Link.{Given, waiting, condemned, waved, stoppedAt, turnedBy, itemAt, withinAfter, valued, primitiveBegins, confined, seenIn, headed, nextComing, sampleOn, takenIn, isDecided, stepped, fedWith, firstLink, sampleBy, givesIn, gives, givenBy, endedIn, endIn, endAnswer}
 
 -- The octets of a file up to the one with which its answer comes: whether there was one before the last of them, and what an end means before and after it.
 pub record Coming : Type 0 where
@@ -41,7 +41,7 @@ computed cs =
     (λ (c : Coming).
     let before = fedWith firstLink (take (length (c .octets) - 1) (c .octets)) in
     let after = fedWith firstLink (c .octets) in
-    record { octets = c .octets; early = isDecided (before .phase); before = endOf before; late = isDecided (after .phase); after = endOf after })
+    record { octets = c .octets; early = isDecided (before .phase); before = endAnswer before; late = isDecided (after .phase); after = endAnswer after })
     cs
 
 -- A refusal that comes with the last octet; before it the end is 3 at a place.

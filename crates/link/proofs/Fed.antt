@@ -31,11 +31,12 @@ use Rattle.items.proofs.Walks.{next-none}
 use Rattle.layout.specs.Frame.{Frame}
 use Rattle.standing.specs.Standing.{octetsLimit}
 use Rattle.verdict.specs.Verdict.{Verdict, accepted, refused, unlimited, checkedAs}
+use Rattle.verdict.proofs.Cuts.{CutsFrom}
 use Rattle.walk.specs.declared.Waveform.{Waveform}
 use Rattle.walk.specs.Advance.{Stand, firstStand, nextTurn, turnOf}
 use Rattle.walk.proofs.Joins.{Stands, TurnStands, Near, turn-stands, stands-first}
 use Rattle.walking.specs.Steps.{noWaveform}
-use Rattle.link.specs.Link.{Given, Phase, head, value, waveform, waits, decided, Link, link, firstLink, cutAt, waiting, valued, doneItem, keptLimit, primitiveBegins, confined, seenIn, headed, counted, takenIn, isDecided, stepped, fedWith, givesIn, gives, givenBy, endedIn, endIn, endOf}
+use Rattle.link.specs.Link.{Given, Phase, head, value, waveform, waits, decided, Link, link, firstLink, cutAt, waiting, valued, doneItem, keptLimit, primitiveBegins, confined, seenIn, headed, counted, takenIn, isDecided, stepped, fedWith, givesIn, gives, givenBy, endedIn, endIn, endAnswer}
 use Rattle.link.specs.Order.{framesGiven}
 use Rattle.link.proofs.Seen.{endsIn, Whole, Inside, tailOf, longer, next-faulty, next-wanting, next-past}
 use Rattle.link.proofs.Item.{Plainly}
@@ -172,6 +173,7 @@ module _ (s : List ℕ) (b : ℕ) where
         many = p .many;
         before = omega (arith, p .before, grown-long s b);
         inside = subst (Inside (withinOf x)) (sym (grown-long s b)) i;
+        outer = p .outer;
         stands = λ t h. to-grown s b (λ (u : List ℕ). Stands u (p .met) x) t (p .stands (b ∷ t) (of-grown s b (λ (u : List ℕ). Whole (withinOf x) (length u)) t h));
         cut = λ t h. to-grown s b (λ (u : List ℕ). unlimited u ≡ refused (refusal pastEnd around)) t (p .cut (b ∷ t) (of-grown s b (λ (u : List ℕ). Cut (withinOf x) (length u)) t h));
       }
@@ -184,6 +186,8 @@ module _ (s : List ℕ) (b : ℕ) where
             (p .cuts (b ∷ t) (of-grown s b (λ (u : List ℕ). length u < length s + left) t (omega (arith, grown-long s b))));
         sure = λ h t k. to-grown s b (λ (u : List ℕ). unlimited u ≡ refused r) t
             (p .sure (omega (arith, grown-long s b)) (b ∷ t) (of-grown s b (λ (u : List ℕ). length s + left ≤ length u) t (omega (arith, grown-long s b))));
+        passes = λ _ t k. to-grown s b (λ (u : List ℕ). CutsFrom (suc around) (unlimited u)) t
+            (p .passes some (b ∷ t) (of-grown s b (λ (u : List ℕ). length s + left ≤ length u) t (omega (arith, grown-long s b))));
       }
 
   settled-on : (a : Answer ℕ) → Settled s a → Settled (grown s b) a
@@ -300,7 +304,7 @@ stepped-follows s b gs l limit p =
 
 first-follows : Follows [] [] firstLink
 unfolding framesGiven
-first-follows = next-follows [] 0 firstStand 0 noWaveform [] (cursor 0 Root) [] (inl refl) refl refl refl refl refl (λ t _. stands-first t) (λ t h. absurd h)
+first-follows = next-follows [] 0 firstStand 0 noWaveform [] (cursor 0 Root) [] (inl refl) refl refl refl refl refl tt (λ t _. stands-first t) (λ t h. absurd h)
 
 fed-from : (s u : List ℕ) (gs : List Given) (l : Link) → length (s ++ u) ≤ octetsLimit → Follows s gs l → Follows (s ++ u) (gs ++ givenBy l u) (fedWith l u)
 unfolding fedWith givenBy
@@ -385,12 +389,12 @@ room-short (Within.Definite channel end) m k h i q = let z : ⊥ = omega arith i
 room-short (Within.Open channel place) m k h i q = h
 
 -- What has come is inside.
-room-begun : (w : Within) (m k : ℕ) → k ≤ m → Inside w k → k ≤ endsIn w m
+pub room-begun : (w : Within) (m k : ℕ) → k ≤ m → Inside w k → k ≤ endsIn w m
 room-begun Within.Root m k h i = h
 room-begun (Within.Definite channel end) m k h i = i
 room-begun (Within.Open channel place) m k h i = h
 
-pub end-follows : (s : List ℕ) (gs : List Given) (l : Link) → Follows s gs l → checkedAs (unlimited s) ≡ endOf l
+pub end-follows : (s : List ℕ) (gs : List Given) (l : Link) → Follows s gs l → checkedAs (unlimited s) ≡ endAnswer l
 unfolding endIn checkedAs
 end-follows s gs l p = by (l .phase) p
   where

@@ -34,6 +34,7 @@ use Rattle.framing.specs.declared.Framed.{Framed}
 use Rattle.effects.specs.declared.Effect.{Effect}
 use Rattle.effects.specs.Effects.{effectOf}
 use Rattle.verdict.specs.Verdict.{placeAt, refused, unlimited}
+use Rattle.verdict.proofs.Cuts.{CutsFrom, cuts-less, reached-cuts}
 use Rattle.walk.specs.declared.Waveform.{Waveform}
 use Rattle.walk.specs.declared.Step.{Step}
 use Rattle.walk.specs.Advance.{Stand, Turn, on, stops, framedTurn, effectTurn, nextTurn, turnOf}
@@ -57,6 +58,12 @@ Cut Within.Root n = ⊥
 Cut (Within.Definite channel end) n = n < end
 Cut (Within.Open channel place) n = ⊥
 
+-- The place of the definite group around is before the item's.
+abbrev pub Outer : Within → ℕ → ℕ → Type 0
+Outer Within.Root around at = Unit {0}
+Outer (Within.Definite channel end) around at = around < at
+Outer (Within.Open channel place) around at = Unit {0}
+
 -- After n octets the item at hand begins at the stand x, and gs was given out; where the file ends in the definite group around the item, that is 3 at `around`.
 pub record Resumes (s : List ℕ) (n : ℕ) (x : Stand) (around : ℕ) (gs : List Given) : Type 0 where
   pub met : List Frame
@@ -65,6 +72,7 @@ pub record Resumes (s : List ℕ) (n : ℕ) (x : Stand) (around : ℕ) (gs : Lis
   pub many : x .frames ≡ length met
   pub before : x .cursor .at ≤ length s
   pub inside : Inside (withinOf x) (length s)
+  pub outer : Outer (withinOf x) around (x .cursor .at)
   pub stands : (t : List ℕ) → Whole (withinOf x) (length (s ++ t)) → Stands (s ++ t) met x
   pub cut : (t : List ℕ) → Cut (withinOf x) (length (s ++ t)) → unlimited (s ++ t) ≡ refused (refusal pastEnd around)
 
@@ -190,11 +198,13 @@ pub record InWave (s : List ℕ) (n : ℕ) (y : Stand) (around : ℕ) (v : Wavef
   pub coming : (u : List ℕ) → length s + left ≤ length (s ++ u)
       → samplesGiven (frameBy (s ++ u) v y) ≡ here ++ rest (sampleGiven (frameBy (s ++ u) v y)) (channelsBy v y) (v .sequences) t
 
--- A refusal is sure once so many octets have come; where that passes the limit, 15 comes first.
+-- A refusal is sure once so many octets have come; where that passes the limit, 15 comes first. While octets are to come, a file that has them is not cut off
+-- at `around`.
 pub record Sure (s : List ℕ) (n around left : ℕ) (r : Refusal) : Type 0 where
   pub counts : n ≡ length s
   pub cuts : (t : List ℕ) → length (s ++ t) < length s + left → unlimited (s ++ t) ≡ refused (refusal pastEnd around)
   pub sure : length s + left ≤ octetsLimit → (t : List ℕ) → length s + left ≤ length (s ++ t) → unlimited (s ++ t) ≡ refused r
+  pub passes : 0 < left → (t : List ℕ) → length s + left ≤ length (s ++ t) → CutsFrom (suc around) (unlimited (s ++ t))
 
 -- A refusal is settled: every longer file has it.
 abbrev pub Settled : List ℕ → Answer ℕ → Type 0
@@ -233,22 +243,26 @@ module _ (s : List ℕ) (n : ℕ) (x : Stand) (around : ℕ) (v : Waveform) (ph 
   pub condemned-follows : (left : ℕ) (r : Refusal) → Inside (withinOf x) (length s + left)
       → (length s + left ≤ octetsLimit → (t : List ℕ) → Whole (withinOf x) (length (s ++ t)) → length s + left ≤ length (s ++ t) → unlimited (s ++ t) ≡ refused r)
       → ((t : List ℕ) → Whole (withinOf x) (length (s ++ t)) → length (s ++ t) < length s + left → unlimited (s ++ t) ≡ refused (refusal pastEnd cutHere))
+      → (0 < left → (t : List ℕ) → Whole (withinOf x) (length (s ++ t)) → length s + left ≤ length (s ++ t) → CutsFrom (suc (x .cursor .at)) (unlimited (s ++ t)))
       → Follows s gs (condemned left r (link n x cutHere v ph))
   unfolding condemned
-  condemned-follows left r fits f g = by (withinOf x) (p .cut) fits f g
+  condemned-follows left r fits f g m = by (withinOf x) (p .cut) (p .outer) (p .stands) fits f g m
     where
-      by : (w : Within) → ((t : List ℕ) → Cut w (length (s ++ t)) → unlimited (s ++ t) ≡ refused (refusal pastEnd around)) → Inside w (length s + left)
+      by : (w : Within) → ((t : List ℕ) → Cut w (length (s ++ t)) → unlimited (s ++ t) ≡ refused (refusal pastEnd around)) → Outer w around (x .cursor .at)
+          → ((t : List ℕ) → Whole w (length (s ++ t)) → Stands (s ++ t) (p .met) x) → Inside w (length s + left)
           → (length s + left ≤ octetsLimit → (t : List ℕ) → Whole w (length (s ++ t)) → length s + left ≤ length (s ++ t) → unlimited (s ++ t) ≡ refused r)
           → ((t : List ℕ) → Whole w (length (s ++ t)) → length (s ++ t) < length s + left → unlimited (s ++ t) ≡ refused (refusal pastEnd (cutAt w (x .cursor .at) around)))
+          → (0 < left → (t : List ℕ) → Whole w (length (s ++ t)) → length s + left ≤ length (s ++ t) → CutsFrom (suc (x .cursor .at)) (unlimited (s ++ t)))
           → Follows s gs (waiting (lastsIn w n left) r (link n x (cutAt w (x .cursor .at) around) v ph))
-      by Within.Root c i f g =
-          waiting-follows s gs (link n x (x .cursor .at) v ph) left r limit silent (record { counts = p .counts; cuts = λ t k. g t tt k; sure = λ h t k. f h t tt k })
-      by (Within.Definite channel end) c i f g =
+      by Within.Root c o d i f g m =
+          waiting-follows s gs (link n x (x .cursor .at) v ph) left r limit silent (record { counts = p .counts; cuts = λ t k. g t tt k; sure = λ h t k. f h t tt k; passes = λ z t k. m z t tt k })
+      by (Within.Definite channel end) c o d i f g m =
           waiting-follows s gs (link n x around v ph) (end - n) r limit silent
           (record {
             counts = p .counts;
             cuts = λ t k. c t (omega (arith, p .counts));
             sure = λ h t k. f (omega (arith, p .counts)) t (omega (arith, p .counts)) (omega (arith, p .counts));
+            passes = λ z t k. cuts-less o (unlimited (s ++ t)) (reached-cuts (d t (omega (arith, p .counts)) .reached));
           })
-      by (Within.Open channel place) c i f g =
-          waiting-follows s gs (link n x (x .cursor .at) v ph) left r limit silent (record { counts = p .counts; cuts = λ t k. g t tt k; sure = λ h t k. f h t tt k })
+      by (Within.Open channel place) c o d i f g m =
+          waiting-follows s gs (link n x (x .cursor .at) v ph) left r limit silent (record { counts = p .counts; cuts = λ t k. g t tt k; sure = λ h t k. f h t tt k; passes = λ z t k. m z t tt k })

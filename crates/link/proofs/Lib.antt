@@ -14,3 +14,4 @@ pub mod Told
 pub mod Feeds
 pub mod Right
 pub mod Runs
+pub mod Settles

@@ -24,7 +24,7 @@ use Rattle.layout.specs.Frame.{Frame}
 use Rattle.standing.specs.Standing.{octetsLimit}
 use Rattle.verdict.specs.Verdict.{accepted, refused, verdict, unlimited, checkedAs, checkOf}
 use Rattle.verdict.proofs.Keeps.{within-limit}
-use Rattle.link.specs.Link.{Given, Phase, head, value, waveform, waits, decided, Link, firstLink, refusedIn, counted, takenIn, isDecided, stepped, fedWith, givesIn, gives, givenBy, endOf}
+use Rattle.link.specs.Link.{Given, Phase, head, value, waveform, waits, decided, Link, firstLink, refusedIn, counted, takenIn, isDecided, stepped, fedWith, givesIn, gives, givenBy, endAnswer}
 use Rattle.link.specs.Order.{framesGiven}
 use Rattle.link.specs.Feed.{joined, fedPieces, givenPieces}
 use Rattle.link.proofs.Follows.{FollowsIn}
@@ -52,7 +52,7 @@ joined-pieces l (p ∷ ps) =
 
 -- ---- the end
 
-pub fed-check : (s : List ℕ) → length s ≤ octetsLimit → endOf (fedWith firstLink s) ≡ checkOf s
+pub fed-check : (s : List ℕ) → length s ≤ octetsLimit → endAnswer (fedWith firstLink s) ≡ checkOf s
 unfolding checkOf
 fed-check s h = sym (end-follows s (givenBy firstLink s) (fedWith firstLink s) (fed-follows s h)) ∙ ap checkedAs (sym (within-limit s h))
 

@@ -39,6 +39,7 @@ use Rattle.standing.specs.Standing.{octetsLimit}
 use Rattle.effects.specs.declared.Effect.{Effect}
 use Rattle.effects.specs.Effects.{valueAt, effectOf}
 use Rattle.verdict.specs.Verdict.{placeAt, refused, unlimited}
+use Rattle.verdict.proofs.Cuts.{CutsFrom, found-cuts}
 use Rattle.verdict.proofs.Every.{every-at}
 use Rattle.pass.specs.Scan.{zeroFrame}
 use Rattle.reader.proofs.Ordered.{Lies, Blocked, reached-lying}
@@ -47,13 +48,13 @@ use Rattle.walk.specs.declared.Step.{Step}
 use Rattle.walk.specs.Advance.{Stand, stop, Turn, on, stops, effectTurn}
 use Rattle.walk.specs.Joined.{frameBy}
 use Rattle.walk.proofs.Joins.{Stands, Counts, TurnStands}
-use Rattle.link.specs.Link.{Coming, Given, Phase, head, Link, link, cutAt, condemned, firstComing, waved, stoppedAt, turnedBy, keptLimit, itemAt, withinAfter, doneItem, groupBegins}
+use Rattle.link.specs.Link.{Coming, Given, Phase, head, Link, link, cutAt, groupAt, condemned, firstComing, waved, stoppedAt, turnedBy, keptLimit, itemAt, withinAfter, doneItem, groupBegins}
 use Rattle.link.specs.Order.{sampleGiven, samplesGiven, framesGiven}
 use Rattle.link.proofs.Seen.{endsIn, Whole, Inside, longer, next-fits, next-past, next-definite, next-definite-past, next-open}
 use Rattle.link.proofs.Item.{Plainly, itemFound, found-item, found-place, value-is, effect-same, after-same, effect-frame, effect-bare, group-bare}
 use Rattle.link.proofs.Rest.{rest, rest-first, rest-past}
 use Rattle.link.proofs.Arrives.{Good, ArrivesAt, arrives-first, rest-none}
-use Rattle.link.proofs.Follows.{withinOf, Cut, Resumes, fault-is, found-is, TurnsTo, turns-to, Silent, Last, Tells, Begun, channelsBy, InWave, Follows, waiting-follows, cutHere, condemned-follows}
+use Rattle.link.proofs.Follows.{withinOf, Cut, Outer, Resumes, fault-is, found-is, TurnsTo, turns-to, Silent, Last, Tells, Begun, channelsBy, InWave, Sure, Follows, waiting-follows, cutHere, condemned-follows}
 
 -- ---- the next item begins
 
@@ -68,14 +69,37 @@ inside-less Within.Root m n h i = tt
 inside-less (Within.Definite channel end) m n h i = omega arith
 inside-less (Within.Open channel place) m n h i = tt
 
+outer-less : (w : Within) (around at : ℕ) → around < at → Outer w around at
+outer-less Within.Root around at h = tt
+outer-less (Within.Definite channel end) around at h = h
+outer-less (Within.Open channel place) around at h = tt
+
+-- Between two items the place is kept that an end in a definite group wants.
+outer-kept : (w : Within) (around at : ℕ) → Outer w around at → Outer w (groupAt w around) at
+outer-kept Within.Root around at h = tt
+outer-kept (Within.Definite channel end) around at h = h
+outer-kept (Within.Open channel place) around at h = tt
+
+cut-kept : (w : Within) (around m : ℕ) → Cut w m → around ≡ groupAt w around
+cut-kept Within.Root around m h = absurd h
+cut-kept (Within.Definite channel end) around m h = refl
+cut-kept (Within.Open channel place) around m h = absurd h
+
+-- An end inside an item is not 3 behind its tag.
+pub cut-before : (w : Within) (around at : ℕ) → Outer w around at → cutAt w at around ≤ at
+cut-before Within.Root around at h = omega arith
+cut-before (Within.Definite channel end) around at h = omega arith
+cut-before (Within.Open channel place) around at h = omega arith
+
 module _ (s : List ℕ) (n : ℕ) (y : Stand) (around : ℕ) (v : Waveform) (gs : List Given) where
   -- What is known where an item has led on to y.
   pub next-follows : (c : Cursor) (met : List Frame) → Tells s v y met → gs ≡ framesGiven met → n ≡ length s → y .cursor ≡ c → c .at ≡ length s → y .frames ≡ length met
+      → Outer (standsIn (c .at) (c .within)) around (c .at)
       → ((t : List ℕ) → Whole (standsIn (c .at) (c .within)) (length (s ++ t)) → Stands (s ++ t) met y)
       → ((t : List ℕ) → Cut (standsIn (c .at) (c .within)) (length (s ++ t)) → unlimited (s ++ t) ≡ refused (refusal pastEnd around))
       → Follows s gs (link n y around v (head []))
   unfolding formOf
-  next-follows c met tells out counts is here many stands cut =
+  next-follows c met tells out counts is here many outer stands cut =
       let at : y .cursor .at ≡ length s = ap (λ (d : Cursor). d .at) is ∙ here in
       let goes : Inside (withinOf y) (suc (length s)) = subst (λ (k : ℕ). Inside (withinOf y) (suc k)) at (stands-below (y .cursor .at) (y .cursor .within)) in
       record {
@@ -87,6 +111,7 @@ module _ (s : List ℕ) (n : ℕ) (y : Stand) (around : ℕ) (v : Waveform) (gs 
               many = many;
               before = omega (arith, at);
               inside = inside-less (withinOf y) (length s) (suc (length s)) (omega arith) goes;
+              outer = subst (λ (d : Cursor). Outer (standsIn (d .at) (d .within)) around (d .at)) (sym is) outer;
               stands = λ t h. stands t (subst (λ (d : Cursor). Whole (standsIn (d .at) (d .within)) (length (s ++ t))) is h);
               cut = λ t h. cut t (subst (λ (d : Cursor). Cut (standsIn (d .at) (d .within)) (length (s ++ t))) is h);
             };
@@ -171,7 +196,7 @@ module _ (s : List ℕ) (n : ℕ) (y : Stand) (around : ℕ) (v : Waveform) (gs 
       next-follows s n y around v gs (cursor (length s + 0) Root) (p .met ++ (frameNow s v y ∷ [])) (inr last)
       (p .out ∙ ap (λ (l : List Given). framesGiven (p .met) ++ l) all-given ∙ sym (frames-more (p .met) (frameNow s v y)))
       (p .counts) (p .behind) (omega arith)
-      (p .many ∙ sym (length-append (p .met) (frameNow s v y ∷ [])))
+      (p .many ∙ sym (length-append (p .met) (frameNow s v y ∷ []))) tt
       (λ u h. subst (λ (f : Frame). Stands (s ++ u) (p .met ++ (f ∷ [])) y) (frame-longer s u v y ends-now) (p .stands u (omega (arith, longer s u)) .0))
       (λ u h. absurd h)
 
@@ -237,8 +262,12 @@ module _ (s : List ℕ) (n : ℕ) (x : Stand) (around : ℕ) (v : Waveform) (ph 
   -- It has this effect, and the next item begins at c.
   pub record Leads (left : ℕ) (c : Cursor) (e : Effect) : Type 0 where
     pub here : c .at ≡ length s
+    pub later : at < length s
     pub fits : Inside w (length s + left)
-    pub known : (t : List ℕ) → Whole w (length (s ++ t)) → length s + left ≤ length (s ++ t) → TurnStands (s ++ t) (p .met) at (effectTurn x c at e)
+    pub item : Item
+    pub place : placeAt item ≡ at
+    pub found : (t : List ℕ) → Whole w (length (s ++ t)) → length s + left ≤ length (s ++ t) → nextOf (s ++ t) (x .cursor) ≡ Found item c
+    pub effect : (t : List ℕ) → effectOf (s ++ t) (x .standing) item ≡ e
     pub cuts : (t : List ℕ) → Whole w (length (s ++ t)) → length (s ++ t) < length s + left → unlimited (s ++ t) ≡ refused (refusal pastEnd cutPlace)
     pub bare : (from long : ℕ) → e ≡ Effect.Frame from long → ⊥
     pub after : (t : List ℕ) → Whole (standsIn (c .at) (c .within)) (length (s ++ t)) → Whole w (length (s ++ t)) × (length s + left ≤ length (s ++ t))
@@ -246,18 +275,29 @@ module _ (s : List ℕ) (n : ℕ) (x : Stand) (around : ℕ) (v : Waveform) (ph 
 
   pub turned-follows : (left : ℕ) (c : Cursor) (e : Effect) → Leads left c e → Follows s gs (turnedBy left (effectTurn x c at e) markedHere)
   unfolding turnedBy stoppedAt
-  turned-follows left c e q = by (effectTurn x c at e) (turns-to x c at e) (q .known)
+  turned-follows left c e q = by (effectTurn x c at e) (turns-to x c at e) known
     where
+      known : (t : List ℕ) → Whole w (length (s ++ t)) → length s + left ≤ length (s ++ t) → TurnStands (s ++ t) (p .met) at (effectTurn x c at e)
+      known t h k =
+          subst (λ (f : Effect). TurnStands (s ++ t) (p .met) at (effectTurn x c at f)) (q .effect t)
+          (subst (λ (a : ℕ). TurnStands (s ++ t) (p .met) at (effectTurn x c a (effectOf (s ++ t) (x .standing) (q .item)))) (q .place)
+          (found-is (p .stands t h) (q .found t h k) (omega (arith, q .here))))
+
       by-step : (k : Step) (y : Stand) → TurnsTo x c at e (stops (stop k y))
           → ((t : List ℕ) → Whole w (length (s ++ t)) → length s + left ≤ length (s ++ t) → TurnStands (s ++ t) (p .met) at (stops (stop k y))) → Follows s gs (stoppedAt left k y markedHere)
       by-step (Step.Frame u) y to f = absurd (q .bare (u .place) (u .len) (to .0))
       by-step Step.Ended y to f = absurd to
       by-step (Step.Refused r) y to f = condemned-follows s n x around v ph gs limit silent p left r (q .fits) (λ _ t h k. sym (f t h k)) (q .cuts)
+          (λ _ t h k. found-cuts (p .stands t h .reached) (q .found t h k))
 
       by : (z : Turn) → TurnsTo x c at e z → ((t : List ℕ) → Whole w (length (s ++ t)) → length s + left ≤ length (s ++ t) → TurnStands (s ++ t) (p .met) at z) → Follows s gs (turnedBy left z markedHere)
       by (on y) to f =
-          next-follows s n y cutPlace v gs c (p .met) (inl silent) (p .out) (p .counts) (to .1) (q .here) (to .2 ∙ p .many)
-          (λ t h. let g = q .after t h in f t (g .0) (g .1)) (q .cut)
+          let z = standsIn (c .at) (c .within) in
+          subst (λ (d : Cursor). Follows s gs (link n y (groupAt (standsIn (d .at) (d .within)) cutPlace) v (head []))) (sym (to .1))
+          (next-follows s n y (groupAt z cutPlace) v gs c (p .met) (inl silent) (p .out) (p .counts) (to .1) (q .here) (to .2 ∙ p .many)
+          (outer-kept z cutPlace (c .at) (outer-less z cutPlace (c .at) (omega (arith, q .here, q .later, cut-before w around at (p .outer)))))
+          (λ t h. let g = q .after t h in f t (g .0) (g .1))
+          (λ t h. q .cut t h ∙ ap (λ (k : ℕ). refused (refusal pastEnd k)) (cut-kept z cutPlace (length (s ++ t)) h)))
       by (stops z) to f = by-step (z .step) (z .at) to f
 
   -- ---- a value's last octet has come
@@ -326,13 +366,12 @@ module _ (s : List ℕ) (n : ℕ) (x : Stand) (around : ℕ) (v : Waveform) (ph 
         turned-follows 0 after-item (effectOf kept (x .standing) (itemAt w at tag (length kept)))
         (record {
           here = p .counts;
+          later = i .here;
           fits = inside-less w (length s + 0) (length s) (omega arith) (p .inside);
-          known = λ t h k. subst
-              (λ (e : Effect). TurnStands (s ++ t) (p .met) at (effectTurn x after-item at e))
-              (has-effect t)
-              (subst (λ (q : ℕ). TurnStands (s ++ t) (p .met) at (effectTurn x after-item q (effectOf (s ++ t) (x .standing) found)))
-              (found-place w at tag (i .start) (i .len))
-              (found-is (p .stands t h) (is-found t h) (omega (arith, p .counts))));
+          item = found;
+          place = found-place w at tag (i .start) (i .len);
+          found = λ t h k. is-found t h;
+          effect = has-effect;
           cuts = λ t h k. let z : ⊥ = omega (arith, longer s t) in absurd z;
           bare = λ from long e. effect-bare (s ++ []) (x .standing) w at tag (i .start) (i .len) o (has-effect [] ∙ e);
           after = λ t h. (
@@ -363,13 +402,6 @@ module _ (s : List ℕ) (n : ℕ) (x : Stand) (around : ℕ) (v : Waveform) (ph 
     group-effect : (t u : List ℕ) → effectOf t (x .standing) (Item.Group at channel) ≡ effectOf u (x .standing) (Item.Group at channel)
     unfolding effectOf
     group-effect t u = refl
-
-    -- What is known of the group where the file has all of it.
-    group-known : (t : List ℕ) (c : Cursor) → c .at ≤ octetsLimit → nextOf (s ++ t) (x .cursor) ≡ Found (Item.Group at channel) c
-        → TurnStands (s ++ t) (p .met) at (effectTurn x c at (effectOf [] (x .standing) (Item.Group at channel)))
-    unfolding placeAt
-    group-known t c h e =
-        subst (λ (q : Effect). TurnStands (s ++ t) (p .met) at (effectTurn x c at q)) (group-effect (s ++ t) []) (found-is (stands-here t) e h)
 
     module _ (len : ℕ) (f : formOf (isInside w) (drop at s) ≡ Form.Definite channel start len) where
       abbrev in-group : Cursor
@@ -402,12 +434,17 @@ module _ (s : List ℕ) (n : ℕ) (x : Stand) (around : ℕ) (v : Waveform) (ph 
           by false q = absurd q
 
       pub definite-follows : Follows s gs (groupBegins len channel (Within.Definite channel (n + len)) (link n x around v ph))
+      unfolding placeAt
       definite-follows =
           turned-follows len in-group (effectOf [] (x .standing) (Item.Group at channel))
           (record {
             here = p .counts;
+            later = here;
             fits = rw outside tt;
-            known = λ t h k. group-known t in-group (omega (arith, p .counts)) (definite-found t k);
+            item = Item.Group at channel;
+            place = refl;
+            found = λ t h k. definite-found t k;
+            effect = λ t. group-effect (s ++ t) [];
             cuts = λ t h k. definite-cut t k;
             bare = λ from long e. group-bare [] (x .standing) at channel e;
             after = λ t h. (whole-here (length (s ++ t)), definite-whole (length (s ++ t)) (longer s t) h);
@@ -415,14 +452,18 @@ module _ (s : List ℕ) (n : ℕ) (x : Stand) (around : ℕ) (v : Waveform) (ph 
           })
 
     pub open-follows : formOf (isInside w) (drop at s) ≡ Form.Open channel start → Follows s gs (groupBegins 0 channel (Within.Open channel at) (link n x around v ph))
+    unfolding placeAt
     open-follows f =
         turned-follows 0 (cursor n (Within.Open channel at)) (effectOf [] (x .standing) (Item.Group at channel))
         (record {
           here = p .counts;
+          later = here;
           fits = rw outside tt;
-          known = λ t h k. group-known t (cursor n (Within.Open channel at)) (omega (arith, p .counts))
-              (next-open s t (x .cursor) here (p .inside) h channel start f
-              ∙ (λ k. Found (Item.Group at channel) (cursor ((all ∙ sym (p .counts)) k) (Within.Open channel at))));
+          item = Item.Group at channel;
+          place = refl;
+          found = λ t h k. next-open s t (x .cursor) here (p .inside) h channel start f
+              ∙ (λ k. Found (Item.Group at channel) (cursor ((all ∙ sym (p .counts)) k) (Within.Open channel at)));
+          effect = λ t. group-effect (s ++ t) [];
           cuts = λ t h k. let z : ⊥ = omega (arith, longer s t) in absurd z;
           bare = λ from long e. group-bare [] (x .standing) at channel e;
           after = λ t h. (whole-here (length (s ++ t)), omega (arith, longer s t));
@@ -454,6 +495,9 @@ module _ (s : List ℕ) (n : ℕ) (x : Stand) (around : ℕ) (v : Waveform) (ph 
           fault-is (stands-here t)
           (next-past s t (x .cursor) here (p .inside) (whole-here (length (s ++ t))) 0x1E start len f (omega (arith, longer s t, ends-root (length (s ++ t)))) (omega (arith, ends-root (length (s ++ t)))))
           ∙ ap (λ (q : ℕ). refused (refusal pastEnd q)) (sym cut-is)
+
+      wave-cuts : (t : List ℕ) → length s + len ≤ length (s ++ t) → CutsFrom (suc at) (unlimited (s ++ t))
+      wave-cuts t h = found-cuts (stands-here t .reached) (wave-found t h)
 
       -- The frame is taken: its settings are given out.
       taken-follows : (u : Waveform) (y : Stand) → TurnsTo x behind-wave at (Effect.Frame n len) (stops (stop (Step.Frame u) y))
@@ -489,11 +533,16 @@ module _ (s : List ℕ) (n : ℕ) (x : Stand) (around : ℕ) (v : Waveform) (ph 
           by-step (Step.Frame u) y to known =
               pick-cases (Follows s gs) (ltb octetsLimit (n + len))
               (λ e. waiting-follows s gs markedHere len (refusal longFile 0) limit silent
-              (record { counts = p .counts; cuts = wave-cut; sure = λ h t k. let z : ⊥ = omega (arith, ltb-true octetsLimit (n + len) e, p .counts) in absurd z }))
+              (record {
+                counts = p .counts;
+                cuts = wave-cut;
+                sure = λ h t k. let z : ⊥ = omega (arith, ltb-true octetsLimit (n + len) e, p .counts) in absurd z;
+                passes = λ _ t k. subst (λ (q : ℕ). CutsFrom (suc q) (unlimited (s ++ t))) (sym cut-is) (wave-cuts t k);
+              }))
               (λ e. let near = ltb-false octetsLimit (n + len) e in taken-follows u y to (known near) near)
           by-step Step.Ended y to known = absurd to
           by-step (Step.Refused r) y to known =
-              condemned-follows s n x around v ph gs limit silent p len r (rw outside tt) (λ h t _ k. sym (known (omega (arith, p .counts)) t k)) (λ t _ k. wave-cut t k)
+              condemned-follows s n x around v ph gs limit silent p len r (rw outside tt) (λ h t _ k. sym (known (omega (arith, p .counts)) t k)) (λ t _ k. wave-cut t k) (λ _ t _ k. wave-cuts t k)
 
           by : (z : Turn) → TurnsTo x behind-wave at (Effect.Frame n len) z
               → (n + len ≤ octetsLimit → (t : List ℕ) → length s + len ≤ length (s ++ t) → TurnStands (s ++ t) (p .met) at z) → Follows s gs (turnedBy len z markedHere)
@@ -506,4 +555,4 @@ module _ (s : List ℕ) (n : ℕ) (x : Stand) (around : ℕ) (v : Waveform) (ph 
   pub fault-follows : (r : Refusal) → ((t : List ℕ) → Whole w (length (s ++ t)) → nextOf (s ++ t) (x .cursor) ≡ Next.Refused r) → Follows s gs (condemned 0 r markedHere)
   fault-follows r f =
       condemned-follows s n x around v ph gs limit silent p 0 r (inside-less w (length s + 0) (length s) (omega arith) (p .inside)) (λ _ t h _. fault-is (p .stands t h) (f t h))
-      (λ t _ k. let z : ⊥ = omega (arith, longer s t) in absurd z)
+      (λ t _ k. let z : ⊥ = omega (arith, longer s t) in absurd z) (λ k. let z : ⊥ = omega (arith, k) in absurd z)

@@ -48,7 +48,7 @@ none-long [] e = refl
 none-long (b ∷ u) e = let z : ⊥ = omega arith in absurd z
 
 -- The file ends where the walk stands, outside groups.
-ends-there : {w : List ℕ} {met : List Frame} {y : Stand} → Stands w met y → y .cursor ≡ cursor (length w) Root → unlimited w ≡ accepted met
+pub ends-there : {w : List ℕ} {met : List Frame} {y : Stand} → Stands w met y → y .cursor ≡ cursor (length w) Root → unlimited w ≡ accepted met
 ends-there {w} {met} {y} p e =
     let at = ap (λ (c : Cursor). c .at) e in
     end-next p

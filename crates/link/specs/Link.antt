@@ -128,8 +128,14 @@ stoppedAt left (Step.Frame v) y l =
 stoppedAt left Step.Ended y l = l
 stoppedAt left (Step.Refused r) y l = condemned left r l
 
+-- Between two items an end is 3 only in a definite group, at the group's place; elsewhere no place is kept.
+abbrev pub groupAt : Within → ℕ → ℕ
+groupAt Within.Root around = 0
+groupAt (Within.Definite channel end) around = around
+groupAt (Within.Open channel group) around = 0
+
 unfoldable pub turnedBy : ℕ → Turn → Link → Link
-turnedBy left (on y) l = link (l .count) y (l .around) (l .frame) (head [])
+turnedBy left (on y) l = link (l .count) y (groupAt (standsIn (y .cursor .at) (y .cursor .within)) (l .around)) (l .frame) (head [])
 turnedBy left (stops z) l = stoppedAt left (z .step) (z .at) l
 
 -- From now on an end is 3 at this item, or at the definite group around it.
@@ -309,9 +315,9 @@ endIn (waveform left t) l = refusedAs pastEnd (l .around)
 endIn (waits left r) l = refusedAs pastEnd (l .around)
 endIn (decided a) l = a
 
-abbrev pub endOf : Link → Answer ℕ
-endOf l = endIn (l .phase) l
+abbrev pub endAnswer : Link → Answer ℕ
+endAnswer l = endIn (l .phase) l
 
 -- The end repeats itself.
 abbrev pub endedBy : Link → Link
-endedBy l = inPhase (decided (endOf l)) l
+endedBy l = inPhase (decided (endAnswer l)) l

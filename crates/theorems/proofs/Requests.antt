@@ -35,13 +35,14 @@ use Rattle.canonical.specs.Write.{canonicalOf, Wrote}
 use Rattle.outputs.specs.Outputs.{Outputs, outputs, handedOut, countOut}
 use Rattle.maker.specs.Make.{Making, recordMade, madeIn, Made}
 use Rattle.mfer.specs.Answers.{MadeOut}
-use Rattle.link.specs.Link.{Phase, decided, Link, firstLink, fedWith, givenBy, endIn, endOf}
+use Rattle.link.specs.Link.{Phase, decided, Link, firstLink, fedWith, givenBy, endIn, endAnswer}
 use Rattle.link.specs.Order.{samplesGiven, framesGiven, settingsTold}
 use Rattle.link.specs.Feed.{fed, feedOf, joined, fedPieces, givenPieces}
-use Rattle.link.proofs.Results.{joined-pieces, fed-check, fed-settled, fed-refused, fed-decided, given-decided, atLimit, pastLimit, fed-past, given-all}
+use Rattle.link.proofs.Results.{joined-pieces, fed-check, fed-refused, fed-decided, given-decided, atLimit, pastLimit, fed-past, given-all}
 use Rattle.link.proofs.Told.{leftIn, ToldLast, told-last, told-right}
 use Rattle.link.proofs.Feeds.{Feeds, feed-feeds}
 use Rattle.link.proofs.Right.{All, Right, given-right}
+use Rattle.link.proofs.Settles.{decided-exactly}
 use Rattle.canonical.proofs.Accepted.{samples-sized, sample-at}
 use Rattle.canonical.proofs.Octets.{waveform-octets}
 use Rattle.theorems.specs.Told.{samplesRecorded}
@@ -204,7 +205,7 @@ pub record RequestThree : Type 0 where
   -- "Wherever the cuts fall": pieces fed one after the other leave and give out what they do joined together. So what was given out is never taken back or changed.
   pub cuts : (l : Link) (ps : List (List ℕ)) → (fedPieces l ps ≡ fedWith l (joined ps)) × (givenPieces l ps ≡ givenBy l (joined ps))
   -- "Ends with the same frame count, or refusal and place, as the whole-file reader on everything joined together, if the whole is within 15's limit."
-  pub ends : (ps : List (List ℕ)) → length (joined ps) ≤ octetsLimit → endOf (fedPieces firstLink ps) ≡ checkOf (joined ps)
+  pub ends : (ps : List (List ℕ)) → length (joined ps) ≤ octetsLimit → endAnswer (fedPieces firstLink ps) ≡ checkOf (joined ps)
   -- One call takes a front of what has arrived, leaves and gives out what those octets do, and no more samples than there is room for.
   pub call : (room : ℕ) (l : Link) (s : List ℕ) → Feeds room l s (feedOf room l s)
   -- "At each waveform it gives out the settings", "for the file up to that waveform's end": while a frame is told, each file that goes on to the end of its waveform is
@@ -217,9 +218,10 @@ pub record RequestThree : Type 0 where
   pub right : (s : List ℕ) (fs : List Frame) → verdict s ≡ accepted fs → (i : ℕ) → i < length fs → All (Right s i) (samplesGiven (frameNumber fs i))
   -- "Feeding nothing changes nothing; after the end or a refusal, further feeding repeats that answer", and gives nothing out.
   pub nothing : (room : ℕ) (l : Link) → feedOf room l [] ≡ fed 0 l []
-  pub repeats : (l : Link) (a : Answer ℕ) → l .phase ≡ decided a → (s : List ℕ) → (fedWith l s ≡ l) × (givenBy l s ≡ []) × (endOf l ≡ a)
-  -- "Any other at the octet that settles it": a refusal that comes while feeding is settled, so that every longer file has it, 15 left out.
-  pub settled : (s : List ℕ) (number place : ℕ) → length s ≤ octetsLimit → after s .phase ≡ decided (refusedAs number place) → (t : List ℕ) → unlimited (s ++ t) ≡ refused (refusal number place)
+  pub repeats : (l : Link) (a : Answer ℕ) → l .phase ≡ decided a → (s : List ℕ) → (fedWith l s ≡ l) × (givenBy l s ≡ []) × (endAnswer l ≡ a)
+  -- "Any other at the octet that settles it": a refusal comes while feeding exactly when it is settled, so that every longer file has it, of any length and with 15 left
+  -- out; so it comes with the last octet of the shortest front that settles it.
+  pub settled : (s : List ℕ) (number place : ℕ) → length s ≤ octetsLimit → (after s .phase ≡ decided (refusedAs number place)) ↔ ((t : List ℕ) → unlimited (s ++ t) ≡ refused (refusal number place))
   -- While octets come within the limit, no answer but a refusal is given.
   pub waits : (s : List ℕ) (n : ℕ) → length s ≤ octetsLimit → after s .phase ≡ decided (answered n) → ⊥
   -- "15 comes at the octet that passes the limit, if nothing was refused before"; from there on nothing is given out.
@@ -230,7 +232,7 @@ unfolding feedOf endIn
 request-three =
     record {
       cuts = joined-pieces;
-      ends = λ ps h. ap endOf (joined-pieces firstLink ps .0) ∙ fed-check (joined ps) h;
+      ends = λ ps h. ap endAnswer (joined-pieces firstLink ps .0) ∙ fed-check (joined ps) h;
       call = feed-feeds;
       told = told-last;
       settings = λ w l p some channel. told-right w l p some channel;
@@ -238,7 +240,7 @@ request-three =
       right = given-right;
       nothing = λ room l. refl;
       repeats = λ l a e s. (fed-decided l a e s, given-decided l a e s, ap (λ (p : Phase). endIn p l) e);
-      settled = fed-settled;
+      settled = decided-exactly;
       waits = fed-refused;
       limit = fed-past;
     }

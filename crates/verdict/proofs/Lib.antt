@@ -5,3 +5,4 @@ pub mod Tables
 pub mod Bounds
 pub mod Frames
 pub mod Settled
+pub mod Cuts

@@ -20,7 +20,7 @@ use Rattle.octets.proofs.Laws.{number-first, take-octets, drop-octets}
 use Rattle.octets.proofs.Pick.{pick-cases}
 use Rattle.items.specs.declared.Item.{Item}
 use Rattle.items.specs.declared.Item.the-variants.{Plain}
-use Rattle.heads.specs.Refusals.{longFile}
+use Rattle.heads.specs.Refusals.{barredTag, longFile}
 use Rattle.settings.specs.declared.Settings.{Settings}
 use Rattle.definitions.specs.declared.Attribute.{Attribute}
 use Rattle.settings.specs.declared.Change.{Change}
@@ -38,6 +38,10 @@ use Rattle.framing.specs.Framing.{sequencesOf, pointerFits, pointerAfter, frame
 use Rattle.verdict.specs.Verdict.{State, state, Outcome, goes, refuses, oneChanged, frameChannels, frameAt, withFrame, carried}
 use Rattle.verdict.proofs.Keeps.{meaning}
 
+-- An item is refused by none of the numbers of form up to 5, and not by 15.
+abbrev pub Refusing : ℕ → Type 0
+Refusing n = (barredTag < n) × (n < longFile)
+
 -- ---- definitions
 
 -- The changes that a definition in the file s can ask for, where it goes back to `base` at length 0.
@@ -51,7 +55,7 @@ pub data DefinedChange (s : List ℕ) (base : Settings) : Change → Type 0 wher
 
 abbrev Gives : List ℕ → Settings → Defined → Type 0
 Gives s base (Defined.Changed c) = DefinedChange s base c
-Gives s base (Defined.Refused n) = n < longFile
+Gives s base (Defined.Refused n) = Refusing n
 
 defined-gives : (s : List ℕ) (base : Settings) (a : Attribute) (little : Bool) (start len : ℕ) → Gives s base (defined a little base (valueAt s start len))
 unfolding defined
@@ -94,7 +98,7 @@ Asks s st i (Effect.Start z) = Unit {0}
 Asks s st i (Effect.All c) = DefinedChange s defaultSettings c
 Asks s st i (Effect.One channel c) = DefinedChange s (st .root) c
 Asks s st i (Effect.Frame start long) = Waveform s i start long
-Asks s st i (Effect.Refused n) = n < longFile
+Asks s st i (Effect.Refused n) = Refusing n
 
 module _ (s : List ℕ) (st : Standing) where
   all-asks : (i : Item) (d : Defined) → Gives s defaultSettings d → Asks s st i (allEffect d)
@@ -207,7 +211,7 @@ pub record TakenBy (frames : ℕ) (st : Standing) (agree : Bool) (octets long n 
 
 abbrev FramedGives : ℕ → Standing → Bool → ℕ → ℕ → Framed → Type 0
 FramedGives frames st agree octets long (Framed.Taken n y) = TakenBy frames st agree octets long n y
-FramedGives frames st agree octets long (Framed.Refused k) = k < longFile
+FramedGives frames st agree octets long (Framed.Refused k) = Refusing k
 
 framed-gives : (frames : ℕ) (st : Standing) (agree : Bool) (octets long : ℕ) → FramedGives frames st agree octets long (framedAs frames st agree octets long)
 unfolding framedAs
@@ -253,10 +257,9 @@ step-grown s x i _ (changes c d) = ([], sym (append-nil (x .frames)))
 step-grown s x i _ (sets channel c d) = ([], sym (append-nil (x .frames)))
 step-grown s x i _ (frames start long n y w t) = (frameAt s x start long n ∷ [], refl)
 
--- No item is refused by 15.
 abbrev Steps : List ℕ → State → Item → Outcome → Type 0
 Steps s x i (goes y) = ItemStep s x i y
-Steps s x i (refuses n) = n < longFile
+Steps s x i (refuses n) = Refusing n
 
 frame-steps : (s : List ℕ) (x : State) (i : Item) (start long : ℕ) (r : Framed) → Waveform s i start long
     → FramedGives (length (x .frames)) (x .standing) (allAgree (frameChannels x)) (sequenceOctets (frameChannels x)) long r
@@ -285,5 +288,5 @@ module _ (s : List ℕ) (x : State) (i : Item) where
   pub meaning-steps : (y : State) → meaning s x i ≡ goes y → ItemStep s x i y
   meaning-steps y e = subst (Steps s x i) e steps
 
-  pub meaning-refused : (n : ℕ) → meaning s x i ≡ refuses n → n < longFile
+  pub meaning-refused : (n : ℕ) → meaning s x i ≡ refuses n → Refusing n
   meaning-refused n e = subst (Steps s x i) e steps
