@@ -10,7 +10,7 @@ use mathlib.Core.List.{List, [], _∷_, _++_, append-assoc, append-nil}
 use mathlib.Core.Bool.{Bool, true, false}
 use native.Mathlib.Omega.{arith}
 use borrow.Author.Tests.{lt-ltb, le-ltb, lt-leb, ne-eqb}
-use lib.Dec.{ltb, leb, eqb}
+use lib.Dec.{ltb}
 use native.Mathlib.Nat.{min-le-left}
 use lib.ListN.{length, getD, take, length-append, length-take}
 use lib.Seq.{take-all}
@@ -21,7 +21,7 @@ use Rattle.layout.specs.Frame.{widthIn}
 use Rattle.standing.specs.Standing.{octetsLimit}
 use Rattle.walk.specs.declared.Waveform.{Waveform}
 use Rattle.walk.specs.Advance.{Stand}
-use Rattle.link.specs.Link.{Coming, coming, Given, Phase, head, value, waveform, waits, decided, Link, link, inPhase, waiting, waved, valued, keptLimit, settingsIn, nextComing, sampleOn, inSequences, givenAs, counted, takenIn, isDecided, stepped, fedWith, sampleBy, givesIn, gives, givenBy}
+use Rattle.link.specs.Link.{Coming, coming, Given, Phase, value, waveform, waits, Link, link, waiting, waved, valued, keptLimit, nextComing, sampleOn, givenAs, takenIn, isDecided, stepped, fedWith, sampleBy, givesIn, gives, givenBy}
 use Rattle.link.specs.Feed.{Fed, fed, due, onto, feedOf}
 use Rattle.link.proofs.Fed.{kept-on}
 

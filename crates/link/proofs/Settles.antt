@@ -3,7 +3,7 @@
 --     decided-exactly    so it decides as soon as the refusal is settled, and not before
 -- A file that ends inside an item is 3 there, or at the definite group around it. Zeros that complete the item or the group lead past that place.
 -- Assumes nothing.
-use Prim.Native.Nat.{ℕ, zero, suc, _+_, _-_, _≤_, _<_}
+use Prim.Native.Nat.{ℕ, suc, _+_, _-_, _≤_, _<_}
 use mathlib.Core.Path.{_≡_, refl, sym, _∙_, ap, subst}
 use mathlib.Core.List.{List, [], _∷_, _++_, append-nil, append-assoc}
 use mathlib.Core.Logic.{_↔_}
@@ -19,14 +19,14 @@ use Rattle.items.specs.declared.Within.the-variants.{Root}
 use Rattle.items.specs.Walk.{refusal, cursor, isInside}
 use Rattle.layout.specs.Frame.{Frame}
 use Rattle.standing.specs.Standing.{octetsLimit}
-use Rattle.verdict.specs.Verdict.{accepted, refused, unlimited, checkedAs}
+use Rattle.verdict.specs.Verdict.{refused, unlimited, checkedAs}
 use Rattle.verdict.proofs.Cuts.{CutsFrom, cuts-less, reached-cuts, found-cuts}
 use Rattle.walk.specs.declared.Waveform.{Waveform}
 use Rattle.walk.specs.Advance.{Stand}
 use Rattle.walk.proofs.Joins.{Stands}
-use Rattle.link.specs.Link.{Given, Phase, head, value, waveform, waits, decided, Link, firstLink, cutAt, fedWith, givenBy, endedIn, endIn, endAnswer}
-use Rattle.link.proofs.Seen.{endsIn, Whole, Inside, longer, next-faulty, next-fits, next-definite, next-open}
-use Rattle.link.proofs.Grown.{grown, grown-long, drop-grown}
+use Rattle.link.specs.Link.{Given, Phase, head, value, waveform, waits, decided, Link, firstLink, cutAt, fedWith, givenBy, endedIn, endIn}
+use Rattle.link.proofs.Seen.{endsIn, Whole, Inside, next-faulty, next-fits, next-definite, next-open}
+use Rattle.link.proofs.Grown.{grown-long, drop-grown}
 use Rattle.link.proofs.Item.{found-item}
 use Rattle.link.proofs.Follows.{withinOf, Outer, Resumes, fault-is, InHead, InValue, FollowsIn}
 use Rattle.link.proofs.Steps.{cut-before}

@@ -54,7 +54,7 @@ use Rattle.link.proofs.Seen.{endsIn, Whole, Inside, longer, next-fits, 
 use Rattle.link.proofs.Item.{Plainly, itemFound, found-item, found-place, value-is, effect-same, after-same, effect-frame, effect-bare, group-bare}
 use Rattle.link.proofs.Rest.{rest, rest-first, rest-past}
 use Rattle.link.proofs.Arrives.{Good, ArrivesAt, arrives-first, rest-none}
-use Rattle.link.proofs.Follows.{withinOf, Cut, Outer, Resumes, fault-is, found-is, TurnsTo, turns-to, Silent, Last, Tells, Begun, channelsBy, InWave, Sure, Follows, waiting-follows, cutHere, condemned-follows}
+use Rattle.link.proofs.Follows.{withinOf, Cut, Outer, Resumes, fault-is, found-is, TurnsTo, turns-to, Silent, Last, Tells, Begun, channelsBy, InWave, Follows, waiting-follows, cutHere, condemned-follows}
 
 -- ---- the next item begins
 
