@@ -1,5 +1,6 @@
 -- Laws of a head and a frame kept in words.
 --     lent, lent-all    the words from a place on
+--     same-behind       the same words from a place on
 --     keeping-none      words too few for a head
 --     keeping-stored    the numbers of a head and of a frame stored
 -- Assumes nothing.
@@ -76,7 +77,7 @@ module _ {f g : ℕ → ℕ} where
       }
 
 -- Words that are as many, and the same from a place on.
-same-behind : (u v : List ℕ) (k : ℕ) → length v ≡ length u → ((n : ℕ) → k ≤ n → getD v n 0 ≡ getD u n 0) → drop k v ≡ drop k u
+pub same-behind : (u v : List ℕ) (k : ℕ) → length v ≡ length u → ((n : ℕ) → k ≤ n → getD v n 0 ≡ getD u n 0) → drop k v ≡ drop k u
 same-behind u v k l h =
     ext-getD 0 (drop k v) (drop k u) (length-drop k v ∙ omega (arith, l, length-drop k u)) (λ n b. getD-drop k v n 0 ∙ h (k + n) (omega arith) ∙ sym (getD-drop k u n 0))
 

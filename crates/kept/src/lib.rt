@@ -3,6 +3,7 @@
 // The root settings stand first, kept as a record is; behind them stand the head's other numbers, and then the frame's. A number is that of the lowest
 // octets of its word, so that any words at all hold some head and some frame.
 // Promises, for any words: `head_at` and `waveform_at` answer what words hold, and `keep` stores it. Words too few for a head stay as they are.
+// `word` answers a word and `four_at` the number of its four lowest octets, for others that keep numbers so.
 // Read first: specs/Words.antt.
 ghost use mathlib.Core.Path.{_≡_};
 ghost use Prim.Native.Nat.{_+_, _≤_};
@@ -38,14 +39,14 @@ impl Kept {
 }
 
 // A word; 0 past the end.
-fn word(w: &[u64], n: usize) -> u64
+pub fn word(w: &[u64], n: usize) -> u64
     ensures { λ r. ⌜ r ≡ getD (now (w .entry)) n 0 ⌝ }
 {
     if n < w.len() { w[n] } else { 0 }
 }
 
 // The number of a word's four lowest octets.
-fn four_at(w: &[u64], n: usize) -> u32
+pub fn four_at(w: &[u64], n: usize) -> u32
     ensures { λ r. ⌜ r ≡ lowOf 4 (getD (now (w .entry)) n 0) ⌝ }
 {
     (word(w, n) % octets::FOUR_OCTETS) as u32

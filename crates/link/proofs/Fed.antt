@@ -43,7 +43,7 @@ use Rattle.link.proofs.Item.{Plainly}
 use Rattle.link.proofs.Follows.{withinOf, Cut, Resumes, fault-is, Silent, InHead, Begun, InValue, Sure, Settled, FollowsIn, Follows, waiting-follows}
 use Rattle.link.proofs.Grown.{grown, grown-long, to-grown, of-grown, drop-grown}
 use Rattle.link.proofs.Waves.{wave-on}
-use Rattle.link.proofs.Steps.{inside-less, next-follows, waved-follows, done-follows, definite-follows, open-follows, wave-follows, fault-follows}
+use Rattle.link.proofs.Steps.{inside-less, room-begun, next-follows, waved-follows, done-follows, definite-follows, open-follows, wave-follows, fault-follows}
 
 -- ---- the octets of a head
 
@@ -387,12 +387,6 @@ room-short : (w : Within) (m k : ℕ) → m < k → Inside w k → Whole w m →
 room-short Within.Root m k h i q = h
 room-short (Within.Definite channel end) m k h i q = let z : ⊥ = omega arith in absurd z
 room-short (Within.Open channel place) m k h i q = h
-
--- What has come is inside.
-pub room-begun : (w : Within) (m k : ℕ) → k ≤ m → Inside w k → k ≤ endsIn w m
-room-begun Within.Root m k h i = h
-room-begun (Within.Definite channel end) m k h i = i
-room-begun (Within.Open channel place) m k h i = h
 
 pub end-follows : (s : List ℕ) (gs : List Given) (l : Link) → Follows s gs l → checkedAs (unlimited s) ≡ endAnswer l
 unfolding endIn checkedAs

@@ -69,6 +69,12 @@ inside-less Within.Root m n h i = tt
 inside-less (Within.Definite channel end) m n h i = omega arith
 inside-less (Within.Open channel place) m n h i = tt
 
+-- What has come is inside.
+pub room-begun : (w : Within) (m k : ℕ) → k ≤ m → Inside w k → k ≤ endsIn w m
+room-begun Within.Root m k h i = h
+room-begun (Within.Definite channel end) m k h i = i
+room-begun (Within.Open channel place) m k h i = h
+
 outer-less : (w : Within) (around at : ℕ) → around < at → Outer w around at
 outer-less Within.Root around at h = tt
 outer-less (Within.Definite channel end) around at h = h
@@ -333,11 +339,6 @@ module _ (s : List ℕ) (n : ℕ) (x : Stand) (around : ℕ) (v : Waveform) (ph 
   group-cut (Within.Definite channel end) m q = refl
   group-cut (Within.Open channel place) m q = absurd q
 
-  room-fits : (z : Within) (m k : ℕ) → k ≤ m → Inside z k → Whole z m → k ≤ endsIn z m
-  room-fits Within.Root m k h i q = h
-  room-fits (Within.Definite channel end) m k h i q = i
-  room-fits (Within.Open channel place) m k h i q = h
-
   module _ (tag : ℕ) (i : Begun s x tag 0) (o : Plainly w tag) where
     abbrev kept : List ℕ
     kept = take keptLimit (drop (at + i .start) s)
@@ -353,7 +354,7 @@ module _ (s : List ℕ) (n : ℕ) (x : Stand) (around : ℕ) (v : Waveform) (ph 
 
     is-found : (t : List ℕ) → Whole w (length (s ++ t)) → nextOf (s ++ t) (x .cursor) ≡ Found found after-item
     is-found t h =
-        let r = room-fits w (length (s ++ t)) (length s) (longer s t) (p .inside) h in
+        let r = room-begun w (length (s ++ t)) (length s) (longer s t) (p .inside) in
         next-fits s t (x .cursor) (i .here) (p .inside) h tag (i .start) (i .len) (i .form) (omega (arith, ends-here))
         ∙ found-item w at tag (i .start) (i .len)
         ∙ (λ k. Found found (cursor ((ends-here ∙ sym (p .counts)) k) (after-same s t (x .standing) at tag (i .start) (i .len) ends-here w k)))
