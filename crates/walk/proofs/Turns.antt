@@ -134,10 +134,10 @@ pub record Turning (s : List ℕ) (x : Stand) (i : Item) (d : Cursor) (e : Effec
   pub asks : e ≡ effectOf s (x .standing) i
 
 -- The effects that set nothing but what stands.
-abbrev plain-keys : List ℕ
+abbrev pub plain-keys : List ℕ
 plain-keys = 0 ∷ 1 ∷ 3 ∷ 4 ∷ []
 
-plain-goes : (x : Stand) (c : Cursor) (place : ℕ) (e : Effect) → OneOf plain-keys (tagOf the-type e) → effectTurn x c place e ≡ goesOn x c e (x .dates) (x .records)
+pub plain-goes : (x : Stand) (c : Cursor) (place : ℕ) (e : Effect) → OneOf plain-keys (tagOf the-type e) → effectTurn x c place e ≡ goesOn x c e (x .dates) (x .records)
 unfolding effectTurn
 plain-goes x c place Effect.Pass h = refl
 plain-goes x c place (Effect.Order little) h = refl
@@ -205,11 +205,11 @@ module _ {s : List ℕ} {x : Stand} {i : Item} {d : Cursor} {e : Effect} (t : Tu
 -- ---- a waveform
 
 -- A frame that is taken is not one too many.
-abbrev Few : ℕ → Framed → Type 0
+abbrev pub Few : ℕ → Framed → Type 0
 Few frames (Framed.Taken n st) = frames < framesLimit
 Few frames (Framed.Refused n) = Unit {0}
 
-framed-few : (frames : ℕ) (st : Standing) (agree : Bool) (octets long : ℕ) → Few frames (framedBy frames st agree octets long)
+pub framed-few : (frames : ℕ) (st : Standing) (agree : Bool) (octets long : ℕ) → Few frames (framedBy frames st agree octets long)
 unfolding framedBy framedAs
 framed-few frames st agree octets long =
     let P = Few frames in
