@@ -244,20 +244,20 @@ module _ (s : List ℕ) (n : ℕ) (x : Stand) (around : ℕ) (v : Waveform) (ph 
       → (length s + left ≤ octetsLimit → (t : List ℕ) → Whole (withinOf x) (length (s ++ t)) → length s + left ≤ length (s ++ t) → unlimited (s ++ t) ≡ refused r)
       → ((t : List ℕ) → Whole (withinOf x) (length (s ++ t)) → length (s ++ t) < length s + left → unlimited (s ++ t) ≡ refused (refusal pastEnd cutHere))
       → (0 < left → (t : List ℕ) → Whole (withinOf x) (length (s ++ t)) → length s + left ≤ length (s ++ t) → CutsFrom (suc (x .cursor .at)) (unlimited (s ++ t)))
-      → Follows s gs (condemned left r (link n x cutHere v ph))
+      → (y : Stand) → Follows s gs (condemned (withinOf x) left r (link n y cutHere v ph))
   unfolding condemned
-  condemned-follows left r fits f g m = by (withinOf x) (p .cut) (p .outer) (p .stands) fits f g m
+  condemned-follows left r fits f g m y = by (withinOf x) (p .cut) (p .outer) (p .stands) fits f g m
     where
       by : (w : Within) → ((t : List ℕ) → Cut w (length (s ++ t)) → unlimited (s ++ t) ≡ refused (refusal pastEnd around)) → Outer w around (x .cursor .at)
           → ((t : List ℕ) → Whole w (length (s ++ t)) → Stands (s ++ t) (p .met) x) → Inside w (length s + left)
           → (length s + left ≤ octetsLimit → (t : List ℕ) → Whole w (length (s ++ t)) → length s + left ≤ length (s ++ t) → unlimited (s ++ t) ≡ refused r)
           → ((t : List ℕ) → Whole w (length (s ++ t)) → length (s ++ t) < length s + left → unlimited (s ++ t) ≡ refused (refusal pastEnd (cutAt w (x .cursor .at) around)))
           → (0 < left → (t : List ℕ) → Whole w (length (s ++ t)) → length s + left ≤ length (s ++ t) → CutsFrom (suc (x .cursor .at)) (unlimited (s ++ t)))
-          → Follows s gs (waiting (lastsIn w n left) r (link n x (cutAt w (x .cursor .at) around) v ph))
+          → Follows s gs (waiting (lastsIn w n left) r (link n y (cutAt w (x .cursor .at) around) v ph))
       by Within.Root c o d i f g m =
-          waiting-follows s gs (link n x (x .cursor .at) v ph) left r limit silent (record { counts = p .counts; cuts = λ t k. g t tt k; sure = λ h t k. f h t tt k; passes = λ z t k. m z t tt k })
+          waiting-follows s gs (link n y (x .cursor .at) v ph) left r limit silent (record { counts = p .counts; cuts = λ t k. g t tt k; sure = λ h t k. f h t tt k; passes = λ z t k. m z t tt k })
       by (Within.Definite channel end) c o d i f g m =
-          waiting-follows s gs (link n x around v ph) (end - n) r limit silent
+          waiting-follows s gs (link n y around v ph) (end - n) r limit silent
           (record {
             counts = p .counts;
             cuts = λ t k. c t (omega (arith, p .counts));
@@ -265,4 +265,4 @@ module _ (s : List ℕ) (n : ℕ) (x : Stand) (around : ℕ) (v : Waveform) (ph 
             passes = λ z t k. cuts-less o (unlimited (s ++ t)) (reached-cuts (d t (omega (arith, p .counts)) .reached));
           })
       by (Within.Open channel place) c o d i f g m =
-          waiting-follows s gs (link n x (x .cursor .at) v ph) left r limit silent (record { counts = p .counts; cuts = λ t k. g t tt k; sure = λ h t k. f h t tt k; passes = λ z t k. m z t tt k })
+          waiting-follows s gs (link n y (x .cursor .at) v ph) left r limit silent (record { counts = p .counts; cuts = λ t k. g t tt k; sure = λ h t k. f h t tt k; passes = λ z t k. m z t tt k })

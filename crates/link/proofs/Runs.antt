@@ -22,7 +22,7 @@ use Rattle.standing.specs.Standing.{octetsLimit}
 use Rattle.walk.specs.declared.Waveform.{Waveform}
 use Rattle.walk.specs.Advance.{Stand}
 use Rattle.link.specs.Link.{Coming, coming, Given, Phase, value, waveform, waits, Link, link, waiting, waved, valued, keptLimit, nextComing, sampleOn, givenAs, takenIn, isDecided, stepped, fedWith, sampleBy, givesIn, gives, givenBy}
-use Rattle.link.specs.Feed.{Fed, fed, due, onto, feedOf}
+use Rattle.link.specs.Feed.{Fed, fed, isHead, due, onto, feedOf}
 use Rattle.link.proofs.Fed.{kept-on}
 
 -- ---- calls
@@ -99,10 +99,10 @@ leads-more l m n b u g h e s k q p =
       given = (λ i. k i ++ givenBy (s i) u) ∙ ap (λ (x : List Given). g ++ x) (p .given);
     }
 
--- Where the frames stay as many, no settings are due.
-not-due : (l m : Link) (b : ℕ) → stepped l b ≡ m → m .stand .frames ≡ l .stand .frames → isDecided (m .phase) ≡ false → stopsBehind l b ≡ false
+-- Outside heads no settings are due.
+not-due : (l m : Link) (b : ℕ) → isHead (l .phase) ≡ false → stepped l b ≡ m → isDecided (m .phase) ≡ false → stopsBehind l b ≡ false
 unfolding due
-not-due l m b s f e = rw (s, e, f) (le-ltb (l .stand .frames) (l .stand .frames) (omega arith))
+not-due l m b h s e = rw (s, e, h)
 
 module _ (n : ℕ) (x : Stand) (around : ℕ) (v : Waveform) where
   abbrev in-phase : ℕ → Phase → Link
@@ -132,7 +132,7 @@ waits-run n x around v left r (b ∷ u) h k =
     let s : stepped l b ≡ m = steps-to n x around v (waits left r) b (omega arith) refl ∙ simp (ne-eqb (left - 1) 0 some) in
     let a : n + 1 + length u ≡ n + suc (length u) = omega arith in
     let c : left - 1 - length u ≡ left - suc (length u) = omega arith in
-    leads-more l m (link (n + suc (length u)) x around v (waits (left - suc (length u)) r)) b u [] [] refl s (gives-of n x around v (waits left r) b (omega arith)) (not-due l m b s refl refl)
+    leads-more l m (link (n + suc (length u)) x around v (waits (left - suc (length u)) r)) b u [] [] refl s (gives-of n x around v (waits left r) b (omega arith)) (not-due l m b refl s refl)
     (subst (λ (z : Link). Leads m u z []) (λ i. link (a i) x around v (waits (c i) r)) (waits-run (n + 1) x around v (left - 1) r u (omega arith) (omega arith)))
 
 -- What is kept of a value.
@@ -157,7 +157,7 @@ value-run n x around v tag left kept (b ∷ u) f h k =
     let a : n + 1 + length u ≡ n + suc (length u) = omega arith in
     let c : left - 1 - length u ≡ left - suc (length u) = omega arith in
     let short : length now ≤ keptLimit = rw length-take (min-le-left keptLimit (length (kept ++ (b ∷ [])))) in
-    leads-more l m (link (n + suc (length u)) x around v (value tag (left - suc (length u)) (take keptLimit (kept ++ (b ∷ u))))) b u [] [] refl s (gives-of n x around v (value tag left kept) b (omega arith)) (not-due l m b s refl refl)
+    leads-more l m (link (n + suc (length u)) x around v (value tag (left - suc (length u)) (take keptLimit (kept ++ (b ∷ u))))) b u [] [] refl s (gives-of n x around v (value tag left kept) b (omega arith)) (not-due l m b refl s refl)
     (subst (λ (z : Link). Leads m u z []) (λ i. link (a i) x around v (value tag (c i) (kept-all kept u b i))) (value-run (n + 1) x around v tag (left - 1) now u short (omega arith) (omega arith)))
 
 -- ---- octets of a waveform
@@ -190,7 +190,7 @@ module _ (x : Stand) (around : ℕ) (v : Waveform) where
 
   pub wave-open : (n left : ℕ) (t : Coming) (b : ℕ) → n < octetsLimit → stopsBehind (atSample n left t) b ≡ false
   wave-open n left t b h =
-      not-due (atSample n left t) (link (n + 1) x around v (waved (left - 1) (nextSample n left t b))) b (wave-steps n left t b h) refl (waved-open (left - 1) (nextSample n left t b))
+      not-due (atSample n left t) (link (n + 1) x around v (waved (left - 1) (nextSample n left t b))) b refl (wave-steps n left t b h) (waved-open (left - 1) (nextSample n left t b))
 
   -- Octets that give nothing out, where each leaves a sample that is coming: P t u says of a sample t and octets u what it takes, and t with u is `with t u`.
   module _ (P : Coming → List ℕ → Type 0) (with : Coming → List ℕ → Coming) (none : (t : Coming) → with t [] ≡ t)

@@ -294,7 +294,7 @@ module _ (s : List ℕ) (n : ℕ) (x : Stand) (around : ℕ) (v : Waveform) (ph 
       by-step (Step.Frame u) y to f = absurd (q .bare (u .place) (u .len) (to .0))
       by-step Step.Ended y to f = absurd to
       by-step (Step.Refused r) y to f = condemned-follows s n x around v ph gs limit silent p left r (q .fits) (λ _ t h k. sym (f t h k)) (q .cuts)
-          (λ _ t h k. found-cuts (p .stands t h .reached) (q .found t h k))
+          (λ _ t h k. found-cuts (p .stands t h .reached) (q .found t h k)) y
 
       by : (z : Turn) → TurnsTo x c at e z → ((t : List ℕ) → Whole w (length (s ++ t)) → length s + left ≤ length (s ++ t) → TurnStands (s ++ t) (p .met) at z) → Follows s gs (turnedBy left z markedHere)
       by (on y) to f =
@@ -533,7 +533,7 @@ module _ (s : List ℕ) (n : ℕ) (x : Stand) (around : ℕ) (v : Waveform) (ph 
               → (n + len ≤ octetsLimit → (t : List ℕ) → length s + len ≤ length (s ++ t) → TurnStands (s ++ t) (p .met) at (stops (stop k y))) → Follows s gs (stoppedAt len k y markedHere)
           by-step (Step.Frame u) y to known =
               pick-cases (Follows s gs) (ltb octetsLimit (n + len))
-              (λ e. waiting-follows s gs markedHere len (refusal longFile 0) limit silent
+              (λ e. waiting-follows s gs (link n y cutPlace v ph) len (refusal longFile 0) limit silent
               (record {
                 counts = p .counts;
                 cuts = wave-cut;
@@ -543,7 +543,7 @@ module _ (s : List ℕ) (n : ℕ) (x : Stand) (around : ℕ) (v : Waveform) (ph 
               (λ e. let near = ltb-false octetsLimit (n + len) e in taken-follows u y to (known near) near)
           by-step Step.Ended y to known = absurd to
           by-step (Step.Refused r) y to known =
-              condemned-follows s n x around v ph gs limit silent p len r (rw outside tt) (λ h t _ k. sym (known (omega (arith, p .counts)) t k)) (λ t _ k. wave-cut t k) (λ _ t _ k. wave-cuts t k)
+              condemned-follows s n x around v ph gs limit silent p len r (rw outside tt) (λ h t _ k. sym (known (omega (arith, p .counts)) t k)) (λ t _ k. wave-cut t k) (λ _ t _ k. wave-cuts t k) y
 
           by : (z : Turn) → TurnsTo x behind-wave at (Effect.Frame n len) z
               → (n + len ≤ octetsLimit → (t : List ℕ) → length s + len ≤ length (s ++ t) → TurnStands (s ++ t) (p .met) at z) → Follows s gs (turnedBy len z markedHere)
@@ -553,7 +553,7 @@ module _ (s : List ℕ) (n : ℕ) (x : Stand) (around : ℕ) (v : Waveform) (ph 
   -- ---- faults of form
 
   -- What stands there is a fault, for each file that has the group around.
-  pub fault-follows : (r : Refusal) → ((t : List ℕ) → Whole w (length (s ++ t)) → nextOf (s ++ t) (x .cursor) ≡ Next.Refused r) → Follows s gs (condemned 0 r markedHere)
+  pub fault-follows : (r : Refusal) → ((t : List ℕ) → Whole w (length (s ++ t)) → nextOf (s ++ t) (x .cursor) ≡ Next.Refused r) → Follows s gs (condemned w 0 r markedHere)
   fault-follows r f =
       condemned-follows s n x around v ph gs limit silent p 0 r (inside-less w (length s + 0) (length s) (omega arith) (p .inside)) (λ _ t h _. fault-is (p .stands t h) (f t h))
-      (λ t _ k. let z : ⊥ = omega (arith, longer s t) in absurd z) (λ k. let z : ⊥ = omega (arith, k) in absurd z)
+      (λ t _ k. let z : ⊥ = omega (arith, longer s t) in absurd z) (λ k. let z : ⊥ = omega (arith, k) in absurd z) x

@@ -2,11 +2,11 @@
 -- which a frame's settings are due or the answer comes.
 use Prim.Native.Nat.{ℕ, suc, _-_}
 use mathlib.Core.List.{List, [], _∷_, _++_}
-use mathlib.Core.Bool.{Bool}
+use mathlib.Core.Bool.{Bool, true, false}
 use lib.ListN.{length}
 use lib.Dec.{ltb}
-use Rattle.octets.specs.Pick.{pick, either}
-use Rattle.link.specs.Link.{Link, isDecided, stepped, fedWith, Given, gives, givenBy}
+use Rattle.octets.specs.Pick.{pick, both, either}
+use Rattle.link.specs.Link.{Phase, head, value, waveform, waits, decided, Link, isDecided, stepped, fedWith, Given, gives, givenBy}
 
 -- How many octets are taken, what is held behind them, and what they gave out.
 pub record Fed : Type 0 where
@@ -17,9 +17,16 @@ pub record Fed : Type 0 where
 abbrev pub fed : ℕ → Link → List Given → Fed
 fed taken l given = record { taken = taken; link = l; given = given }
 
--- The octet is the last of a waveform's head, and the frame is taken: its settings are due.
+abbrev pub isHead : Phase → Bool
+isHead (head p) = true
+isHead (value tag left kept) = false
+isHead (waveform left t) = false
+isHead (waits left r) = false
+isHead (decided a) = false
+
+-- The octet is the last of a waveform's head, and its frame is told: the settings are due.
 unfoldable pub due : Link → ℕ → Bool
-due l b = ltb (l .stand .frames) (stepped l b .stand .frames)
+due l b = both (isHead (l .phase)) (ltb 0 (stepped l b .frame .channels))
 
 -- One octet, and what the call goes on to take.
 abbrev pub onto : List Given → Fed → Fed

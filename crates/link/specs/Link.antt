@@ -106,8 +106,8 @@ lastsIn Within.Root count left = left
 lastsIn (Within.Definite channel end) count left = end - count
 lastsIn (Within.Open channel group) count left = left
 
-unfoldable pub condemned : ℕ → Refusal → Link → Link
-condemned left r l = waiting (lastsIn (withinIn l) (l .count) left) r l
+unfoldable pub condemned : Within → ℕ → Refusal → Link → Link
+condemned w left r l = waiting (lastsIn w (l .count) left) r l
 
 -- ---- an item
 
@@ -120,13 +120,17 @@ unfoldable pub waved : ℕ → Coming → Phase
 waved zero t = head []
 waved (suc left) t = waveform (suc left) t
 
+-- The walk stands elsewhere.
+abbrev pub standing : Stand → Link → Link
+standing y l = link (l .count) y (l .around) (l .frame) (l .phase)
+
 -- What an item leads to, of which `left` octets are still to come. A frame's settings are given out, unless it ends past 15's limit.
 unfoldable pub stoppedAt : ℕ → Step → Stand → Link → Link
 stoppedAt left (Step.Frame v) y l =
-    pick (ltb octetsLimit (l .count + left)) (waiting left (refusal longFile 0) l)
+    pick (ltb octetsLimit (l .count + left)) (waiting left (refusal longFile 0) (standing y l))
     (link (l .count) y (l .around) v (waved left firstComing))
 stoppedAt left Step.Ended y l = l
-stoppedAt left (Step.Refused r) y l = condemned left r l
+stoppedAt left (Step.Refused r) y l = condemned (withinIn l) left r (standing y l)
 
 -- Between two items an end is 3 only in a definite group, at the group's place; elsewhere no place is kept.
 abbrev pub groupAt : Within → ℕ → ℕ
@@ -195,7 +199,7 @@ seenIn (Within.Open channel group) count f = f
 
 unfoldable pub headed : List ℕ → Form → Link → Link
 headed p Form.More l = inPhase (head p) l
-headed p (Form.Faulty number) l = condemned 0 (refusal number (placeIn l)) (marked l)
+headed p (Form.Faulty number) l = condemned (withinIn l) 0 (refusal number (placeIn l)) (marked l)
 headed p (Form.Primitive tag start len) l = primitiveBegins tag len l
 headed p (Form.Definite channel start len) l = groupBegins len channel (Within.Definite channel (l .count + len)) l
 headed p (Form.Open channel start) l = groupBegins 0 channel (Within.Open channel (placeIn l)) l
