@@ -33,10 +33,10 @@ use Rattle.standing.specs.Standing.{octetsLimit}
 use Rattle.verdict.specs.Verdict.{Verdict, accepted, refused, unlimited, checkedAs}
 use Rattle.verdict.proofs.Cuts.{CutsFrom}
 use Rattle.walk.specs.declared.Waveform.{Waveform}
-use Rattle.walk.specs.Advance.{Stand, firstStand, nextTurn, turnOf}
-use Rattle.walk.proofs.Joins.{Stands, TurnStands, Near, turn-stands, stands-first}
+use Rattle.walk.specs.Advance.{Stand, nextTurn, turnOf}
+use Rattle.walk.proofs.Joins.{Stands, TurnStands, Near, turn-stands, stands-cleared}
 use Rattle.walking.specs.Steps.{noWaveform}
-use Rattle.link.specs.Link.{Given, Phase, head, value, waveform, waits, decided, Link, link, firstLink, cutAt, waiting, valued, doneItem, keptLimit, primitiveBegins, confined, seenIn, headed, counted, takenIn, isDecided, stepped, fedWith, givesIn, gives, givenBy, endedIn, endIn, endAnswer}
+use Rattle.link.specs.Link.{Given, Phase, head, value, waveform, waits, decided, Link, link, freshLink, Fresh, cutAt, waiting, valued, doneItem, keptLimit, primitiveBegins, confined, seenIn, headed, counted, takenIn, isDecided, stepped, fedWith, givesIn, gives, givenBy, endedIn, endIn, endAnswer}
 use Rattle.link.specs.Order.{framesGiven}
 use Rattle.link.proofs.Seen.{endsIn, Whole, Inside, tailOf, longer, next-faulty, next-wanting, next-past}
 use Rattle.link.proofs.Item.{Plainly}
@@ -302,9 +302,11 @@ stepped-follows s b gs l limit p =
 
 -- ---- all octets
 
-first-follows : Follows [] [] firstLink
+fresh-follows : {l : Link} → Fresh l → Follows [] [] l
 unfolding framesGiven
-first-follows = next-follows [] 0 firstStand 0 noWaveform [] (cursor 0 Root) [] (inl refl) refl refl refl refl refl tt (λ t _. stands-first t) (λ t h. absurd h)
+fresh-follows f =
+    subst (Follows [] []) (sym (f .is))
+    (next-follows [] 0 (freshLink (f .records) .stand) 0 noWaveform [] (cursor 0 Root) [] (inl refl) refl refl refl refl refl tt (λ t _. stands-cleared t (f .records) (f .full)) (λ t h. absurd h))
 
 fed-from : (s u : List ℕ) (gs : List Given) (l : Link) → length (s ++ u) ≤ octetsLimit → Follows s gs l → Follows (s ++ u) (gs ++ givenBy l u) (fedWith l u)
 unfolding fedWith givenBy
@@ -314,8 +316,8 @@ fed-from s (b ∷ u) gs l h p =
     (subst (λ (g : List Given). Follows (grown s b ++ u) g (fedWith (stepped l b) u)) (append-assoc gs (gives l b) (givenBy (stepped l b) u))
     (fed-from (grown s b) u (gs ++ gives l b) (stepped l b) (rw (append-assoc s (b ∷ []) u) h) (stepped-follows s b gs l (omega (arith, length-append s (b ∷ u))) p)))
 
-pub fed-follows : (s : List ℕ) → length s ≤ octetsLimit → Follows s (givenBy firstLink s) (fedWith firstLink s)
-fed-follows s h = fed-from [] s [] firstLink h first-follows
+pub fed-follows : {l : Link} → Fresh l → (s : List ℕ) → length s ≤ octetsLimit → Follows s (givenBy l s) (fedWith l s)
+fed-follows {l} f s h = fed-from [] s [] l h (fresh-follows f)
 
 -- ---- the end
 

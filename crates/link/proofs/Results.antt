@@ -24,7 +24,7 @@ use Rattle.layout.specs.Frame.{Frame}
 use Rattle.standing.specs.Standing.{octetsLimit}
 use Rattle.verdict.specs.Verdict.{accepted, refused, verdict, unlimited, checkedAs, checkOf}
 use Rattle.verdict.proofs.Keeps.{within-limit}
-use Rattle.link.specs.Link.{Given, Phase, head, value, waveform, waits, decided, Link, firstLink, refusedIn, counted, takenIn, isDecided, stepped, fedWith, givesIn, gives, givenBy, endAnswer}
+use Rattle.link.specs.Link.{Given, Phase, head, value, waveform, waits, decided, Link, Fresh, refusedIn, counted, takenIn, isDecided, stepped, fedWith, givesIn, gives, givenBy, endAnswer}
 use Rattle.link.specs.Order.{framesGiven}
 use Rattle.link.specs.Feed.{joined, fedPieces, givenPieces}
 use Rattle.link.proofs.Follows.{FollowsIn}
@@ -52,9 +52,9 @@ joined-pieces l (p ∷ ps) =
 
 -- ---- the end
 
-pub fed-check : (s : List ℕ) → length s ≤ octetsLimit → endAnswer (fedWith firstLink s) ≡ checkOf s
+pub fed-check : {l₀ : Link} → Fresh l₀ → (s : List ℕ) → length s ≤ octetsLimit → endAnswer (fedWith l₀ s) ≡ checkOf s
 unfolding checkOf
-fed-check s h = sym (end-follows s (givenBy firstLink s) (fedWith firstLink s) (fed-follows s h)) ∙ ap checkedAs (sym (within-limit s h))
+fed-check {l₀} fresh s h = sym (end-follows s (givenBy l₀ s) (fedWith l₀ s) (fed-follows fresh s h)) ∙ ap checkedAs (sym (within-limit s h))
 
 -- ---- an answer
 
@@ -66,16 +66,16 @@ answer-of (waveform left t) f g = g refl
 answer-of (waits left r) f g = g refl
 answer-of (decided a) f g = f a refl
 
-pub fed-settled : (s : List ℕ) (number place : ℕ) → length s ≤ octetsLimit → fedWith firstLink s .phase ≡ decided (refusedAs number place) → (t : List ℕ) → unlimited (s ++ t) ≡ refused (refusal number place)
-fed-settled s number place h e =
-    let l = fedWith firstLink s in
-    subst (FollowsIn s (l .count) (l .stand) (l .around) (l .frame) (givenBy firstLink s)) e (fed-follows s h) .0
+pub fed-settled : {l₀ : Link} → Fresh l₀ → (s : List ℕ) (number place : ℕ) → length s ≤ octetsLimit → fedWith l₀ s .phase ≡ decided (refusedAs number place) → (t : List ℕ) → unlimited (s ++ t) ≡ refused (refusal number place)
+fed-settled {l₀} fresh s number place h e =
+    let l = fedWith l₀ s in
+    subst (FollowsIn s (l .count) (l .stand) (l .around) (l .frame) (givenBy l₀ s)) e (fed-follows fresh s h) .0
 
 -- While feeding, no answer but a refusal is given.
-pub fed-refused : (s : List ℕ) (n : ℕ) → length s ≤ octetsLimit → fedWith firstLink s .phase ≡ decided (answered n) → ⊥
-fed-refused s n h e =
-    let l = fedWith firstLink s in
-    subst (FollowsIn s (l .count) (l .stand) (l .around) (l .frame) (givenBy firstLink s)) e (fed-follows s h) .0
+pub fed-refused : {l₀ : Link} → Fresh l₀ → (s : List ℕ) (n : ℕ) → length s ≤ octetsLimit → fedWith l₀ s .phase ≡ decided (answered n) → ⊥
+fed-refused {l₀} fresh s n h e =
+    let l = fedWith l₀ s in
+    subst (FollowsIn s (l .count) (l .stand) (l .around) (l .frame) (givenBy l₀ s)) e (fed-follows fresh s h) .0
 
 module _ (l : Link) (a : Answer ℕ) (e : l .phase ≡ decided a) where
   decided-steps : (b : ℕ) → stepped l b ≡ l
@@ -101,8 +101,8 @@ module _ (l : Link) (a : Answer ℕ) (e : l .phase ≡ decided a) where
 -- ---- past the limit
 
 -- The link after the first octets that a file may have.
-abbrev pub atLimit : List ℕ → Link
-atLimit s = fedWith firstLink (take octetsLimit s)
+abbrev pub atLimit : Link → List ℕ → Link
+atLimit l₀ s = fedWith l₀ (take octetsLimit s)
 
 -- What a file that passes the limit comes to: the refusal that was given before, or 15.
 unfoldable pub pastLimit : Link → Link
@@ -131,39 +131,39 @@ past-answer l = answer-of (l .phase) (λ a e. (a, by-answer a e)) (λ e. (refuse
     by-limit : isDecided (l .phase) ≡ false → pick (isDecided (l .phase)) l (refusedIn (refusal longFile 0) l) .phase ≡ decided (refusedAs longFile 0)
     by-limit e = simp e
 
-module _ (s : List ℕ) (long : octetsLimit < length s) where
+module _ {l₀ : Link} (fresh : Fresh l₀) (s : List ℕ) (long : octetsLimit < length s) where
   first-long : length (take octetsLimit s) ≡ octetsLimit
   first-long = length-take-le octetsLimit s (omega arith)
 
-  counts-limit : isDecided (atLimit s .phase) ≡ false → atLimit s .count ≡ octetsLimit
+  counts-limit : isDecided (atLimit l₀ s .phase) ≡ false → atLimit l₀ s .count ≡ octetsLimit
   counts-limit e =
-      follows-counts (take octetsLimit s) (givenBy firstLink (take octetsLimit s)) (atLimit s) e (fed-follows (take octetsLimit s) (omega (arith, first-long))) ∙ first-long
+      follows-counts (take octetsLimit s) (givenBy l₀ (take octetsLimit s)) (atLimit l₀ s) e (fed-follows fresh (take octetsLimit s) (omega (arith, first-long))) ∙ first-long
 
   -- "15 comes at the octet that passes the limit, if nothing was refused before", and nothing is given out from there on.
-  pub fed-past : (fedWith firstLink s ≡ pastLimit (atLimit s)) × (givenBy firstLink s ≡ givenBy firstLink (take octetsLimit s))
+  pub fed-past : (fedWith l₀ s ≡ pastLimit (atLimit l₀ s)) × (givenBy l₀ s ≡ givenBy l₀ (take octetsLimit s))
   unfolding fedWith givenBy
   fed-past = by (drop octetsLimit s) refl
     where
       split : take octetsLimit s ++ drop octetsLimit s ≡ s
       split = take-append-drop octetsLimit s
 
-      by : (u : List ℕ) → drop octetsLimit s ≡ u → (fedWith firstLink s ≡ pastLimit (atLimit s)) × (givenBy firstLink s ≡ givenBy firstLink (take octetsLimit s))
+      by : (u : List ℕ) → drop octetsLimit s ≡ u → (fedWith l₀ s ≡ pastLimit (atLimit l₀ s)) × (givenBy l₀ s ≡ givenBy l₀ (take octetsLimit s))
       by [] e = let z : ⊥ = omega (arith, ap length e, length-drop octetsLimit s) in absurd z
       by (b ∷ u) e =
-          let l = atLimit s in
+          let l = atLimit l₀ s in
           let is : s ≡ take octetsLimit s ++ (b ∷ u) = sym split ∙ ap (λ (x : List ℕ). take octetsLimit s ++ x) e in
           let a = past-answer l in
           let steps = past-steps l b counts-limit in
           let ended : (stepped l b .phase) ≡ decided (a .0) = ap (λ (m : Link). m .phase) steps ∙ a .1 in (
-            ap (fedWith firstLink) is ∙ fed-pieces firstLink (take octetsLimit s) (b ∷ u) ∙ fed-decided (stepped l b) (a .0) ended u ∙ steps,
-            ap (givenBy firstLink) is
-                ∙ given-pieces firstLink (take octetsLimit s) (b ∷ u)
-                ∙ ap (λ (g : List Given). givenBy firstLink (take octetsLimit s) ++ (g ++ givenBy (stepped l b) u)) (past-gives l b counts-limit)
-                ∙ ap (λ (g : List Given). givenBy firstLink (take octetsLimit s) ++ g) (given-decided (stepped l b) (a .0) ended u)
-                ∙ append-nil (givenBy firstLink (take octetsLimit s)),
+            ap (fedWith l₀) is ∙ fed-pieces l₀ (take octetsLimit s) (b ∷ u) ∙ fed-decided (stepped l b) (a .0) ended u ∙ steps,
+            ap (givenBy l₀) is
+                ∙ given-pieces l₀ (take octetsLimit s) (b ∷ u)
+                ∙ ap (λ (g : List Given). givenBy l₀ (take octetsLimit s) ++ (g ++ givenBy (stepped l b) u)) (past-gives l b counts-limit)
+                ∙ ap (λ (g : List Given). givenBy l₀ (take octetsLimit s) ++ g) (given-decided (stepped l b) (a .0) ended u)
+                ∙ append-nil (givenBy l₀ (take octetsLimit s)),
           )
 
 -- ---- what is given out
 
-pub given-all : (s : List ℕ) (fs : List Frame) → length s ≤ octetsLimit → verdict s ≡ accepted fs → givenBy firstLink s ≡ framesGiven fs
-given-all s fs h e = accepted-given s (givenBy firstLink s) (fedWith firstLink s) fs (fed-follows s h) (sym (within-limit s h) ∙ e)
+pub given-all : {l₀ : Link} → Fresh l₀ → (s : List ℕ) (fs : List Frame) → length s ≤ octetsLimit → verdict s ≡ accepted fs → givenBy l₀ s ≡ framesGiven fs
+given-all {l₀} fresh s fs h e = accepted-given s (givenBy l₀ s) (fedWith l₀ s) fs (fed-follows fresh s h) (sym (within-limit s h) ∙ e)

@@ -23,7 +23,7 @@ use Rattle.verdict.specs.Verdict.{refused, unlimited, checkedAs}
 use Rattle.verdict.proofs.Cuts.{CutsFrom, cuts-less, reached-cuts, found-cuts}
 use Rattle.walk.specs.Advance.{Stand}
 use Rattle.walk.proofs.Joins.{Stands}
-use Rattle.link.specs.Link.{Given, Phase, head, value, waveform, waits, decided, Link, firstLink, cutAt, fedWith, givenBy, endedIn, endIn}
+use Rattle.link.specs.Link.{Given, Phase, head, value, waveform, waits, decided, Link, Fresh, cutAt, fedWith, givenBy, endedIn, endIn}
 use Rattle.link.proofs.Seen.{endsIn, Whole, Inside, next-faulty, next-fits, next-definite, next-open}
 use Rattle.link.proofs.Grown.{grown-long, drop-grown}
 use Rattle.link.proofs.Item.{found-item}
@@ -179,9 +179,9 @@ module _ (s : List ℕ) (number place : ℕ) (all : (t : List ℕ) → unlimited
 
 -- ---- every link
 
-pub fed-settles : (s : List ℕ) (number place : ℕ) → length s ≤ octetsLimit → ((t : List ℕ) → unlimited (s ++ t) ≡ refused (refusal number place)) → fedWith firstLink s .phase ≡ decided (refusedAs number place)
-fed-settles s number place h all = link-settles s number place all (givenBy firstLink s) (fedWith firstLink s) (fed-follows s h)
+pub fed-settles : {l₀ : Link} → Fresh l₀ → (s : List ℕ) (number place : ℕ) → length s ≤ octetsLimit → ((t : List ℕ) → unlimited (s ++ t) ≡ refused (refusal number place)) → fedWith l₀ s .phase ≡ decided (refusedAs number place)
+fed-settles {l₀} fresh s number place h all = link-settles s number place all (givenBy l₀ s) (fedWith l₀ s) (fed-follows fresh s h)
 
-pub decided-exactly : (s : List ℕ) (number place : ℕ) → length s ≤ octetsLimit
-    → (fedWith firstLink s .phase ≡ decided (refusedAs number place)) ↔ ((t : List ℕ) → unlimited (s ++ t) ≡ refused (refusal number place))
-decided-exactly s number place h = (fed-settled s number place h, fed-settles s number place h)
+pub decided-exactly : {l₀ : Link} → Fresh l₀ → (s : List ℕ) (number place : ℕ) → length s ≤ octetsLimit
+    → (fedWith l₀ s .phase ≡ decided (refusedAs number place)) ↔ ((t : List ℕ) → unlimited (s ++ t) ≡ refused (refusal number place))
+decided-exactly fresh s number place h = (fed-settled fresh s number place h, fed-settles fresh s number place h)

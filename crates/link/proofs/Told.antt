@@ -29,7 +29,7 @@ use Rattle.walk.specs.declared.Waveform.{Waveform}
 use Rattle.walk.specs.Advance.{Stand}
 use Rattle.walk.specs.Joined.{frameBy}
 use Rattle.walk.proofs.Joins.{Stands, Counts}
-use Rattle.link.specs.Link.{Phase, head, value, waveform, waits, decided, Link, firstLink, settingsIn, fedWith, givenBy}
+use Rattle.link.specs.Link.{Phase, head, value, waveform, waits, decided, Link, Fresh, settingsIn, fedWith, givenBy}
 use Rattle.link.specs.Order.{settingsTold}
 use Rattle.link.proofs.Follows.{withinOf, channelsBy, Tells, FollowsIn}
 use Rattle.link.proofs.Waves.{settings-is}
@@ -62,16 +62,16 @@ pub record ToldLast (w : List ℕ) (l : Link) : Type 0 where
   pub counted : Counts (l .frame) (frameBy w (l .frame) (l .stand))
 
 -- While a frame is told, the file up to the waveform's end is accepted, and that frame is its last.
-pub told-last : (s u : List ℕ) → length (s ++ u) ≤ octetsLimit → 0 < fedWith firstLink s .frame .channels → length u ≡ leftIn (fedWith firstLink s .phase) → ToldLast (s ++ u) (fedWith firstLink s)
-told-last s u limit some long = by (l .phase) refl (fed-follows s (omega (arith, length-append s u)))
+pub told-last : {l₀ : Link} → Fresh l₀ → (s u : List ℕ) → length (s ++ u) ≤ octetsLimit → 0 < fedWith l₀ s .frame .channels → length u ≡ leftIn (fedWith l₀ s .phase) → ToldLast (s ++ u) (fedWith l₀ s)
+told-last {l₀} fresh s u limit some long = by (l .phase) refl (fed-follows fresh s (omega (arith, length-append s u)))
   where
     l : Link
-    l = fedWith firstLink s
+    l = fedWith l₀ s
 
     x : Stand
     x = l .stand
 
-    by : (p : Phase) → l .phase ≡ p → FollowsIn s (l .count) x (l .around) (l .frame) (givenBy firstLink s) p → ToldLast (s ++ u) l
+    by : (p : Phase) → l .phase ≡ p → FollowsIn s (l .count) x (l .around) (l .frame) (givenBy l₀ s) p → ToldLast (s ++ u) l
     by (head p) e q = by-tells (q .tells)
       where
         by-tells : Tells s (l .frame) x (q .resumes .met) → ToldLast (s ++ u) l

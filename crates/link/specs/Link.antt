@@ -1,7 +1,8 @@
 -- A file read as its octets arrive (document 02, request 3): what is held between two octets, and what one octet more does to it. Any numbers at all are
 -- some link.
 use Prim.Native.Nat.{ℕ, zero, suc, _+_, _-_, _*_}
-use mathlib.Core.List.{List, [], _∷_, _++_}
+use mathlib.Core.Path.{_≡_}
+use mathlib.Core.List.{List, [], _∷_, _++_, map}
 use mathlib.Core.Bool.{Bool, true, false}
 use lib.Dec.{ltb, leb, eqb}
 use lib.ListN.{length, getD, take}
@@ -20,15 +21,18 @@ use Rattle.items.specs.declared.Item.the-variants.{Plain, Group, Member, Mark}
 use Rattle.items.specs.Walk.{refusal, cursor, standsIn, isInside, endsOpen}
 use Rattle.values.specs.Sample.{valueOf}
 use Rattle.settings.specs.declared.Settings.{Settings}
-use Rattle.dated.specs.Dated.{zeroDated}
+use Rattle.settings.specs.Settings.{channelLimit}
+use Rattle.dated.specs.declared.Dated.{Dated}
+use Rattle.dated.specs.Dated.{datedTable, zeroDated, firstDates}
 use Rattle.layout.specs.Frame.{widthIn}
-use Rattle.standing.specs.Standing.{octetsLimit}
+use Rattle.standing.specs.Standing.{octetsLimit, firstStanding}
 use Rattle.effects.specs.declared.Effect.{Effect}
 use Rattle.effects.specs.Effects.{effectOf}
 use Rattle.reader.specs.Answer.{FoundSample, foundSample}
+use Rattle.records.specs.Records.{outdated}
 use Rattle.walk.specs.declared.Waveform.{Waveform}
 use Rattle.walk.specs.declared.Step.{Step}
-use Rattle.walk.specs.Advance.{Stand, firstStand, Turn, on, stops, effectTurn}
+use Rattle.walk.specs.Advance.{Stand, stand, Turn, on, stops, effectTurn}
 use Rattle.walking.specs.Steps.{noWaveform}
 
 -- ---- what is held
@@ -68,9 +72,19 @@ pub record Link : Type 0 where
 abbrev pub link : ℕ → Stand → ℕ → Waveform → Phase → Link
 link count x around v p = record { count = count; stand = x; around = around; frame = v; phase = p }
 
--- Before a file's first octet.
+-- Before a file's first octet, with all records sent back to the time before the first item, whatever they say.
+abbrev pub freshLink : List Dated → Link
+freshLink xs = link 0 (stand (cursor 0 Root) firstStanding firstDates (map outdated xs) 0 0) 0 noWaveform (head [])
+
+-- A link before a file's first octet that has a record for each channel that a frame may have.
+pub record Fresh (l : Link) : Type 0 where
+  pub records : List Dated
+  pub full : length records ≡ channelLimit
+  pub is : l ≡ freshLink records
+
+-- The same with the records at the defaults.
 abbrev pub firstLink : Link
-firstLink = link 0 firstStand 0 noWaveform (head [])
+firstLink = freshLink datedTable
 
 abbrev pub inPhase : Phase → Link → Link
 inPhase p l = link (l .count) (l .stand) (l .around) (l .frame) p

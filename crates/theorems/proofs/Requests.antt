@@ -35,7 +35,7 @@ use Rattle.canonical.specs.Write.{canonicalOf, Wrote}
 use Rattle.outputs.specs.Outputs.{Outputs, outputs, handedOut, countOut}
 use Rattle.maker.specs.Make.{Making, recordMade, madeIn, Made}
 use Rattle.mfer.specs.Answers.{MadeOut}
-use Rattle.link.specs.Link.{Phase, decided, Link, firstLink, fedWith, givenBy, endIn, endAnswer}
+use Rattle.link.specs.Link.{Phase, decided, Link, Fresh, fedWith, givenBy, endIn, endAnswer}
 use Rattle.link.specs.Order.{samplesGiven, framesGiven, settingsTold}
 use Rattle.link.specs.Feed.{fed, feedOf, joined, fedPieces, givenPieces}
 use Rattle.link.proofs.Results.{joined-pieces, fed-check, fed-refused, fed-decided, given-decided, atLimit, pastLimit, fed-past, given-all}
@@ -190,10 +190,6 @@ request-two =
 
 -- ---- request 3
 
--- A link that was fed s.
-abbrev after : List ℕ → Link
-after s = fedWith firstLink s
-
 -- "Ward carts send a file over hours, some octets at a time. A form that is fed whatever has arrived, and holds at most 64 KiB of its own, ends with the same frame count,
 -- or refusal and place, as the whole-file reader on everything joined together, wherever the cuts fall, if the whole is within 15's limit. At each waveform it gives out
 -- the settings and then, in file order and each once, the samples there as far as their octets have come, with the place and value that 01 gives for the file up to that
@@ -202,45 +198,45 @@ after s = fedWith firstLink s
 -- repeats that answer. Refusals: 3 for the file's end and 10 come when the caller says the end; 15 comes at the octet that passes the limit, if nothing was refused
 -- before; any other at the octet that settles it in 01's order."
 pub record RequestThree : Type 0 where
-  -- "Wherever the cuts fall": pieces fed one after the other leave and give out what they do joined together. So what was given out is never taken back or changed.
+  -- A link that is fresh stands before a file's first octet. "Wherever the cuts fall": pieces fed one after the other leave and give out what they do joined together. So what was given out is never taken back or changed.
   pub cuts : (l : Link) (ps : List (List ℕ)) → (fedPieces l ps ≡ fedWith l (joined ps)) × (givenPieces l ps ≡ givenBy l (joined ps))
   -- "Ends with the same frame count, or refusal and place, as the whole-file reader on everything joined together, if the whole is within 15's limit."
-  pub ends : (ps : List (List ℕ)) → length (joined ps) ≤ octetsLimit → endAnswer (fedPieces firstLink ps) ≡ checkOf (joined ps)
+  pub ends : (l : Link) → Fresh l → (ps : List (List ℕ)) → length (joined ps) ≤ octetsLimit → endAnswer (fedPieces l ps) ≡ checkOf (joined ps)
   -- One call takes a front of what has arrived, leaves and gives out what those octets do, and no more samples than there is room for.
   pub call : (room : ℕ) (l : Link) (s : List ℕ) → Feeds room l s (feedOf room l s)
   -- "At each waveform it gives out the settings", "for the file up to that waveform's end": while a frame is told, each file that goes on to the end of its waveform is
   -- accepted so far, with that frame as its last, and answers these attributes. So a waveform that earns 11 to 13 is not told.
-  pub told : (s u : List ℕ) → length (s ++ u) ≤ octetsLimit → 0 < after s .frame .channels → length u ≡ leftIn (after s .phase) → ToldLast (s ++ u) (after s)
+  pub told : (l : Link) → Fresh l → (s u : List ℕ) → length (s ++ u) ≤ octetsLimit → 0 < fedWith l s .frame .channels → length u ≡ leftIn (fedWith l s .phase) → ToldLast (s ++ u) (fedWith l s)
   pub settings : (w : List ℕ) (l : Link) → ToldLast w l → 0 < l .frame .channels → (channel : ℕ) → attributesOf w (l .stand .frames - 1) channel ≡ settingsTold l channel
   -- "In file order and each once, the samples there", "with the place and value that 01 gives": of an accepted file those of its frames, each as the question for it
   -- answers. With `cuts` it says the same of each file up to the end of a waveform, as far as the octets have come.
-  pub samples : (s : List ℕ) (fs : List Frame) → verdict s ≡ accepted fs → givenBy firstLink s ≡ framesGiven fs
+  pub samples : (l : Link) → Fresh l → (s : List ℕ) (fs : List Frame) → verdict s ≡ accepted fs → givenBy l s ≡ framesGiven fs
   pub right : (s : List ℕ) (fs : List Frame) → verdict s ≡ accepted fs → (i : ℕ) → i < length fs → All (Right s i) (samplesGiven (frameNumber fs i))
   -- "Feeding nothing changes nothing; after the end or a refusal, further feeding repeats that answer", and gives nothing out.
   pub nothing : (room : ℕ) (l : Link) → feedOf room l [] ≡ fed 0 l []
   pub repeats : (l : Link) (a : Answer ℕ) → l .phase ≡ decided a → (s : List ℕ) → (fedWith l s ≡ l) × (givenBy l s ≡ []) × (endAnswer l ≡ a)
   -- "Any other at the octet that settles it": a refusal comes while feeding exactly when it is settled, so that every longer file has it, of any length and with 15 left
   -- out; so it comes with the last octet of the shortest front that settles it.
-  pub settled : (s : List ℕ) (number place : ℕ) → length s ≤ octetsLimit → (after s .phase ≡ decided (refusedAs number place)) ↔ ((t : List ℕ) → unlimited (s ++ t) ≡ refused (refusal number place))
+  pub settled : (l : Link) → Fresh l → (s : List ℕ) (number place : ℕ) → length s ≤ octetsLimit → (fedWith l s .phase ≡ decided (refusedAs number place)) ↔ ((t : List ℕ) → unlimited (s ++ t) ≡ refused (refusal number place))
   -- While octets come within the limit, no answer but a refusal is given.
-  pub waits : (s : List ℕ) (n : ℕ) → length s ≤ octetsLimit → after s .phase ≡ decided (answered n) → ⊥
+  pub waits : (l : Link) → Fresh l → (s : List ℕ) (n : ℕ) → length s ≤ octetsLimit → fedWith l s .phase ≡ decided (answered n) → ⊥
   -- "15 comes at the octet that passes the limit, if nothing was refused before"; from there on nothing is given out.
-  pub limit : (s : List ℕ) → octetsLimit < length s → (after s ≡ pastLimit (atLimit s)) × (givenBy firstLink s ≡ givenBy firstLink (take octetsLimit s))
+  pub limit : (l : Link) → Fresh l → (s : List ℕ) → octetsLimit < length s → (fedWith l s ≡ pastLimit (atLimit l s)) × (givenBy l s ≡ givenBy l (take octetsLimit s))
 
 pub request-three : RequestThree
 unfolding feedOf endIn
 request-three =
     record {
       cuts = joined-pieces;
-      ends = λ ps h. ap endAnswer (joined-pieces firstLink ps .0) ∙ fed-check (joined ps) h;
+      ends = λ l f ps h. ap endAnswer (joined-pieces l ps .0) ∙ fed-check f (joined ps) h;
       call = feed-feeds;
-      told = told-last;
+      told = λ l f. told-last f;
       settings = λ w l p some channel. told-right w l p some channel;
-      samples = λ s fs e. given-all s fs (accepted-small s fs e) e;
+      samples = λ l f s fs e. given-all f s fs (accepted-small s fs e) e;
       right = given-right;
       nothing = λ room l. refl;
       repeats = λ l a e s. (fed-decided l a e s, given-decided l a e s, ap (λ (p : Phase). endIn p l) e);
-      settled = decided-exactly;
-      waits = fed-refused;
-      limit = fed-past;
+      settled = λ l f. decided-exactly f;
+      waits = λ l f. fed-refused f;
+      limit = λ l f. fed-past f;
     }
