@@ -18,7 +18,7 @@ use Rattle.settings.specs.declared.Change.{Change}
 use Rattle.settings.specs.Settings.{channelLimit, applied}
 use Rattle.dated.specs.declared.Dated.{Dated}
 use Rattle.dated.specs.declared.Dates.{Dates}
-use Rattle.dated.specs.Dated.{noted, zeroDated, rootDefined, allCleared, settledAt, settledIn, refreshed}
+use Rattle.dated.specs.Dated.{noted, zeroDated, rootDefined, allCleared, settledAt, refreshed}
 use Rattle.dated.proofs.Tables.{table-long}
 use Rattle.layout.specs.declared.Layout.{Layout}
 use Rattle.layout.specs.Measure.{layoutOf}
@@ -35,11 +35,11 @@ use Rattle.records.specs.Records.{PastKept, Refreshed}
 use Rattle.walk.specs.declared.Waveform.{Waveform}
 use Rattle.walk.specs.declared.Step.{Step}
 use Rattle.walk.specs.declared.Head.{Head}
-use Rattle.walk.specs.Advance.{Stand, stand, stop, Turn, on, stops, goesOn, framedTurn, effectTurn, standOf, standsFor, channelsAt, waveformBy, BelowKept}
+use Rattle.walk.specs.Advance.{Stand, stand, stop, stops, goesOn, framedTurn, effectTurn, standOf, standsFor, channelsAt, waveformBy}
 use Rattle.walk.proofs.Turns.{plain-keys, plain-goes, Few, framed-few, below-frame, past-put}
 use Rattle.taking.specs.declared.Went.{Went}
 use Rattle.taking.specs.declared.Taken.{Taken}
-use Rattle.taking.specs.Takes.{turnBy, BelowWent, wentOn, stoppedAt, stoppedBehind, Takes}
+use Rattle.taking.specs.Takes.{turnBy, wentOn, stoppedAt, stoppedBehind, Takes}
 
 pub past-same : (u : List ℕ) → PastKept u u
 past-same u = record { same = λ m h. refl }

@@ -1,12 +1,12 @@
 -- Laws of a walk begun and gone on with, in words.
 --     can-hold              words that can hold a head
---     begun                 a walk begun
+--     begun, begun-few      a walk begun, and too few words
+--     opens-refused, opens-begun    the words of a refused file, and words that begin a walk
 --     begins-when           words that begin a walk
---     opens-refused, opens-few, opens-begun    the words of a refused file, too few words, and words that begin a walk
 --     goes-few, goes-on     too few words, and words that go on
 -- Assumes nothing.
 use mathlib.Core.Path.{_≡_, refl, sym, ap, subst, _∙_}
-use mathlib.Core.Bool.{Bool, true, false}
+use mathlib.Core.Bool.{Bool, false}
 use mathlib.Core.List.{List, [], _++_, append-nil, map}
 use Prim.Native.Nat.{ℕ, _+_, _-_, _≤_, _<_}
 use native.Mathlib.Omega.{arith}
@@ -32,7 +32,7 @@ use Rattle.walk.specs.Advance.{Stand, stand, stop, advanceOf, standOf, firstHea
 use Rattle.kept.specs.Words.{headWords, holdsHead, headIn, waveformIn, Keeping}
 use Rattle.kept.proofs.Laws.{lent, lent-all}
 use Rattle.walking.specs.Words.{standIn}
-use Rattle.walking.specs.Steps.{noWaveform, frameTold, walkBegins, begunIn, Begins, Opens, Goes}
+use Rattle.walking.specs.Steps.{noWaveform, frameTold, walkBegins, begunIn, Begun, Opens, Goes}
 
 -- ---- whether words can hold a head
 
@@ -42,6 +42,9 @@ module _ (u : List ℕ) {A : Type 0} (a b : A) where
 
   cannot-hold : length u < headWords → pick (holdsHead u) a b ≡ b
   cannot-hold h = ap (λ (t : Bool). pick t a b) (lt-leb headWords (length u) h)
+
+never-few : (u : List ℕ) {A : Type 0} → headWords ≤ length u → holdsHead u ≡ false → A
+never-few u h t = let b = le-leb headWords (length u) h in let y : _≡_ {A = ℕ} 0 1 = cc in let z : ⊥ = omega arith in absurd z
 
 -- ---- the words from a place on, lent and given back
 
@@ -80,13 +83,14 @@ module _ (u x : List ℕ) (room : headWords ≤ length u) {h : Head} {f : Wavefo
   stand-kept = λ i. standOf (p .head still-room i) (behind-kept i)
 
   -- The first head, over records that are all sent back.
-  pub begun : Holding (lent headWords u) (map outdated (recordsIn (lent headWords u))) x → h ≡ firstHead → f ≡ noWaveform → Begins u v
+  pub begun : Holding (lent headWords u) (map outdated (recordsIn (lent headWords u))) x → h ≡ firstHead → f ≡ noWaveform → Begun (holdsHead u) u v
   begun c e d =
       let begins : List Dated → Stand = λ xs. stand (cursor 0 Root) firstStanding firstDates xs 0 0 in
       record {
-        stands = stand-kept ∙ ap (λ (g : Head). standOf g x) e ∙ ap begins (c .records) ∙ ap (λ (w : List ℕ). begins (map outdated (recordsIn w))) (lent-all headWords u);
-        tells = frame-kept ∙ d;
+        stands = stand-kept ∙ ap (λ (g : Head). standOf g x) e ∙ ap begins (c .records) ∙ ap (λ (w : List ℕ). begins (map outdated (recordsIn w))) (lent-all headWords u) ∙ sym (can-hold u (begunIn u) (standIn u) room);
+        tells = frame-kept ∙ d ∙ sym (can-hold u noWaveform (waveformIn u) room);
         long = long-kept;
+        stays = λ t. never-few u room t;
       }
 
   -- The head that an advance has come to.
@@ -99,7 +103,7 @@ module _ (u x : List ℕ) (room : headWords ≤ length u) {h : Head} {f : Wavefo
         long = long-kept;
         past = subst (λ (w : List ℕ). PastKept w (drop headWords v)) (lent-all headWords u) (subst (PastKept (lent headWords u)) (sym (p .rest ∙ back-behind headWords u x room)) (a .past));
         below = subst (λ (w : List ℕ). BelowKept w k) (sym (p .rest ∙ back-behind headWords u x room)) (a .below);
-        stays = λ t. let b = le-leb headWords (length u) room in let y : _≡_ {A = ℕ} 0 1 = cc in let z : ⊥ = omega arith in absurd z;
+        stays = λ t. never-few u room t;
       }
 
 -- Too few words stay as they are, and are at the end.
@@ -114,44 +118,28 @@ goes-few s u h =
       stays = λ t. refl;
     }
 
+-- Words that begin nothing stay as they are.
+not-begun : {b : Bool} (u : List ℕ) → b ≡ false → Begun b u u
+not-begun u t =
+    record {
+      stands = sym (ap (λ (b : Bool). pick b (begunIn u) (standIn u)) t);
+      tells = sym (ap (λ (b : Bool). pick b noWaveform (waveformIn u)) t);
+      long = refl;
+      stays = λ q. refl;
+    }
+
+pub begun-few : (u : List ℕ) → length u < headWords → Begun (holdsHead u) u u
+begun-few u h = not-begun u (lt-leb headWords (length u) h)
+
 -- ---- a file opened
 
 module _ (s u : List ℕ) where
-  -- No word is changed.
-  opens-not : {r : Checked} → checkedSays r ≡ checkOf s → walkBegins (checkOf s) u ≡ false → Opens s u r u
-  opens-not e t =
-      record {
-        answers = e;
-        words = record {
-          stands = sym (ap (λ (b : Bool). pick b (begunIn u) (standIn u)) t);
-          tells = sym (ap (λ (b : Bool). pick b noWaveform (waveformIn u)) t);
-          long = refl;
-          stays = λ q. refl;
-        };
-      }
-
   pub opens-refused : {x : Refusal} → checkedSays (Checked.Refused x) ≡ checkOf s → Opens s u (Checked.Refused x) u
-  opens-refused e = opens-not e (ap (λ (a : Answer ℕ). walkBegins a u) (sym e))
+  opens-refused e = record { answers = e; words = not-begun u (ap (λ (a : Answer ℕ). walkBegins a u) (sym e)) }
 
-  pub opens-few : {n : ℕ} → length u < headWords → checkedSays (Checked.Frames n) ≡ checkOf s → Opens s u (Checked.Frames n) u
-  opens-few h e = opens-not e (ap (λ (a : Answer ℕ). walkBegins a u) (sym e) ∙ lt-leb headWords (length u) h)
+  pub opens-begun : {n : ℕ} {v : List ℕ} → checkedSays (Checked.Frames n) ≡ checkOf s → Begun (holdsHead u) u v → Opens s u (Checked.Frames n) v
+  opens-begun {v = v} e b = record { answers = e; words = subst (λ (t : Bool). Begun t u v) (ap (λ (a : Answer ℕ). walkBegins a u) e) b }
 
   -- Words that can hold a head begin a walk over an accepted file.
-  begin-so : {n : ℕ} → headWords ≤ length u → checkedSays (Checked.Frames n) ≡ checkOf s → walkBegins (checkOf s) u ≡ true
-  begin-so h e = ap (λ (a : Answer ℕ). walkBegins a u) (sym e) ∙ le-leb headWords (length u) h
-
   pub begins-when : {n : ℕ} → headWords ≤ length u → checkedSays (Checked.Frames n) ≡ checkOf s → {A : Type 0} (a b : A) → pick (walkBegins (checkOf s) u) a b ≡ a
-  begins-when h e a b = ap (λ (t : Bool). pick t a b) (begin-so h e)
-
-  pub opens-begun : {n : ℕ} {v : List ℕ} → headWords ≤ length u → checkedSays (Checked.Frames n) ≡ checkOf s → Begins u v → Opens s u (Checked.Frames n) v
-  opens-begun h e b =
-      let t = begin-so h e in
-      record {
-        answers = e;
-        words = record {
-          stands = b .stands ∙ sym (begins-when h e (begunIn u) (standIn u));
-          tells = b .tells ∙ sym (begins-when h e noWaveform (waveformIn u));
-          long = b .long;
-          stays = λ f. let y : _≡_ {A = ℕ} 0 1 = cc in let z : ⊥ = omega arith in absurd z;
-        };
-      }
+  begins-when h e a b = ap (λ (t : Bool). pick t a b) (ap (λ (x : Answer ℕ). walkBegins x u) (sym e) ∙ le-leb headWords (length u) h)

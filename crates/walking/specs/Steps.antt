@@ -40,18 +40,16 @@ walkBegins (refusedAs number place) u = false
 abbrev pub begunIn : List ℕ → Stand
 begunIn u = stand (cursor 0 Root) firstStanding firstDates (map outdated (recordsIn (drop headWords u))) 0 0
 
--- Words that begin a walk.
-pub record Begins (u v : List ℕ) : Type 0 where
-  pub stands : standIn v ≡ begunIn u
-  pub tells : waveformIn v ≡ noWaveform
+-- How words are left that begin a walk, or stay as they were.
+pub record Begun (begins : Bool) (u v : List ℕ) : Type 0 where
+  pub stands : standIn v ≡ pick begins (begunIn u) (standIn u)
+  pub tells : waveformIn v ≡ pick begins noWaveform (waveformIn u)
   pub long : length v ≡ length u
+  pub stays : begins ≡ false → v ≡ u
 
--- How opening a file leaves the words.
-pub record Opened (s u v : List ℕ) : Type 0 where
-  pub stands : standIn v ≡ pick (walkBegins (checkOf s) u) (begunIn u) (standIn u)
-  pub tells : waveformIn v ≡ pick (walkBegins (checkOf s) u) noWaveform (waveformIn u)
-  pub long : length v ≡ length u
-  pub stays : walkBegins (checkOf s) u ≡ false → v ≡ u
+-- How opening a file leaves them.
+abbrev pub Opened : List ℕ → List ℕ → List ℕ → Type 0
+Opened s u v = Begun (walkBegins (checkOf s) u) u v
 
 -- What it answers, and how it leaves the words.
 pub record Opens (s u : List ℕ) (r : Checked) (v : List ℕ) : Type 0 where

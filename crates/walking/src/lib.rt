@@ -2,7 +2,7 @@
 //
 // The first words hold the head and what the last step told of a frame (crate kept), the rest the channels' records (crate words). Any words at all
 // are some walk.
-// Promises, for any words and any octets: `open` checks a file, and the words begin a walk over one that is accepted; `next` goes from where they stand
+// Promises, for any words and any octets: `begin` begins a walk; `open` checks a file, and the words begin a walk over one that is accepted; `next` goes from where they stand
 // to the next frame, the end or the refusal; `view_at` answers a channel of the frame that the last step told of. Words too few for a head stay as they
 // are, and are at the end. That the frames of an opened file are the verdict's is proved in proofs/Walked.antt.
 // Read first: crate walk, then specs/Words.antt and specs/Steps.antt.
@@ -10,9 +10,9 @@ ghost use mathlib.Core.Path.{_≡_};
 ghost use Prim.Native.Nat.{_≤_};
 ghost use lib.ListN.{length};
 ghost use Rattle.reader.specs.Answer.{lookedUpSays};
-ghost use Rattle.kept.specs.Words.{headWords};
+ghost use Rattle.kept.specs.Words.{headWords, holdsHead};
 ghost use Rattle.walking.specs.Views.{viewKept, viewIn};
-ghost use Rattle.walking.specs.Steps.{noWaveform, frameTold, Begins, Opens, Goes};
+ghost use Rattle.walking.specs.Steps.{noWaveform, frameTold, Begun, Opens, Goes};
 use heads::Refusal;
 use kept::Kept;
 use reader::LookedUp;
@@ -58,10 +58,12 @@ fn frame_told(step: Step) -> Waveform
 }
 
 // Words that can hold a head begin a walk.
-fn begin(w: &mut [u64])
-    requires { ⌜ headWords ≤ length (now w) ⌝ }
-    ensures { λ _. ⌜ Begins (now (w .entry)) (now (w .exit)) ⌝ }
+pub fn begin(w: &mut [u64])
+    ensures { λ _. ⌜ Begun (holdsHead (now (w .entry))) (now (w .entry)) (now (w .exit)) ⌝ }
 {
+    if w.len() < Kept::HEAD {
+        return;
+    }
     let rest = Kept::HEAD;
     records::clear(&mut w[rest..]);
     kept::keep(w, Head::first(), no_waveform());
@@ -74,9 +76,6 @@ pub fn open(s: &[u8], w: &mut [u64]) -> Checked
     match reader::check(s) {
         Checked::Refused(x) => Checked::Refused(x),
         Checked::Frames(n) => {
-            if w.len() < Kept::HEAD {
-                return Checked::Frames(n);
-            }
             begin(w);
             Checked::Frames(n)
         }

@@ -3,15 +3,6 @@ use borrow.Author.Needs.{needs}
 use Rattle.taking.proofs.Laws.{taken-last, measured-refused, measured-taken}
 use Rattle.taking.proofs.frames.Statement.{statement}
 use Rattle.taking.proofs.frames.Tie as tie
-use Rattle.taking.proofs.frames.Reads as reads
-use Rattle.taking.proofs.frames.Lts as lts
-use Rattle.framing.proofs.channels_of.Reads as channels-of-reads
-use Rattle.framing.proofs.frame_of.Reads as frame-of-reads
-use Rattle.records.proofs.at_most.Reads as at-most-reads
-use Rattle.records.proofs.refresh.Reads as refresh-reads
-use Rattle.taking.proofs.stops_at.Reads as stops-at-reads
-use Rattle.taking.proofs.stops_behind.Reads as stops-behind-reads
-use Rattle.taking.proofs.waveform_of.Reads as waveform-of-reads
 
 channels-of-requires : tie.Need-channels-of-requires
 channels-of-requires c κs = search needs

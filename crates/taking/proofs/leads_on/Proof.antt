@@ -5,9 +5,6 @@ use borrow.Author.Needs.{needs}
 use Rattle.taking.specs.declared.Went.{Went}
 use Rattle.taking.proofs.leads_on.Statement.{statement}
 use Rattle.taking.proofs.leads_on.Tie as tie
-use Rattle.taking.proofs.leads_on.Reads as reads
-use Rattle.taking.proofs.leads_on.Lts as lts
-use Rattle.std.proofs.num.wrapping_add_u64.Reads as wrapping-add-u64-reads
 
 wrapping-add-u64-requires : tie.Need-wrapping-add-u64-requires
 wrapping-add-u64-requires c κs = search needs

@@ -6,9 +6,6 @@ use Rattle.walk.specs.declared.Step.{Step}
 use Rattle.taking.specs.declared.Went.{Went}
 use Rattle.taking.proofs.stops_behind.Statement.{statement}
 use Rattle.taking.proofs.stops_behind.Tie as tie
-use Rattle.taking.proofs.stops_behind.Reads as reads
-use Rattle.taking.proofs.stops_behind.Lts as lts
-use Rattle.std.proofs.num.wrapping_add_u64.Reads as wrapping-add-u64-reads
 
 wrapping-add-u64-requires : tie.Need-wrapping-add-u64-requires
 wrapping-add-u64-requires c κs = search needs

@@ -4,18 +4,6 @@ use borrow.Author.Needs.{needs}
 use Rattle.taking.proofs.Laws.{plain-takes, count-takes, all-takes, one-takes, refused-takes, takes-as}
 use Rattle.taking.proofs.take.Statement.{statement}
 use Rattle.taking.proofs.take.Tie as tie
-use Rattle.taking.proofs.take.Reads as reads
-use Rattle.taking.proofs.take.Lts as lts
-use Rattle.dated.proofs.Dates.cleared.Reads as cleared-reads
-use Rattle.dated.proofs.Dates.defined.Reads as defined-reads
-use Rattle.dated.proofs.Dates.note.Reads as note-reads
-use Rattle.effects.proofs.standing_after.Reads as standing-after-reads
-use Rattle.records.proofs.settled.Reads as settled-reads
-use Rattle.settings.proofs.apply.Reads as apply-reads
-use Rattle.taking.proofs.frames.Reads as frames-reads
-use Rattle.taking.proofs.leads_on.Reads as leads-on-reads
-use Rattle.taking.proofs.stops_at.Reads as stops-at-reads
-use Rattle.words.proofs.put.Reads as put-reads
 
 enum-told : tie.Need-enum-told
 enum-told c = search needs

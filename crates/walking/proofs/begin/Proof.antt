@@ -1,9 +1,12 @@
 -- The records behind the head are sent back, and the first head is stored.
 use native.Mathlib.Omega.{arith}
-use Rattle.walking.proofs.Steps.{begun}
 use borrow.Author.Needs.{needs}
+use Rattle.walking.proofs.Steps.{begun, begun-few}
 use Rattle.walking.proofs.begin.Statement.{statement}
 use Rattle.walking.proofs.begin.Tie as tie
+
+returns : tie.Need-returns
+returns c = begun-few (c .before .before .args .w .now) (omega arith)
 
 mul-clear : tie.Need-mul-clear
 mul-clear c = search needs
@@ -32,20 +35,14 @@ keep-requires c κs = search needs
 same-length : tie.Need-same-length
 same-length c = search needs
 
-returns : tie.Need-returns
-returns c =
-    let at-keep = c .before .before in
-    let at-frame = at-keep .before in
-    let at-head = at-frame .before in
-    let at-clear = at-head .before .before .before .before in
-    let u = at-clear .before .before .before .args .w .now in
-    let cleared = at-clear .clear .ensures in
-    begun u (at-clear .clear .last .0) (omega arith) (cleared .long) (at-keep .keep .ensures) cleared (at-head .first .ensures) (at-frame .no-waveform .ensures)
+returns-2 : tie.Need-returns-2
+returns-2 c = begun (c .before .before .before .before .before .before .before .before .before .before .before .before .args .w .now) (c .before .before .before .before .before .before .before .before .clear .last .0) (omega arith) (c .before .before .before .before .before .before .before .before .clear .ensures .long) (c .before .before .keep .ensures) (c .before .before .before .before .before .before .before .before .clear .ensures) (c .before .before .before .before .first .ensures) (c .before .before .before .no-waveform .ensures)
 
 pub begin-spec : {M : Type 1} → statement M
 begin-spec =
     tie.close
     (tie.spec
+    returns
     mul-clear
     sub-clear
     part-clear-start
@@ -55,4 +52,4 @@ begin-spec =
     no-waveform-requires
     keep-requires
     same-length
-    returns)
+    returns-2)
