@@ -3,16 +3,27 @@
 // Promises, for any octets, any head and any words: `advance` goes from where a walk stands to the next frame, the end or the refusal, and answers
 // where it stands then; the channels' records are in words that the caller lends, and at a frame those of its channels are up to date, with the octets
 // of a sequence below each. After the end or a refusal it answers the same again.
+// Definitions and items that are stepped over are taken in stretches, outside groups and at the front of a group. The stand behind a stretch is the one
+// that its items lead to one by one, so its octets are gone over once more for the times and the items that count (`pass_over`).
 // `Head::first`, with records that are all of the time before the first item, stands before a file's first item; the frames that the walk stops at
 // from there on are the verdict's (proofs/Joins.antt).
-// Read first: specs/Advance.antt, then specs/Joined.antt.
+// Read first: specs/Advance.antt, then specs/Joined.antt; specs/Passing.antt has what a stretch counts.
 ghost use mathlib.Core.Path.{_≡_};
-ghost use Prim.Native.Nat.{_≤_};
+ghost use Prim.Native.Nat.{_≤_, _<_};
+ghost use lib.ListN.{length};
+ghost use Rattle.items.specs.declared.Within.the-variants.{Root};
 ghost use Rattle.items.specs.Walk.{refusal};
-ghost use Rattle.settings.specs.Settings.{channelLimit};
+ghost use Rattle.settings.specs.Settings.{defaultSettings, channelLimit};
+ghost use Rattle.definitions.specs.Define.{standingIn};
+ghost use Rattle.dated.specs.Dated.{timed};
+ghost use Rattle.stretch.specs.Stretch.{InGroup};
 ghost use Rattle.verdict.specs.Verdict.{placeAt};
 ghost use Rattle.walk.specs.Advance.{waveformBy, movedTo, firstHead, Advances};
+ghost use Rattle.walk.specs.Passing.{passedFrom, passedOver, RootPassed, GroupPassed};
 use dated::Dates;
+use dated::Times;
+use definitions::Attribute;
+use definitions::Tagged;
 use effects::Effect;
 use framing::Framed;
 use heads::Refusal;
@@ -122,6 +133,154 @@ impl Head {
     }
 }
 
+// What a stretch counts: the times of its definitions, where they are the root's, its items, and whether it has a definition.
+struct Passed {
+    dates: Dates,
+    items: u64,
+    defines: bool,
+}
+
+// The times, where the root defines an attribute now.
+fn timed(t: Times, a: Attribute, now: u32) -> Times
+    ensures { λ r. ⌜ r ≡ timed (standingIn a defaultSettings) now t ⌝ }
+{
+    let mut u = t;
+    match a {
+        Attribute::Block => {
+            u.block = now;
+        }
+        Attribute::Class => {
+            u.class = now;
+        }
+        Attribute::Lead => {
+            u.lead = now;
+        }
+        Attribute::DataType => {
+            u.datatype = now;
+        }
+        Attribute::Interval => {
+            u.interval = now;
+        }
+        Attribute::Resolution => {
+            u.resolution = now;
+        }
+        Attribute::Offset => {
+            u.offset = now;
+        }
+        Attribute::Null => {
+            u.null = now;
+        }
+    }
+    u
+}
+
+// What the items of a stretch count, by their tags and lengths alone.
+fn pass_over(u: &[u8], dates: Dates, before: u64) -> Passed
+    ensures { λ r. ⌜ r ≡ passedOver (now (u .entry)) (passedFrom dates before) ⌝ }
+{
+    let mut times = dates.times;
+    let mut now = dates.now;
+    let mut items = before;
+    let mut defines = false;
+    let mut at = 0usize;
+    while at + 1 < u.len() {
+        match definitions::attribute_of(u[at]) {
+            Tagged::Defines(a) => {
+                times = timed(times, a, now);
+                now = std::num::wrapping_add_u32(now, 1);
+                defines = true;
+            }
+            Tagged::Other => {}
+        }
+        items = std::num::wrapping_add_u64(items, 1);
+        let n = u[at + 1] as usize;
+        if u.len() - at - 2 < n {
+            break;
+        }
+        at = at + 2 + n;
+    }
+    Passed {
+        dates: Dates {
+            times,
+            cleared: dates.cleared,
+            now,
+        },
+        items,
+        defines,
+    }
+}
+
+// Where a stretch outside groups ends, with the root settings, the times and the items read there.
+struct RootAhead {
+    at: usize,
+    root: Settings,
+    dates: Dates,
+    items: u64,
+}
+
+// The stretch outside groups at a cursor.
+fn along_root(s: &[u8], c: Cursor, st: Standing, dates: Dates, items: u64) -> RootAhead
+    requires { ⌜ c .within ≡ Root ⌝ }
+    requires { ⌜ c .at ≤ length (now s) ⌝ }
+    ensures { λ r. ⌜ RootPassed (now (s .entry)) c st dates items r ⌝ }
+{
+    let ahead = stretch::along(s, c, st.little, Settings::default(), st.root);
+    let from = c.at;
+    let to = ahead.at;
+    let root = ahead.settings;
+    let passed = pass_over(&s[from..to], dates, items);
+    let times = passed.dates;
+    RootAhead {
+        at: to,
+        root,
+        dates: times,
+        items: passed.items,
+    }
+}
+
+// Where a stretch in a group ends, and the items read there.
+struct GroupAhead {
+    at: usize,
+    items: u64,
+}
+
+// The stretch at the front of a group that takes effect. Its channel's record is stored once, where a definition changes it.
+fn along_group(
+    s: &[u8],
+    c: Cursor,
+    channel: usize,
+    st: Standing,
+    dates: Dates,
+    items: u64,
+    t: &mut [u64],
+) -> GroupAhead
+    requires { ⌜ InGroup (c .within) channel ⌝ }
+    requires { ⌜ 0 < st .counted ⌝ }
+    requires { ⌜ c .at ≤ length (now s) ⌝ }
+    ensures { λ r. ⌜ GroupPassed (now (s .entry)) c st dates items (now (t .entry)) r (now (t .exit)) ⌝ }
+{
+    let from = c.at;
+    // Where tag 05 is not of a time before now, a record of now does not say what stands.
+    if dates.now <= dates.cleared {
+        return GroupAhead { at: from, items };
+    }
+    if !stretch::may_hold(s, from) {
+        return GroupAhead { at: from, items };
+    }
+    let stood = records::settled(t, channel, st.root, dates);
+    let ahead = stretch::along(s, c, st.little, st.root, stood);
+    let to = ahead.at;
+    let settled = ahead.settings;
+    let passed = pass_over(&s[from..to], dates, items);
+    if passed.defines {
+        words::put(t, channel, dates.note(settled));
+    }
+    GroupAhead {
+        at: to,
+        items: passed.items,
+    }
+}
+
 // From where a walk stands to the next frame, the end or the refusal.
 pub fn advance(s: &[u8], h: Head, t: &mut [u64]) -> Moved
     ensures { λ r. ⌜ Advances (now (s .entry)) h (now (t .entry)) r (now (t .exit)) ⌝ }
@@ -132,6 +291,18 @@ pub fn advance(s: &[u8], h: Head, t: &mut [u64]) -> Moved
     let mut items = h.items;
     let frames = h.frames;
     loop {
+        if stretch::begins(s, c) {
+            let ahead = along_root(s, c, st, dates, items);
+            if c.at < ahead.at {
+                let root = ahead.root;
+                let times = ahead.dates;
+                st = st.with_root(root);
+                c = stretch::moved(c, ahead.at);
+                dates = times;
+                items = ahead.items;
+                continue;
+            }
+        }
         match items::next_item(s, c) {
             Next::End => {
                 return come_to(Step::Ended, c, st, dates, items, frames);
@@ -142,6 +313,14 @@ pub fn advance(s: &[u8], h: Head, t: &mut [u64]) -> Moved
             Next::Found(item, next) => {
                 let d = next.renewed();
                 let read = std::num::wrapping_add_u64(items, 1);
+                // The definitions at the front of a group are taken as a stretch.
+                let k = stretch::opened(item, st.counted);
+                if k < Settings::CHANNELS {
+                    let ahead = along_group(s, d, k, st, dates, read, t);
+                    c = stretch::moved(d, ahead.at);
+                    items = ahead.items;
+                    continue;
+                }
                 let effect = effects::item_effect(s, st, item);
                 match effect {
                     Effect::Count(_) => {
