@@ -4,26 +4,21 @@
 // where it stands then; the channels' records are in words that the caller lends, and at a frame those of its channels are up to date, with the octets
 // of a sequence below each. After the end or a refusal it answers the same again.
 // Definitions and items that are stepped over are taken in stretches, outside groups and at the front of a group. The stand behind a stretch is the one
-// that its items lead to one by one, so its octets are gone over once more for the times and the items that count (`pass_over`).
+// that its items lead to one by one, so its octets are gone over once more for the times and the items that count (`passed::over`).
 // `Head::first`, with records that are all of the time before the first item, stands before a file's first item; the frames that the walk stops at
 // from there on are the verdict's (proofs/Joins.antt).
-// Read first: specs/Advance.antt, then specs/Joined.antt; specs/Passing.antt has what a stretch counts.
+// Read first: specs/Advance.antt, then specs/Joined.antt; specs/Passing.antt has what holds behind a stretch.
 ghost use mathlib.Core.Path.{_≡_};
 ghost use Prim.Native.Nat.{_≤_, _<_};
 ghost use lib.ListN.{length};
 ghost use Rattle.items.specs.declared.Within.the-variants.{Root};
 ghost use Rattle.items.specs.Walk.{refusal};
-ghost use Rattle.settings.specs.Settings.{defaultSettings, channelLimit};
-ghost use Rattle.definitions.specs.Define.{standingIn};
-ghost use Rattle.dated.specs.Dated.{timed};
+ghost use Rattle.settings.specs.Settings.{channelLimit};
 ghost use Rattle.stretch.specs.Stretch.{InGroup};
 ghost use Rattle.verdict.specs.Verdict.{placeAt};
 ghost use Rattle.walk.specs.Advance.{waveformBy, movedTo, firstHead, Advances};
-ghost use Rattle.walk.specs.Passing.{passedFrom, passedOver, RootPassed, GroupPassed};
+ghost use Rattle.walk.specs.Passing.{RootPassed, GroupPassed};
 use dated::Dates;
-use dated::Times;
-use definitions::Attribute;
-use definitions::Tagged;
 use effects::Effect;
 use framing::Framed;
 use heads::Refusal;
@@ -133,87 +128,10 @@ impl Head {
     }
 }
 
-// What a stretch counts: the times of its definitions, where they are the root's, its items, and whether it has a definition.
-struct Passed {
-    dates: Dates,
-    items: u64,
-    defines: bool,
-}
-
-// The times, where the root defines an attribute now.
-fn timed(t: Times, a: Attribute, now: u32) -> Times
-    ensures { λ r. ⌜ r ≡ timed (standingIn a defaultSettings) now t ⌝ }
-{
-    let mut u = t;
-    match a {
-        Attribute::Block => {
-            u.block = now;
-        }
-        Attribute::Class => {
-            u.class = now;
-        }
-        Attribute::Lead => {
-            u.lead = now;
-        }
-        Attribute::DataType => {
-            u.datatype = now;
-        }
-        Attribute::Interval => {
-            u.interval = now;
-        }
-        Attribute::Resolution => {
-            u.resolution = now;
-        }
-        Attribute::Offset => {
-            u.offset = now;
-        }
-        Attribute::Null => {
-            u.null = now;
-        }
-    }
-    u
-}
-
-// What the items of a stretch count, by their tags and lengths alone.
-fn pass_over(u: &[u8], dates: Dates, before: u64) -> Passed
-    ensures { λ r. ⌜ r ≡ passedOver (now (u .entry)) (passedFrom dates before) ⌝ }
-{
-    let mut times = dates.times;
-    let mut now = dates.now;
-    let mut items = before;
-    let mut defines = false;
-    let mut at = 0usize;
-    while at + 1 < u.len() {
-        match definitions::attribute_of(u[at]) {
-            Tagged::Defines(a) => {
-                times = timed(times, a, now);
-                now = std::num::wrapping_add_u32(now, 1);
-                defines = true;
-            }
-            Tagged::Other => {}
-        }
-        items = std::num::wrapping_add_u64(items, 1);
-        let n = u[at + 1] as usize;
-        if u.len() - at - 2 < n {
-            break;
-        }
-        at = at + 2 + n;
-    }
-    Passed {
-        dates: Dates {
-            times,
-            cleared: dates.cleared,
-            now,
-        },
-        items,
-        defines,
-    }
-}
-
-// Where a stretch outside groups ends, with the root settings, the times and the items read there.
+// Where a walk stands behind a stretch outside groups.
 struct RootAhead {
-    at: usize,
-    root: Settings,
+    cursor: Cursor,
+    standing: Standing,
     dates: Dates,
     items: u64,
 }
@@ -228,19 +146,19 @@ fn along_root(s: &[u8], c: Cursor, st: Standing, dates: Dates, items: u64) -> Ro
     let from = c.at;
     let to = ahead.at;
     let root = ahead.settings;
-    let passed = pass_over(&s[from..to], dates, items);
+    let passed = passed::over(&s[from..to], dates, items);
     let times = passed.dates;
     RootAhead {
-        at: to,
-        root,
+        cursor: stretch::moved(c, to),
+        standing: st.with_root(root),
         dates: times,
         items: passed.items,
     }
 }
 
-// Where a stretch in a group ends, and the items read there.
+// Where a walk stands behind a stretch in a group, besides what stays the same and the records.
 struct GroupAhead {
-    at: usize,
+    cursor: Cursor,
     items: u64,
 }
 
@@ -262,21 +180,22 @@ fn along_group(
     let from = c.at;
     // Where tag 05 is not of a time before now, a record of now does not say what stands.
     if dates.now <= dates.cleared {
-        return GroupAhead { at: from, items };
+        return GroupAhead { cursor: c, items };
     }
     if !stretch::may_hold(s, from) {
-        return GroupAhead { at: from, items };
+        return GroupAhead { cursor: c, items };
     }
     let stood = records::settled(t, channel, st.root, dates);
     let ahead = stretch::along(s, c, st.little, st.root, stood);
     let to = ahead.at;
     let settled = ahead.settings;
-    let passed = pass_over(&s[from..to], dates, items);
+    let passed = passed::over(&s[from..to], dates, items);
+    let cursor = stretch::moved(c, to);
     if passed.defines {
         words::put(t, channel, dates.note(settled));
     }
     GroupAhead {
-        at: to,
+        cursor,
         items: passed.items,
     }
 }
@@ -293,11 +212,12 @@ pub fn advance(s: &[u8], h: Head, t: &mut [u64]) -> Moved
     loop {
         if stretch::begins(s, c) {
             let ahead = along_root(s, c, st, dates, items);
-            if c.at < ahead.at {
-                let root = ahead.root;
+            let behind = ahead.cursor;
+            if c.at < behind.at {
+                let standing = ahead.standing;
                 let times = ahead.dates;
-                st = st.with_root(root);
-                c = stretch::moved(c, ahead.at);
+                c = behind;
+                st = standing;
                 dates = times;
                 items = ahead.items;
                 continue;
@@ -317,7 +237,8 @@ pub fn advance(s: &[u8], h: Head, t: &mut [u64]) -> Moved
                 let k = stretch::opened(item, st.counted);
                 if k < Settings::CHANNELS {
                     let ahead = along_group(s, d, k, st, dates, read, t);
-                    c = stretch::moved(d, ahead.at);
+                    let behind = ahead.cursor;
+                    c = behind;
                     items = ahead.items;
                     continue;
                 }

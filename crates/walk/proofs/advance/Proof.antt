@@ -6,7 +6,6 @@ use native.Mathlib.Omega.{arith}
 use borrow.Author.Needs.{needs}
 use lib.ListN.{length}
 use Rattle.items.specs.declared.Item.{Item}
-use Rattle.items.specs.declared.Cursor.{Cursor}
 use Rattle.items.specs.declared.Next.the-variants.{Found}
 use Rattle.items.specs.Walk.{nextOf}
 use Rattle.items.proofs.Walks.{next-found, found-as}
@@ -17,7 +16,6 @@ use Rattle.records.proofs.Channels.{channels-few}
 use Rattle.walk.specs.declared.Waveform.{Waveform}
 use Rattle.walk.specs.Advance.{Stand, stand, advanceOf}
 use Rattle.walk.proofs.Turns.{advance-end, advance-fault, Turning, turning-later, turning-stands, turning-passes, turning-count, turning-all, turning-one, turning-refused, Measured, turning-measured, measured-refused, measured-last, measured-taken, below-frame, past-then, past-put, answered}
-use Rattle.walk.proofs.Stretches.{root-on, group-on}
 use Rattle.walk.proofs.advance.Statement.{statement}
 use Rattle.walk.proofs.advance.Tie as tie
 
@@ -127,41 +125,33 @@ loop-holds : tie.Need-loop-holds Inv-loop μ-loop
 loop-holds c = (refl, refl, record { same = λ m h. refl })
 
 begins-requires : tie.Need-begins-requires Inv-loop μ-loop
-begins-requires c κs = search needs
+begins-requires c κs = tt
 
 along-root-requires : tie.Need-along-root-requires Inv-loop μ-loop
 along-root-requires c κs =
     let root = begins-root _ _ (c .before .begins .ensures) (c .if1 .taken) in
     (root .0, omega (arith, root .1))
 
-with-root-requires : tie.Need-with-root-requires Inv-loop μ-loop
-with-root-requires c κs = search needs
-
-moved-requires : tie.Need-moved-requires Inv-loop μ-loop
-moved-requires c κs = search needs
-
 loop-less : tie.Need-loop-less Inv-loop μ-loop
 loop-less c =
-    let at-longer = c .before .before .before .before in
-    let at-begins = at-longer .before .before .before .before in
-    omega (arith, begins-root _ _ (at-begins .before .begins .ensures) (at-begins .if1 .taken) .1, at-longer .if2 .taken, ap (λ (d : Cursor). d .at) (c .moved .ensures))
+    let at-longer = c .before .before in
+    let at-begins = at-longer .before .before .before .before .before in
+    omega (arith, begins-root _ _ (at-begins .before .begins .ensures) (at-begins .if1 .taken) .1, at-longer .if2 .taken)
 
 loop-again : tie.Need-loop-again Inv-loop μ-loop
 loop-again c =
-    let at-stretch = c .before .before .before .before .before .before .before in
-    let at-begins = at-stretch .before in
-    let inv = at-begins .before .before .loop .inv in
-    let root = begins-root _ _ (at-begins .before .begins .ensures) (at-begins .if1 .taken) .0 in
-    (root-on _ _ (at-stretch .along-root .ensures) root (c .moved .ensures) (c .before .with-root .ensures) ∙ inv .0, inv .1, inv .2)
+    let at-stretch = c .before .before .before .before .before .before in
+    let inv = at-stretch .before .before .before .loop .inv in
+    (at-stretch .along-root .ensures .same _ _ ∙ inv .0, inv .1, inv .2)
 
 next-item-requires : tie.Need-next-item-requires Inv-loop μ-loop
-next-item-requires c κs = search needs
+next-item-requires c κs = tt
 
 enum-told : tie.Need-enum-told Inv-loop μ-loop
-enum-told c = search needs
+enum-told c = c .match .keys1
 
 come-to-requires : tie.Need-come-to-requires Inv-loop μ-loop
-come-to-requires c κs = search needs
+come-to-requires c κs = tt
 
 same-length : tie.Need-same-length Inv-loop μ-loop
 same-length c =
@@ -176,10 +166,10 @@ returns c =
     answered (c .come-to .ensures) refl (advance-end (file-of l) (here l) (at-next .next-item .ensures) (c .before .enum-told .given .1) ∙ l .loop .inv .0) (l .loop .inv .1) (l .loop .inv .2) tt
 
 enum-known-x : tie.Need-enum-known-x Inv-loop μ-loop
-enum-known-x c = search needs
+enum-known-x c = c .match .keys2
 
 come-to-requires-2 : tie.Need-come-to-requires-2 Inv-loop μ-loop
-come-to-requires-2 c κs = search needs
+come-to-requires-2 c κs = tt
 
 same-length-2 : tie.Need-same-length-2 Inv-loop μ-loop
 same-length-2 c =
@@ -194,39 +184,35 @@ returns-2 c =
     answered (c .come-to2 .ensures) refl (advance-fault (file-of l) (here l) _ (at-next .next-item .ensures) (at-fault .x .given .1) ∙ l .loop .inv .0) (l .loop .inv .1) (l .loop .inv .2) tt
 
 enum-known-item : tie.Need-enum-known-item Inv-loop μ-loop
-enum-known-item c = search needs
+enum-known-item c = c .match .keys3
 
 renewed-requires : tie.Need-renewed-requires Inv-loop μ-loop
-renewed-requires c κs = search needs
+renewed-requires c κs = tt
 
 wrapping-add-u64-requires : tie.Need-wrapping-add-u64-requires Inv-loop μ-loop
-wrapping-add-u64-requires c κs = search needs
+wrapping-add-u64-requires c κs = tt
 
 opened-requires : tie.Need-opened-requires Inv-loop μ-loop
-opened-requires c κs = search needs
+opened-requires c κs = tt
 
 along-group-requires : tie.Need-along-group-requires Inv-loop μ-loop
 along-group-requires c κs =
     let o = c .before in
     (group-entered _ _ refl (met o) (group o), (omega (arith, group o .counts), next-found _ _ refl (met o) .inside))
 
-moved-requires-2 : tie.Need-moved-requires-2 Inv-loop μ-loop
-moved-requires-2 c κs = search needs
-
 loop-less-2 : tie.Need-loop-less-2 Inv-loop μ-loop
 loop-less-2 c =
-    let a = c .before .before .before in
-    let o = a .before .before in
-    omega (arith, next-found _ _ refl (met o), a .along-group .ensures .on, ap (λ (d : Cursor). d .at) (c .moved2 .ensures))
+    let at-stretch = c .before .before .before in
+    omega (arith, next-found _ _ refl (met (at-stretch .before .before)), at-stretch .along-group .ensures .on)
 
 loop-again-2 : tie.Need-loop-again-2 Inv-loop μ-loop
 loop-again-2 c =
-    let a = c .before .before .before in
-    let o = a .before .before in
+    let at-stretch = c .before .before .before in
+    let o = at-stretch .before .before in
     let r = read-at o in
-    let passed = a .along-group .ensures in
+    let passed = at-stretch .along-group .ensures in
     let inv = loop-at r .loop .inv in (
-      group-on _ passed (c .moved2 .ensures)
+      passed .same _
           ∙ turning-passes (record { found = met o; asks = refl }) (opened-nothing _ _ (group o)) (r .wrapping-add-u64 .ensures)
           ∙ inv .0,
       passed .long ∙ inv .1,
@@ -234,16 +220,16 @@ loop-again-2 c =
     )
 
 item-effect-requires : tie.Need-item-effect-requires Inv-loop μ-loop
-item-effect-requires c κs = search needs
+item-effect-requires c κs = tt
 
 enum-told-2 : tie.Need-enum-told-2 Inv-loop μ-loop
-enum-told-2 c = search needs
+enum-told-2 c = c .match2 .keys1
 
 cleared-requires : tie.Need-cleared-requires Inv-loop μ-loop
-cleared-requires c κs = search needs
+cleared-requires c κs = tt
 
 standing-after-requires : tie.Need-standing-after-requires Inv-loop μ-loop
-standing-after-requires c κs = search needs
+standing-after-requires c κs = tt
 
 loop-less-3 : tie.Need-loop-less-3 Inv-loop μ-loop
 loop-less-3 c =
@@ -258,13 +244,13 @@ loop-again-3 c =
     (turning-count (turn k) (at-count .enum-told2 .given .1) (c .standing-after .ensures) (c .before .cleared .ensures) (at-read k .wrapping-add-u64 .ensures) ∙ inv .0, inv .1, inv .2)
 
 enum-known-effect : tie.Need-enum-known-effect Inv-loop μ-loop
-enum-known-effect c = search needs
+enum-known-effect c = c .match2 .keys2
 
 defined-requires : tie.Need-defined-requires Inv-loop μ-loop
-defined-requires c κs = search needs
+defined-requires c κs = tt
 
 standing-after-requires-2 : tie.Need-standing-after-requires-2 Inv-loop μ-loop
-standing-after-requires-2 c κs = search needs
+standing-after-requires-2 c κs = tt
 
 loop-less-4 : tie.Need-loop-less-4 Inv-loop μ-loop
 loop-less-4 c =
@@ -280,22 +266,22 @@ loop-again-4 c =
     (turning-all (turn k) (at-all .effect .given .1) (c .standing-after2 .ensures) (c .before .defined .ensures) (at-read k .wrapping-add-u64 .ensures) ∙ inv .0, inv .1, inv .2)
 
 enum-known-effect-2 : tie.Need-enum-known-effect-2 Inv-loop μ-loop
-enum-known-effect-2 c = search needs
+enum-known-effect-2 c = c .match2 .keys3
 
 cast-k : tie.Need-cast-k Inv-loop μ-loop
 cast-k c = search needs
 
 settled-requires : tie.Need-settled-requires Inv-loop μ-loop
-settled-requires c κs = search needs
+settled-requires c κs = tt
 
 apply-requires : tie.Need-apply-requires Inv-loop μ-loop
-apply-requires c κs = search needs
+apply-requires c κs = tt
 
 note-requires : tie.Need-note-requires Inv-loop μ-loop
-note-requires c κs = search needs
+note-requires c κs = tt
 
 put-requires : tie.Need-put-requires Inv-loop μ-loop
-put-requires c κs = search needs
+put-requires c κs = tt
 
 loop-less-5 : tie.Need-loop-less-5 Inv-loop μ-loop
 loop-less-5 c =
@@ -317,31 +303,31 @@ loop-again-5 c =
     )
 
 enum-known-effect-3 : tie.Need-enum-known-effect-3 Inv-loop μ-loop
-enum-known-effect-3 c = search needs
+enum-known-effect-3 c = c .match2 .keys4
 
 channels-of-requires : tie.Need-channels-of-requires Inv-loop μ-loop
-channels-of-requires c κs = search needs
+channels-of-requires c κs = tt
 
 cast-count : tie.Need-cast-count Inv-loop μ-loop
 cast-count c = search needs
 
 at-most-requires : tie.Need-at-most-requires Inv-loop μ-loop
-at-most-requires c κs = search needs
+at-most-requires c κs = tt
 
 refresh-requires : tie.Need-refresh-requires Inv-loop μ-loop
-refresh-requires c κs = search needs
+refresh-requires c κs = tt
 
 frame-of-requires : tie.Need-frame-of-requires Inv-loop μ-loop
-frame-of-requires c κs = search needs
+frame-of-requires c κs = tt
 
 enum-known-number : tie.Need-enum-known-number Inv-loop μ-loop
-enum-known-number c = search needs
+enum-known-number c = c .match3 .keys1
 
 refused-at-requires : tie.Need-refused-at-requires Inv-loop μ-loop
-refused-at-requires c κs = search needs
+refused-at-requires c κs = tt
 
 come-to-requires-3 : tie.Need-come-to-requires-3 Inv-loop μ-loop
-come-to-requires-3 c κs = search needs
+come-to-requires-3 c κs = tt
 
 same-length-3 : tie.Need-same-length-3 Inv-loop μ-loop
 same-length-3 c =
@@ -356,7 +342,7 @@ returns-3 c =
     answered (c .come-to3 .ensures) (c .before .refused-at .ensures) (measured-refused (framing given) (at-number .number .given .1) ∙ inv .0) (long-of given) (past-of given) tt
 
 enum-known-sequences : tie.Need-enum-known-sequences Inv-loop μ-loop
-enum-known-sequences c = search needs
+enum-known-sequences c = c .match3 .keys2
 
 taken-requires : tie.Need-taken-requires Inv-loop μ-loop
 taken-requires c κs =
@@ -368,7 +354,7 @@ add-come-to c =
     omega (arith, measured-last (framing (at-taken .before .before)) (at-taken .sequences .given .1))
 
 come-to-requires-4 : tie.Need-come-to-requires-4 Inv-loop μ-loop
-come-to-requires-4 c κs = search needs
+come-to-requires-4 c κs = tt
 
 same-length-4 : tie.Need-same-length-4 Inv-loop μ-loop
 same-length-4 c =
@@ -384,13 +370,13 @@ returns-4 c =
     (below-frame (at-refresh given .refresh .ensures) (at-count given .at-most .ensures) (ap (λ (w : Waveform). w .channels) (c .before .taken .ensures)))
 
 enum-known-effect-4 : tie.Need-enum-known-effect-4 Inv-loop μ-loop
-enum-known-effect-4 c = search needs
+enum-known-effect-4 c = c .match2 .keys5
 
 refused-at-requires-2 : tie.Need-refused-at-requires-2 Inv-loop μ-loop
-refused-at-requires-2 c κs = search needs
+refused-at-requires-2 c κs = tt
 
 come-to-requires-5 : tie.Need-come-to-requires-5 Inv-loop μ-loop
-come-to-requires-5 c κs = search needs
+come-to-requires-5 c κs = tt
 
 same-length-5 : tie.Need-same-length-5 Inv-loop μ-loop
 same-length-5 c =
@@ -405,7 +391,7 @@ returns-5 c =
     answered (c .come-to5 .ensures) (c .before .refused-at2 .ensures) (turning-refused (turn k) (at-refused .effect4 .given .1) ∙ inv .0) (inv .1) (inv .2) tt
 
 standing-after-requires-3 : tie.Need-standing-after-requires-3 Inv-loop μ-loop
-standing-after-requires-3 c κs = search needs
+standing-after-requires-3 c κs = tt
 
 loop-less-6 : tie.Need-loop-less-6 Inv-loop μ-loop
 loop-less-6 c = omega (arith, turning-later (turn (c .before .before)))
@@ -425,8 +411,6 @@ advance-spec =
     loop-holds
     begins-requires
     along-root-requires
-    with-root-requires
-    moved-requires
     loop-less
     loop-again
     next-item-requires
@@ -443,7 +427,6 @@ advance-spec =
     wrapping-add-u64-requires
     opened-requires
     along-group-requires
-    moved-requires-2
     loop-less-2
     loop-again-2
     item-effect-requires

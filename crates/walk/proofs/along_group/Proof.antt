@@ -10,45 +10,49 @@ returns : tie.Need-returns
 returns c = search needs
 
 may-hold-requires : tie.Need-may-hold-requires
-may-hold-requires c κs = search needs
+may-hold-requires c κs = tt
 
 returns-2 : tie.Need-returns-2
 returns-2 c = search needs
 
 settled-requires : tie.Need-settled-requires
-settled-requires c κs = search needs
+settled-requires c κs = tt
 
 along-requires : tie.Need-along-requires
-along-requires c κs = search needs
+along-requires c κs = tt
 
-sub-pass-over : tie.Need-sub-pass-over
-sub-pass-over c = stretch-on _ _ _ _ _ (c .before .along .ensures)
+sub-over : tie.Need-sub-over
+sub-over c = stretch-on _ _ _ _ _ (c .before .along .ensures)
 
-part-pass-over-start : tie.Need-part-pass-over-start
-part-pass-over-start c = stretch-on _ _ _ _ _ (c .before .along .ensures)
+part-over-start : tie.Need-part-over-start
+part-over-start c = stretch-on _ _ _ _ _ (c .before .along .ensures)
 
-part-pass-over-end : tie.Need-part-pass-over-end
-part-pass-over-end c = stretch-ends _ _ _ _ _ (c .before .along .ensures) (c .before .before .before .before .before .before .before .before .before .before .pre .1 .1)
+part-over-end : tie.Need-part-over-end
+part-over-end c = stretch-ends _ _ _ _ _ (c .before .along .ensures) (c .before .before .before .before .before .before .before .before .before .before .pre .1 .1)
 
-pass-over-requires : tie.Need-pass-over-requires
-pass-over-requires c κs = search needs
+over-requires : tie.Need-over-requires
+over-requires c κs = tt
+
+moved-requires : tie.Need-moved-requires
+moved-requires c κs = tt
 
 note-requires : tie.Need-note-requires
-note-requires c κs = search needs
+note-requires c κs = tt
 
 put-requires : tie.Need-put-requires
-put-requires c κs = search needs
+put-requires c κs = tt
 
 same-length : tie.Need-same-length
 same-length c = search needs
 
 returns-3 : tie.Need-returns-3
 returns-3 c =
-    let passed = c .before .before .before .before .before .before in
+    let at-moved = c .before .before .before .before .before .before in
+    let passed = at-moved .before in
     let at-along = passed .before .before .before in
     let at-time = at-along .before .before .before .before .before in
     let pre = at-time .before .before .before .before .pre in
-    group-put _ _ _ _ _ _ _ (at-time .if1 .left) (pre .0) (pre .1 .0) (at-along .before .settled .ensures) (at-along .along .ensures) (passed .pass-over .ensures)
+    group-put _ _ _ _ _ _ _ (at-time .if1 .left) (pre .0) (pre .1 .0) (at-along .before .settled .ensures) (at-along .along .ensures) (passed .over .ensures) (at-moved .moved .ensures)
     (c .before .before .before .before .before .if3 .taken) (c .before .before .before .note .ensures) (c .before .before .put .ensures)
 
 same-length-2 : tie.Need-same-length-2
@@ -56,11 +60,13 @@ same-length-2 c = search needs
 
 returns-4 : tie.Need-returns-4
 returns-4 c =
-    let passed = c .before in
+    let at-moved = c .before in
+    let passed = at-moved .before in
     let at-along = passed .before .before .before in
     let at-time = at-along .before .before .before .before .before in
     let pre = at-time .before .before .before .before .pre in
-    group-kept _ _ _ _ _ _ _ (at-time .if1 .left) (pre .0) (pre .1 .0) (at-along .before .settled .ensures) (at-along .along .ensures) (passed .pass-over .ensures) (c .if3 .left)
+    group-kept _ _ _ _ _ _ _ (at-time .if1 .left) (pre .0) (pre .1 .0) (at-along .before .settled .ensures) (at-along .along .ensures) (passed .over .ensures) (at-moved .moved .ensures)
+    (c .if3 .left)
 
 pub along-group-spec : {M : Type 1} → statement M
 along-group-spec =
@@ -71,10 +77,11 @@ along-group-spec =
     returns-2
     settled-requires
     along-requires
-    sub-pass-over
-    part-pass-over-start
-    part-pass-over-end
-    pass-over-requires
+    sub-over
+    part-over-start
+    part-over-end
+    over-requires
+    moved-requires
     note-requires
     put-requires
     same-length

@@ -5,8 +5,8 @@ use Rattle.definitions.specs.declared.Attribute.{Attribute}
 use Rattle.definitions.specs.Define.{standingIn}
 use Rattle.dated.specs.Dated.{timed}
 use borrow.Author.Needs.{needs}
-use Rattle.walk.proofs.timed.Statement.{statement}
-use Rattle.walk.proofs.timed.Tie as tie
+use Rattle.passed.proofs.timed.Statement.{statement}
+use Rattle.passed.proofs.timed.Tie as tie
 
 enum-told : tie.Need-enum-told
 enum-told c = search needs
