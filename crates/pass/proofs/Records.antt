@@ -30,7 +30,7 @@ use Rattle.standing.specs.declared.Standing.{Standing}
 use Rattle.effects.specs.declared.Effect.{Effect}
 use Rattle.effects.specs.Effects.{standingAfter}
 use Rattle.stretch.specs.declared.Stretch.{Stretch}
-use Rattle.stretch.specs.Stretch.{stretchOf, InGroup}
+use Rattle.stretch.specs.Stretch.{stretchOf}
 use Rattle.pass.specs.declared.Asked.{Asked}
 use Rattle.pass.specs.declared.Met.{Met}
 use Rattle.verdict.specs.Verdict.{state, carried}
@@ -39,8 +39,7 @@ use Rattle.verdict.specs.Reached.{Reached}
 use Rattle.pass.specs.Passing.{Scanning}
 use Rattle.pass.proofs.Scans.{scanning-on}
 use Rattle.pass.proofs.Turns.{Facing, facing-later, facing-goes}
-use Rattle.stretch.proofs.Taken.{stretch-on}
-use Rattle.pass.proofs.Stretches.{group-law}
+use Rattle.pass.proofs.Stretches.{InGroup, group-law, stretch-on}
 
 pub record Passing (s : List ℕ) (q : Asked) (table : List Dated) (dates : Dates) (c : Cursor) (st : Standing) (m : Met) : Type 0 where
   pub full : length table ≡ channelLimit

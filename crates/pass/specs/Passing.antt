@@ -1,11 +1,14 @@
 -- What a pass knows and asks on its way. None of it is a rule of document 01.
 use mathlib.Core.Path.{_≡_}
 use mathlib.Core.List.{List}
+use mathlib.Core.Bool.{Bool, false}
 use Prim.Native.Nat.{ℕ, _+_, _*_, _^_, _≤_}
 use lib.Dec.{ltb, eqb}
-use lib.ListN.{length}
+use lib.ListN.{length, getD}
 use Rattle.octets.specs.Pick.{pick}
+use Rattle.items.specs.declared.Item.{Item}
 use Rattle.items.specs.declared.Cursor.{Cursor}
+use Rattle.items.specs.Walk.{isInside}
 use Rattle.settings.specs.declared.Settings.{Settings}
 use Rattle.settings.specs.Settings.{channelLimit, defaultSettings}
 use Rattle.layout.specs.declared.Layout.{Layout}
@@ -14,6 +17,7 @@ use Rattle.sizes.specs.Size.{frameSize}
 use Rattle.standing.specs.declared.Standing.{Standing}
 use Rattle.standing.specs.Standing.{octetsLimit, framesLimit}
 use Rattle.framing.specs.Framing.{channelsOf}
+use Rattle.stretch.specs.Stretch.{steppedOver}
 use Rattle.pass.specs.declared.Asked.{Asked}
 use Rattle.view.specs.declared.View.{View}
 use Rattle.pass.specs.declared.Found.{Found}
@@ -72,3 +76,14 @@ metWith q st sequences start len l there c m =
       found = pick (eqb (m .frames) (q .frame)) (Found.Frame (viewMet (q .channel) st sequences start len l c)) (m .found);
       size = m .size + frameSize sequences (l .groups) there;
     }
+
+-- The channel of a group that takes effect here; for every other item the number of records, which is no channel.
+unfoldable pub openedBy : ℕ → Item → ℕ
+openedBy counted (Item.Plain place tag start len) = channelLimit
+openedBy counted (Item.Group place channel) = pick (ltb channel counted) channel channelLimit
+openedBy counted (Item.Member place channel tag start len) = channelLimit
+openedBy counted (Item.Mark place) = channelLimit
+
+-- A stretch of root definitions may begin at a cursor.
+unfoldable pub beginsAt : List ℕ → Cursor → Bool
+beginsAt s c = pick (isInside (c .within)) false (pick (ltb (c .at) (length s)) (steppedOver (getD s (c .at) 0)) false)

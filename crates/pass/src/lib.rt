@@ -9,7 +9,7 @@ ghost use mathlib.Core.Path.{_≡_};
 ghost use Prim.Native.Nat.{_+_, _*_, _-_, _^_, _≤_, _<_, min};
 ghost use Rattle.octets.specs.Pick.{pick};
 ghost use lib.ListN.{length, take, replicate};
-ghost use Rattle.items.specs.Walk.{refusal};
+ghost use Rattle.items.specs.Walk.{cursor, refusal};
 ghost use Rattle.settings.specs.Settings.{defaultSettings, channelLimit};
 ghost use Rattle.stretch.specs.Stretch.{stretchOf};
 ghost use Rattle.sizes.specs.Size.{frameSize};
@@ -21,7 +21,7 @@ ghost use Rattle.standing.specs.Standing.{octetsLimit};
 ghost use Rattle.framing.specs.Framing.{channelsOf};
 ghost use Rattle.verdict.specs.Verdict.{placeAt};
 ghost use Rattle.pass.specs.Scan.{refusedScan, scanOf};
-ghost use Rattle.pass.specs.Passing.{Scanning, Room, noneMet, metScan, metWith, viewMet};
+ghost use Rattle.pass.specs.Passing.{Scanning, Room, openedBy, beginsAt, noneMet, metScan, metWith, viewMet};
 use dated::Dated;
 use dated::Dates;
 use effects::Effect;
@@ -30,6 +30,7 @@ use heads::Refusal;
 use items::Cursor;
 use items::Item;
 use items::Next;
+use items::Within;
 use layout::Layout;
 use settings::Settings;
 use standing::Standing;
@@ -181,6 +182,65 @@ fn index(channel: u32) -> usize
     if k < last { k } else { last }
 }
 
+// The channel of a group that takes effect here; for every other item the number of records, which is no channel.
+fn opened(item: Item, counted: u32) -> usize
+    ensures { λ r. ⌜ r ≡ openedBy counted item ⌝ }
+{
+    match item {
+        Item::Plain {
+            place: _,
+            tag: _,
+            start: _,
+            len: _,
+        } => Settings::CHANNELS,
+        Item::Group { place: _, channel } => {
+            if channel < counted {
+                channel as usize
+            } else {
+                Settings::CHANNELS
+            }
+        }
+        Item::Member {
+            place: _,
+            channel: _,
+            tag: _,
+            start: _,
+            len: _,
+        } => Settings::CHANNELS,
+        Item::Mark { place: _ } => Settings::CHANNELS,
+    }
+}
+
+// A stretch of root definitions may begin at a cursor.
+fn begins(s: &[u8], c: Cursor) -> bool
+    ensures { λ r. ⌜ r ≡ beginsAt (now (s .entry)) c ⌝ }
+{
+    let at = c.at;
+    let within = c.within;
+    match within {
+        Within::Root => {
+            if at < s.len() {
+                stretch::stepped_over(s[at])
+            } else {
+                false
+            }
+        }
+        Within::Definite { channel: _, end: _ } => false,
+        Within::Open {
+            channel: _,
+            place: _,
+        } => false,
+    }
+}
+
+// A cursor moved on, in the same group or outside.
+fn moved(c: Cursor, at: usize) -> Cursor
+    ensures { λ r. ⌜ r ≡ cursor at (c .within) ⌝ }
+{
+    let within = c.within;
+    Cursor { at, within }
+}
+
 // The stretch of root definitions at a cursor.
 fn root_stretch(s: &[u8], c: Cursor, st: Standing) -> Stretch
     ensures { λ r. ⌜ r ≡ stretchOf (now (s .entry)) c (st .little) defaultSettings (st .root) ⌝ }
@@ -269,13 +329,13 @@ fn scan_channels(s: &[u8], asked: Asked, from: Cursor, standing: Standing, befor
                 c = next.renewed();
                 let root = st.root;
                 // The definitions at the front of a group are taken as a stretch.
-                let k = stretch::opened(item, st.counted);
+                let k = opened(item, st.counted);
                 if k < Settings::CHANNELS {
                     let stood = dated::settle(root, dates, table[k]);
                     let ahead = stretch::along(s, c, st.little, root, stood);
                     let settled = ahead.settings;
                     table[k] = dates.note(settled);
-                    c = stretch::moved(c, ahead.at);
+                    c = moved(c, ahead.at);
                     continue;
                 }
                 let effect = effects::item_effect(s, st, item);
@@ -359,12 +419,12 @@ fn scan_root(s: &[u8], asked: Asked) -> Scan
     let mut st = Standing::first();
     let mut met = Met::none();
     loop {
-        if stretch::begins(s, c) {
+        if begins(s, c) {
             let ahead = root_stretch(s, c, st);
             if c.at < ahead.at {
                 let settled = ahead.settings;
                 st = st.with_root(settled);
-                c = stretch::moved(c, ahead.at);
+                c = moved(c, ahead.at);
                 continue;
             }
         }

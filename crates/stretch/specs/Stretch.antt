@@ -1,19 +1,15 @@
 -- A stretch: definitions and items that are stepped over, one after the other, each with a length of one octet. No sentence of document 01 knows
--- it; what its items ask for one by one is shown in proofs/Asks.antt, and that it does what they do where it is taken (pass/proofs/Stretches.antt,
--- walk/proofs/Stretches.antt).
-use mathlib.Core.Path.{_≡_}
+-- it; that a stretch does what its items do one by one is shown where the pass takes it (pass/proofs/Stretches.antt).
 use mathlib.Core.List.{List}
 use mathlib.Core.Bool.{Bool, false}
 use Prim.Native.Nat.{ℕ, zero, suc, _+_, _-_, _/_, _%_}
 use lib.Dec.{eqb, ltb}
 use lib.ListN.{length, getD, take, drop}
 use Rattle.octets.specs.Pick.{pick}
-use Rattle.items.specs.declared.Item.{Item}
-use Rattle.items.specs.declared.Within.{Within}
 use Rattle.items.specs.declared.Cursor.{Cursor}
-use Rattle.items.specs.Walk.{isInside, extent}
+use Rattle.items.specs.Walk.{extent}
 use Rattle.settings.specs.declared.Settings.{Settings}
-use Rattle.settings.specs.Settings.{channelLimit, applied}
+use Rattle.settings.specs.Settings.{applied}
 use Rattle.definitions.specs.declared.Defined.{Defined}
 use Rattle.definitions.specs.declared.Tagged.{Tagged}
 use Rattle.definitions.specs.Define.{tagged, defined}
@@ -80,27 +76,3 @@ unfoldable pub stretchOf : List ℕ → Cursor → Bool → Settings → Setting
 stretchOf s c little base held =
     let r = runOf little base held (extent s (c .at) (c .within)) in
     stretch (c .at + r .at) (r .settings)
-
--- The channel of a group that takes effect here; for every other item the number of records, which is no channel.
-unfoldable pub openedBy : ℕ → Item → ℕ
-openedBy counted (Item.Plain place tag start len) = channelLimit
-openedBy counted (Item.Group place channel) = pick (ltb channel counted) channel channelLimit
-openedBy counted (Item.Member place channel tag start len) = channelLimit
-openedBy counted (Item.Mark place) = channelLimit
-
--- An item of a stretch may stand at a place: two octets are there, its length takes one octet, and its tag may be held.
-unfoldable pub mayHold : List ℕ → ℕ → Bool
-mayHold s at =
-    pick (ltb (length s - at) 2) false
-    (pick (ltb 127 (getD s (at + 1) 0)) false
-    (steppedOver (getD s at 0)))
-
--- A stretch of root definitions may begin at a cursor.
-unfoldable pub beginsAt : List ℕ → Cursor → Bool
-beginsAt s c = pick (isInside (c .within)) false (mayHold s (c .at))
-
--- A place in a group of this channel.
-abbrev pub InGroup : Within → ℕ → Type 0
-InGroup Within.Root k = ⊥
-InGroup (Within.Definite channel end) k = channel ≡ k
-InGroup (Within.Open channel place) k = channel ≡ k

@@ -2,14 +2,12 @@
 //
 // A pass may take every item by itself. Where many in a row do nothing but change one record, it takes them as a stretch: no item, effect or
 // change is handed from function to function. What does not belong to a stretch is left where it stands.
-// Promises, for any octets and any cursor: `along` answers how far the stretch at a cursor goes and the record that it leaves. `begins`, `opened` and
-// `may_hold` tell where one is worth taking, outside groups and at the front of a group.
+// Promises, for any octets and any cursor: `along` answers how far the stretch at a cursor goes and the record that it leaves.
 // Read first: specs/Stretch.antt.
 ghost use mathlib.Core.Path.{_≡_};
 ghost use Prim.Native.Nat.{_≤_};
 ghost use lib.ListN.{length};
-ghost use Rattle.items.specs.Walk.{cursor};
-ghost use Rattle.stretch.specs.Stretch.{steppedOver, runOf, stretchOf, mayHold, beginsAt, openedBy};
+ghost use Rattle.stretch.specs.Stretch.{steppedOver, runOf, stretchOf};
 use definitions::Attribute;
 use definitions::BitsRead;
 use definitions::BlockRead;
@@ -18,8 +16,6 @@ use definitions::ScaleRead;
 use definitions::Tagged;
 use definitions::TypeRead;
 use items::Cursor;
-use items::Item;
-use items::Within;
 use settings::Settings;
 use values::Bits;
 
@@ -30,7 +26,7 @@ pub struct Stretch {
 }
 
 // The tags of other items that a stretch may hold.
-fn stepped_over(tag: u8) -> bool
+pub fn stepped_over(tag: u8) -> bool
     ensures { λ r. ⌜ r ≡ steppedOver tag ⌝ }
 {
     match tag {
@@ -159,73 +155,4 @@ pub fn along(s: &[u8], c: Cursor, little: bool, base: Settings, held: Settings) 
         at: at + taken.at,
         settings,
     }
-}
-
-// The channel of a group that takes effect here; for every other item the number of records, which is no channel.
-pub fn opened(item: Item, counted: u32) -> usize
-    ensures { λ r. ⌜ r ≡ openedBy counted item ⌝ }
-{
-    match item {
-        Item::Plain {
-            place: _,
-            tag: _,
-            start: _,
-            len: _,
-        } => Settings::CHANNELS,
-        Item::Group { place: _, channel } => {
-            if channel < counted {
-                channel as usize
-            } else {
-                Settings::CHANNELS
-            }
-        }
-        Item::Member {
-            place: _,
-            channel: _,
-            tag: _,
-            start: _,
-            len: _,
-        } => Settings::CHANNELS,
-        Item::Mark { place: _ } => Settings::CHANNELS,
-    }
-}
-
-// An item of a stretch may stand at a place, by its tag and the first octet of its length.
-pub fn may_hold(s: &[u8], at: usize) -> bool
-    ensures { λ r. ⌜ r ≡ mayHold (now (s .entry)) at ⌝ }
-{
-    if s.len() <= at {
-        return false;
-    }
-    if s.len() - at < 2 {
-        return false;
-    }
-    if 127 < s[at + 1] {
-        return false;
-    }
-    stepped_over(s[at])
-}
-
-// A stretch of root definitions may begin at a cursor.
-pub fn begins(s: &[u8], c: Cursor) -> bool
-    ensures { λ r. ⌜ r ≡ beginsAt (now (s .entry)) c ⌝ }
-{
-    let at = c.at;
-    let within = c.within;
-    match within {
-        Within::Root => may_hold(s, at),
-        Within::Definite { channel: _, end: _ } => false,
-        Within::Open {
-            channel: _,
-            place: _,
-        } => false,
-    }
-}
-
-// A cursor moved on, in the same group or outside.
-pub fn moved(c: Cursor, at: usize) -> Cursor
-    ensures { λ r. ⌜ r ≡ cursor at (c .within) ⌝ }
-{
-    let within = c.within;
-    Cursor { at, within }
 }

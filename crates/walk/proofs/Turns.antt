@@ -175,11 +175,6 @@ module _ {s : List ℕ} {x : Stand} {i : Item} {d : Cursor} {e : Effect} (t : Tu
   pub turning-stands : {st : Standing} {items : ℕ} → OneOf plain-keys (tagOf the-type e) → st ≡ standingAfter (x .standing) e → Counted items → Same st (x .dates) (x .records) items
   turning-stands b es ei = goes-to (plain-goes x d (placeAt i) e b) es ei
 
-  pub turning-passes : {items : ℕ} → e ≡ Effect.Pass → Counted items → Same (x .standing) (x .dates) (x .records) items
-  unfolding effectTurn
-  turning-passes b ei =
-      goes-to (ap (effectTurn x d (placeAt i)) b ∙ ap (λ (f : Effect). goesOn x d f (x .dates) (x .records)) (sym b)) (sym (ap (standingAfter (x .standing)) b)) ei
-
   pub turning-count : {n : ℕ} {st : Standing} {dates : Dates} {items : ℕ} → e ≡ Effect.Count n → st ≡ standingAfter (x .standing) e → dates ≡ allCleared (x .dates) → Counted items → Same st dates (x .records) items
   unfolding effectTurn
   turning-count b es ed ei =

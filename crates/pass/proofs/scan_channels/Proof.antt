@@ -22,7 +22,7 @@ use Rattle.pass.specs.declared.Asked.{Asked}
 use Rattle.verdict.proofs.Bounds.{channels-between}
 use Rattle.pass.proofs.Scans.{scanning-counted, scanned-end, scanned-fault}
 use Rattle.pass.proofs.Turns.{Facing, facing-later, facing-nothing, facing-stands, facing-refused, Framing, facing-framing, framing-refused, framing-octets, framing-small, framing-room, framing-taken}
-use Rattle.stretch.proofs.Taken.{GroupOpened, opened-group, opened-nothing, opened-counted, group-entered, stretch-on}
+use Rattle.pass.proofs.Stretches.{GroupOpened, opened-group, opened-nothing, opened-counted, group-entered, stretch-on}
 use Rattle.pass.proofs.Records.{Passing, passing-from, passing-at, passing-on, passing-count, passing-all, passing-one, passing-outside, passing-group, settled-more, settled-seen, stands-full}
 use Rattle.pass.proofs.Cut.{held-there, held-cut, held-small}
 use Rattle.pass.proofs.scan_channels.Statement.{statement}

@@ -12,7 +12,7 @@ use Rattle.settings.specs.Settings.{channelLimit}
 use Rattle.effects.specs.Effects.{standingAfter}
 use Rattle.pass.proofs.Scans.{scanning-counted, scanned-end, scanned-fault}
 use Rattle.pass.proofs.Turns.{Facing, facing-later, facing-stands, facing-refused, Framing, facing-framing, framing-refused, framing-octets, framing-room}
-use Rattle.stretch.proofs.Taken.{begins-root}
+use Rattle.pass.proofs.Stretches.{begins-root}
 use Rattle.pass.proofs.Bare.{Bare, bare-first, bare-on, bare-at, bare-all, bare-root, bare-taken}
 use Rattle.pass.proofs.scan_root.Statement.{statement}
 use Rattle.pass.proofs.scan_root.Tie as tie

@@ -6,16 +6,13 @@ use native.Mathlib.Omega.{arith}
 use borrow.Author.Needs.{needs}
 use lib.ListN.{length}
 use Rattle.items.specs.declared.Item.{Item}
-use Rattle.items.specs.declared.Next.the-variants.{Found}
-use Rattle.items.specs.Walk.{nextOf}
-use Rattle.items.proofs.Walks.{next-found, found-as}
-use Rattle.stretch.proofs.Taken.{begins-root, GroupOpened, opened-group, opened-nothing, group-entered}
+use Rattle.items.proofs.Walks.{found-as}
 use Rattle.words.specs.Words.{recordsIn}
 use Rattle.records.specs.Records.{PastKept}
 use Rattle.records.proofs.Channels.{channels-few}
 use Rattle.walk.specs.declared.Waveform.{Waveform}
 use Rattle.walk.specs.Advance.{Stand, stand, advanceOf}
-use Rattle.walk.proofs.Turns.{advance-end, advance-fault, Turning, turning-later, turning-stands, turning-passes, turning-count, turning-all, turning-one, turning-refused, Measured, turning-measured, measured-refused, measured-last, measured-taken, below-frame, past-then, past-put, answered}
+use Rattle.walk.proofs.Turns.{advance-end, advance-fault, Turning, turning-later, turning-stands, turning-count, turning-all, turning-one, turning-refused, Measured, turning-measured, measured-refused, measured-last, measured-taken, below-frame, past-then, past-put, answered}
 use Rattle.walk.proofs.advance.Statement.{statement}
 use Rattle.walk.proofs.advance.Tie as tie
 
@@ -42,47 +39,19 @@ here l = stand (l .loop .c) (l .loop .st) (l .loop .dates) (recordsIn (l .loop .
 abbrev Known : Type 0
 Known = tie.After-item-effect Inv-loop μ-loop
 
--- Its number is known.
-abbrev Read : Type 0
-Read = tie.After-wrapping-add-u64 Inv-loop μ-loop
-
-abbrev item-at : Read → tie.After-item Inv-loop μ-loop
-item-at c = c .before .before .before
-
-abbrev loop-at : Read → Loop
-loop-at c = item-at c .before .before .before .before .before
-
-abbrev at-read : Known → Read
-at-read c = c .before .before .before
-
 abbrev at-item : Known → tie.After-item Inv-loop μ-loop
-at-item c = item-at (at-read c)
+at-item c = c .before .before .before .before
 
 abbrev at-loop : Known → Loop
-at-loop c = loop-at (at-read c)
+at-loop c = at-item c .before .before .before
 
 abbrev item-of : Known → Item
 item-of c = at-item c .item .given .0 .0
 
-turn : (c : Known) → Turning (file-of (at-loop c)) (here (at-loop c)) (item-of c) (at-read c .before .renewed .result) (c .item-effect .result)
+turn : (c : Known) → Turning (file-of (at-loop c)) (here (at-loop c)) (item-of c) (c .before .before .renewed .result) (c .item-effect .result)
 turn c =
     let at-next = at-item c .before .before in
-    record { found = sym (at-next .next-item .ensures) ∙ found-as (at-item c .item .given .1) (at-read c .before .renewed .ensures); asks = c .item-effect .ensures }
-
--- The item is the tag of a group that takes effect.
-abbrev Opened : Type 0
-Opened = tie.Then3 Inv-loop μ-loop
-
-abbrev read-at : Opened → Read
-read-at c = c .before .before
-
-met : (c : Opened) → nextOf (file-of (loop-at (read-at c))) (here (loop-at (read-at c)) .cursor) ≡ Found (item-at (read-at c) .item .given .0 .0) (read-at c .before .renewed .result)
-met c =
-    let at-item = item-at (read-at c) in
-    sym (at-item .before .before .next-item .ensures) ∙ found-as (at-item .item .given .1) (read-at c .before .renewed .ensures)
-
-group : (c : Opened) → GroupOpened (loop-at (read-at c) .loop .st .counted) (item-at (read-at c) .item .given .0 .0) (c .before .opened .result)
-group c = opened-group _ _ (c .before .opened .ensures) (c .if3 .taken)
+    record { found = sym (at-next .next-item .ensures) ∙ found-as (at-item c .item .given .1) (c .before .before .renewed .ensures); asks = c .item-effect .ensures }
 
 -- What the item's waveform gives is known.
 abbrev Given : Type 0
@@ -107,7 +76,7 @@ known c = at-frame c .before .before
 framing : (c : Given)
     → let k = known c in
     let waveform = at-frame c .effect3 .given .0 in
-    Measured (file-of (at-loop k)) (here (at-loop k)) (item-of k) (at-read k .before .renewed .result) (waveform .0) (waveform .1 .0) (at-count c .at-most .result) (at-refresh c .refresh .result) (recordsIn (words-of c)) (c .frame-of .result)
+    Measured (file-of (at-loop k)) (here (at-loop k)) (item-of k) (k .before .before .renewed .result) (waveform .0) (waveform .1 .0) (at-count c .at-most .result) (at-refresh c .refresh .result) (recordsIn (words-of c)) (c .frame-of .result)
 framing c =
     turning-measured (turn (known c)) (at-frame c .effect3 .given .1) (at-count c .before .before .channels-of .ensures) (at-count c .at-most .ensures) refl (at-refresh c .refresh .ensures) (c .frame-of .ensures)
 
@@ -124,210 +93,163 @@ past-of c =
 loop-holds : tie.Need-loop-holds Inv-loop μ-loop
 loop-holds c = (refl, refl, record { same = λ m h. refl })
 
-begins-requires : tie.Need-begins-requires Inv-loop μ-loop
-begins-requires c κs = tt
-
-along-root-requires : tie.Need-along-root-requires Inv-loop μ-loop
-along-root-requires c κs =
-    let root = begins-root _ _ (c .before .begins .ensures) (c .if1 .taken) in
-    (root .0, omega (arith, root .1))
-
-loop-less : tie.Need-loop-less Inv-loop μ-loop
-loop-less c =
-    let at-longer = c .before .before in
-    let at-begins = at-longer .before .before .before .before .before in
-    omega (arith, begins-root _ _ (at-begins .before .begins .ensures) (at-begins .if1 .taken) .1, at-longer .if2 .taken)
-
-loop-again : tie.Need-loop-again Inv-loop μ-loop
-loop-again c =
-    let at-stretch = c .before .before .before .before .before .before in
-    let inv = at-stretch .before .before .before .loop .inv in
-    (at-stretch .along-root .ensures .same _ _ ∙ inv .0, inv .1, inv .2)
-
 next-item-requires : tie.Need-next-item-requires Inv-loop μ-loop
-next-item-requires c κs = tt
+next-item-requires c κs = search needs
 
 enum-told : tie.Need-enum-told Inv-loop μ-loop
-enum-told c = c .match .keys1
+enum-told c = search needs
 
 come-to-requires : tie.Need-come-to-requires Inv-loop μ-loop
-come-to-requires c κs = tt
+come-to-requires c κs = search needs
 
 same-length : tie.Need-same-length Inv-loop μ-loop
 same-length c =
-    let at-loop = c .before .before .before .before .before .before in
+    let at-loop = c .before .before .before .before in
     at-loop .loop .inv .1
 
 returns : tie.Need-returns Inv-loop μ-loop
 returns c =
     let at-before = c .before .before in
     let at-next = c .before .before .before in
-    let l = at-next .before .before .before in
+    let l = at-next .before in
     answered (c .come-to .ensures) refl (advance-end (file-of l) (here l) (at-next .next-item .ensures) (c .before .enum-told .given .1) ∙ l .loop .inv .0) (l .loop .inv .1) (l .loop .inv .2) tt
 
 enum-known-x : tie.Need-enum-known-x Inv-loop μ-loop
-enum-known-x c = c .match .keys2
+enum-known-x c = search needs
 
 come-to-requires-2 : tie.Need-come-to-requires-2 Inv-loop μ-loop
-come-to-requires-2 c κs = tt
+come-to-requires-2 c κs = search needs
 
 same-length-2 : tie.Need-same-length-2 Inv-loop μ-loop
 same-length-2 c =
-    let at-loop = c .before .before .before .before .before .before .before in
+    let at-loop = c .before .before .before .before .before in
     at-loop .loop .inv .1
 
 returns-2 : tie.Need-returns-2 Inv-loop μ-loop
 returns-2 c =
     let at-fault = c .before .before in
     let at-next = at-fault .before .before in
-    let l = at-next .before .before .before in
+    let l = at-next .before in
     answered (c .come-to2 .ensures) refl (advance-fault (file-of l) (here l) _ (at-next .next-item .ensures) (at-fault .x .given .1) ∙ l .loop .inv .0) (l .loop .inv .1) (l .loop .inv .2) tt
 
 enum-known-item : tie.Need-enum-known-item Inv-loop μ-loop
-enum-known-item c = c .match .keys3
+enum-known-item c = search needs
 
 renewed-requires : tie.Need-renewed-requires Inv-loop μ-loop
-renewed-requires c κs = tt
+renewed-requires c κs = search needs
 
 wrapping-add-u64-requires : tie.Need-wrapping-add-u64-requires Inv-loop μ-loop
-wrapping-add-u64-requires c κs = tt
-
-opened-requires : tie.Need-opened-requires Inv-loop μ-loop
-opened-requires c κs = tt
-
-along-group-requires : tie.Need-along-group-requires Inv-loop μ-loop
-along-group-requires c κs =
-    let o = c .before in
-    (group-entered _ _ refl (met o) (group o), (omega (arith, group o .counts), next-found _ _ refl (met o) .inside))
-
-loop-less-2 : tie.Need-loop-less-2 Inv-loop μ-loop
-loop-less-2 c =
-    let at-stretch = c .before .before .before in
-    omega (arith, next-found _ _ refl (met (at-stretch .before .before)), at-stretch .along-group .ensures .on)
-
-loop-again-2 : tie.Need-loop-again-2 Inv-loop μ-loop
-loop-again-2 c =
-    let at-stretch = c .before .before .before in
-    let o = at-stretch .before .before in
-    let r = read-at o in
-    let passed = at-stretch .along-group .ensures in
-    let inv = loop-at r .loop .inv in (
-      passed .same _
-          ∙ turning-passes (record { found = met o; asks = refl }) (opened-nothing _ _ (group o)) (r .wrapping-add-u64 .ensures)
-          ∙ inv .0,
-      passed .long ∙ inv .1,
-      past-then (inv .1) (inv .2) (passed .past),
-    )
+wrapping-add-u64-requires c κs = search needs
 
 item-effect-requires : tie.Need-item-effect-requires Inv-loop μ-loop
-item-effect-requires c κs = tt
+item-effect-requires c κs = search needs
 
 enum-told-2 : tie.Need-enum-told-2 Inv-loop μ-loop
-enum-told-2 c = c .match2 .keys1
+enum-told-2 c = search needs
 
 cleared-requires : tie.Need-cleared-requires Inv-loop μ-loop
-cleared-requires c κs = tt
+cleared-requires c κs = search needs
 
 standing-after-requires : tie.Need-standing-after-requires Inv-loop μ-loop
-standing-after-requires c κs = tt
+standing-after-requires c κs = search needs
 
-loop-less-3 : tie.Need-loop-less-3 Inv-loop μ-loop
-loop-less-3 c =
+loop-less : tie.Need-loop-less Inv-loop μ-loop
+loop-less c =
     let at-before = c .before .before .before in
     omega (arith, turning-later (turn (c .before .before .before .before)))
 
-loop-again-3 : tie.Need-loop-again-3 Inv-loop μ-loop
-loop-again-3 c =
+loop-again : tie.Need-loop-again Inv-loop μ-loop
+loop-again c =
     let at-count = c .before .before in
     let k = at-count .before .before in
     let inv = at-loop k .loop .inv in
-    (turning-count (turn k) (at-count .enum-told2 .given .1) (c .standing-after .ensures) (c .before .cleared .ensures) (at-read k .wrapping-add-u64 .ensures) ∙ inv .0, inv .1, inv .2)
+    (turning-count (turn k) (at-count .enum-told2 .given .1) (c .standing-after .ensures) (c .before .cleared .ensures) (k .before .wrapping-add-u64 .ensures) ∙ inv .0, inv .1, inv .2)
 
 enum-known-effect : tie.Need-enum-known-effect Inv-loop μ-loop
-enum-known-effect c = c .match2 .keys2
+enum-known-effect c = search needs
 
 defined-requires : tie.Need-defined-requires Inv-loop μ-loop
-defined-requires c κs = tt
+defined-requires c κs = search needs
 
 standing-after-requires-2 : tie.Need-standing-after-requires-2 Inv-loop μ-loop
-standing-after-requires-2 c κs = tt
+standing-after-requires-2 c κs = search needs
 
-loop-less-4 : tie.Need-loop-less-4 Inv-loop μ-loop
-loop-less-4 c =
+loop-less-2 : tie.Need-loop-less-2 Inv-loop μ-loop
+loop-less-2 c =
     let at-before = c .before .before .before .before in
     omega (arith, turning-later (turn (c .before .before .before .before .before)))
 
-loop-again-4 : tie.Need-loop-again-4 Inv-loop μ-loop
-loop-again-4 c =
+loop-again-2 : tie.Need-loop-again-2 Inv-loop μ-loop
+loop-again-2 c =
     let at-before = c .before .before in
     let at-all = c .before .before .before in
     let k = at-all .before .before in
     let inv = at-loop k .loop .inv in
-    (turning-all (turn k) (at-all .effect .given .1) (c .standing-after2 .ensures) (c .before .defined .ensures) (at-read k .wrapping-add-u64 .ensures) ∙ inv .0, inv .1, inv .2)
+    (turning-all (turn k) (at-all .effect .given .1) (c .standing-after2 .ensures) (c .before .defined .ensures) (k .before .wrapping-add-u64 .ensures) ∙ inv .0, inv .1, inv .2)
 
 enum-known-effect-2 : tie.Need-enum-known-effect-2 Inv-loop μ-loop
-enum-known-effect-2 c = c .match2 .keys3
+enum-known-effect-2 c = search needs
 
 cast-k : tie.Need-cast-k Inv-loop μ-loop
 cast-k c = search needs
 
 settled-requires : tie.Need-settled-requires Inv-loop μ-loop
-settled-requires c κs = tt
+settled-requires c κs = search needs
 
 apply-requires : tie.Need-apply-requires Inv-loop μ-loop
-apply-requires c κs = tt
+apply-requires c κs = search needs
 
 note-requires : tie.Need-note-requires Inv-loop μ-loop
-note-requires c κs = tt
+note-requires c κs = search needs
 
 put-requires : tie.Need-put-requires Inv-loop μ-loop
-put-requires c κs = tt
+put-requires c κs = search needs
 
-loop-less-5 : tie.Need-loop-less-5 Inv-loop μ-loop
-loop-less-5 c =
+loop-less-3 : tie.Need-loop-less-3 Inv-loop μ-loop
+loop-less-3 c =
     let at-before = c .before .before .before .before .before .before .before .before in
     let at-one = c .before .before .before .before .before .before .before .before .before in
     omega (arith, turning-later (turn (at-one .before .before)))
 
-loop-again-5 : tie.Need-loop-again-5 Inv-loop μ-loop
-loop-again-5 c =
+loop-again-3 : tie.Need-loop-again-3 Inv-loop μ-loop
+loop-again-3 c =
     let at-put = c .before .before in
     let at-settled = at-put .before .before .before .before in
     let at-one = at-settled .before .before .before in
     let k = at-one .before .before in
     let inv = at-loop k .loop .inv in
     let stored = at-put .put .ensures in (
-      turning-one (turn k) (at-one .effect2 .given .1) (at-settled .settled .ensures) (at-put .before .before .apply .ensures) (at-put .before .note .ensures) (stored .records) (at-read k .wrapping-add-u64 .ensures) ∙ inv .0,
+      turning-one (turn k) (at-one .effect2 .given .1) (at-settled .settled .ensures) (at-put .before .before .apply .ensures) (at-put .before .note .ensures) (stored .records) (k .before .wrapping-add-u64 .ensures) ∙ inv .0,
       stored .long ∙ inv .1,
       past-then (inv .1) (inv .2) (past-put stored),
     )
 
 enum-known-effect-3 : tie.Need-enum-known-effect-3 Inv-loop μ-loop
-enum-known-effect-3 c = c .match2 .keys4
+enum-known-effect-3 c = search needs
 
 channels-of-requires : tie.Need-channels-of-requires Inv-loop μ-loop
-channels-of-requires c κs = tt
+channels-of-requires c κs = search needs
 
 cast-count : tie.Need-cast-count Inv-loop μ-loop
 cast-count c = search needs
 
 at-most-requires : tie.Need-at-most-requires Inv-loop μ-loop
-at-most-requires c κs = tt
+at-most-requires c κs = search needs
 
 refresh-requires : tie.Need-refresh-requires Inv-loop μ-loop
-refresh-requires c κs = tt
+refresh-requires c κs = search needs
 
 frame-of-requires : tie.Need-frame-of-requires Inv-loop μ-loop
-frame-of-requires c κs = tt
+frame-of-requires c κs = search needs
 
 enum-known-number : tie.Need-enum-known-number Inv-loop μ-loop
-enum-known-number c = c .match3 .keys1
+enum-known-number c = search needs
 
 refused-at-requires : tie.Need-refused-at-requires Inv-loop μ-loop
-refused-at-requires c κs = tt
+refused-at-requires c κs = search needs
 
 come-to-requires-3 : tie.Need-come-to-requires-3 Inv-loop μ-loop
-come-to-requires-3 c κs = tt
+come-to-requires-3 c κs = search needs
 
 same-length-3 : tie.Need-same-length-3 Inv-loop μ-loop
 same-length-3 c =
@@ -342,7 +264,7 @@ returns-3 c =
     answered (c .come-to3 .ensures) (c .before .refused-at .ensures) (measured-refused (framing given) (at-number .number .given .1) ∙ inv .0) (long-of given) (past-of given) tt
 
 enum-known-sequences : tie.Need-enum-known-sequences Inv-loop μ-loop
-enum-known-sequences c = c .match3 .keys2
+enum-known-sequences c = search needs
 
 taken-requires : tie.Need-taken-requires Inv-loop μ-loop
 taken-requires c κs =
@@ -354,7 +276,7 @@ add-come-to c =
     omega (arith, measured-last (framing (at-taken .before .before)) (at-taken .sequences .given .1))
 
 come-to-requires-4 : tie.Need-come-to-requires-4 Inv-loop μ-loop
-come-to-requires-4 c κs = tt
+come-to-requires-4 c κs = search needs
 
 same-length-4 : tie.Need-same-length-4 Inv-loop μ-loop
 same-length-4 c =
@@ -366,21 +288,22 @@ returns-4 c =
     let at-taken = c .before .before .before in
     let given = at-taken .before .before in
     let inv = at-loop (known given) .loop .inv in
-    answered (c .come-to4 .ensures) refl (measured-taken (framing given) (at-taken .sequences .given .1) (c .before .taken .ensures) (at-read (known given) .wrapping-add-u64 .ensures) ∙ inv .0) (long-of given) (past-of given)
+    answered (c .come-to4 .ensures) refl (measured-taken (framing given) (at-taken .sequences .given .1) (c .before .taken .ensures) (known given .before .wrapping-add-u64 .ensures) ∙ inv .0) (long-of given) (past-of given)
     (below-frame (at-refresh given .refresh .ensures) (at-count given .at-most .ensures) (ap (λ (w : Waveform). w .channels) (c .before .taken .ensures)))
 
 enum-known-effect-4 : tie.Need-enum-known-effect-4 Inv-loop μ-loop
-enum-known-effect-4 c = c .match2 .keys5
+enum-known-effect-4 c = search needs
 
 refused-at-requires-2 : tie.Need-refused-at-requires-2 Inv-loop μ-loop
-refused-at-requires-2 c κs = tt
+refused-at-requires-2 c κs = search needs
 
 come-to-requires-5 : tie.Need-come-to-requires-5 Inv-loop μ-loop
-come-to-requires-5 c κs = tt
+come-to-requires-5 c κs = search needs
 
 same-length-5 : tie.Need-same-length-5 Inv-loop μ-loop
 same-length-5 c =
-    at-loop (c .before .before .before .before .before) .loop .inv .1
+    let at-loop = c .before .before .before .before .before .before .before .before .before .before .before .before in
+    at-loop .loop .inv .1
 
 returns-5 : tie.Need-returns-5 Inv-loop μ-loop
 returns-5 c =
@@ -391,16 +314,16 @@ returns-5 c =
     answered (c .come-to5 .ensures) (c .before .refused-at2 .ensures) (turning-refused (turn k) (at-refused .effect4 .given .1) ∙ inv .0) (inv .1) (inv .2) tt
 
 standing-after-requires-3 : tie.Need-standing-after-requires-3 Inv-loop μ-loop
-standing-after-requires-3 c κs = tt
+standing-after-requires-3 c κs = search needs
 
-loop-less-6 : tie.Need-loop-less-6 Inv-loop μ-loop
-loop-less-6 c = omega (arith, turning-later (turn (c .before .before)))
+loop-less-4 : tie.Need-loop-less-4 Inv-loop μ-loop
+loop-less-4 c = omega (arith, turning-later (turn (c .before .before)))
 
-loop-again-6 : tie.Need-loop-again-6 Inv-loop μ-loop
-loop-again-6 c =
+loop-again-4 : tie.Need-loop-again-4 Inv-loop μ-loop
+loop-again-4 c =
     let k = c .before .before in
     let inv = at-loop k .loop .inv in
-    (turning-stands (turn k) (c .before .match2 .keys6) (c .standing-after3 .ensures) (at-read k .wrapping-add-u64 .ensures) ∙ inv .0, inv .1, inv .2)
+    (turning-stands (turn k) (c .before .match2 .keys6) (c .standing-after3 .ensures) (k .before .wrapping-add-u64 .ensures) ∙ inv .0, inv .1, inv .2)
 
 pub advance-spec : {M : Type 1} → statement M
 advance-spec =
@@ -409,10 +332,6 @@ advance-spec =
     Inv-loop
     μ-loop
     loop-holds
-    begins-requires
-    along-root-requires
-    loop-less
-    loop-again
     next-item-requires
     enum-told
     come-to-requires
@@ -425,29 +344,25 @@ advance-spec =
     enum-known-item
     renewed-requires
     wrapping-add-u64-requires
-    opened-requires
-    along-group-requires
-    loop-less-2
-    loop-again-2
     item-effect-requires
     enum-told-2
     cleared-requires
     standing-after-requires
-    loop-less-3
-    loop-again-3
+    loop-less
+    loop-again
     enum-known-effect
     defined-requires
     standing-after-requires-2
-    loop-less-4
-    loop-again-4
+    loop-less-2
+    loop-again-2
     enum-known-effect-2
     cast-k
     settled-requires
     apply-requires
     note-requires
     put-requires
-    loop-less-5
-    loop-again-5
+    loop-less-3
+    loop-again-3
     enum-known-effect-3
     channels-of-requires
     cast-count
@@ -471,5 +386,5 @@ advance-spec =
     same-length-5
     returns-5
     standing-after-requires-3
-    loop-less-6
-    loop-again-6)
+    loop-less-4
+    loop-again-4)

@@ -1,10 +1,10 @@
 -- Item by item.
 use mathlib.Core.Path.{sym, ap, _∙_}
 use borrow.Author.Tests.{lt-ltb, le-ltb}
-use Rattle.stretch.specs.Stretch.{openedBy}
+use Rattle.pass.specs.Passing.{openedBy}
 use borrow.Author.Needs.{needs}
-use Rattle.stretch.proofs.opened.Statement.{statement}
-use Rattle.stretch.proofs.opened.Tie as tie
+use Rattle.pass.proofs.opened.Statement.{statement}
+use Rattle.pass.proofs.opened.Tie as tie
 
 enum-told : tie.Need-enum-told
 enum-told c = search needs
