@@ -170,55 +170,100 @@ loop-less : tie.Need-loop-less Inv-loop μ-loop
 loop-less c = search needs
 
 loop-again : tie.Need-loop-again Inv-loop μ-loop
-loop-again c = running-goes (c .before .before .before .before .before .before .before .before .before .before .before .before .before .before .before .before .loop .inv) refl (c .before .before .before .before .before .before .before .before .before .before .before .before .before .before .before .loop-test .taken) (c .before .before .before .before .before .before .before .before .before .before .before .if2 .left) (step-here _ _ _ _ _ refl (c .before .before .before .before .before .before .before .before .before .before .before .before .before .before .before .loop-test .taken) (c .before .before .before .before .before .before .before .before .before .before .before .before .if1 .left) (c .before .before .before .before .before .before .before .before .before .before .before .if2 .left) ∙ leaves-block _ _ _ _ _ (c .before .before .before .before .before .before .before .before .before .before .attribute-of .ensures) (c .before .before .before .before .before .before .before .before .a .given .1 ∙ ap Tagged.Defines (c .before .before .before .before .enum-told .given .1)) (value-here (c .before .before .before .before .before .before .before .before .before .before .before .before .before .before .before .before .before .before .before .args .u .now) (c .before .before .before .before .before .before .before .before .before .before .before .before .before .before .before .before .loop .at)) (c .before .before .before .block-read .ensures) (c .before .x .given .1))
+loop-again c =
+    let told = c .before .before .before .before .before .before .before .before .before .before in
+    let at-loop = told .before .before .before .before .before .before in
+    running-goes (at-loop .loop .inv) refl (told .before .before .before .before .before .loop-test .taken) (told .before .if2 .left)
+        (step-here _ _ _ _ _ refl (told .before .before .before .before .before .loop-test .taken) (told .before .before .if1 .left) (told .before .if2 .left)
+            ∙ leaves-block _ _ _ _ _ (told .attribute-of .ensures) (c .before .before .before .before .before .before .before .before .a .given .1 ∙ ap Tagged.Defines (c .before .before .before .before .enum-told .given .1)) (value-here (at-loop .before .before .before .args .u .now) (at-loop .loop .at)) (c .before .before .before .block-read .ensures) (c .before .x .given .1))
 
 loop-less-2 : tie.Need-loop-less-2 Inv-loop μ-loop
 loop-less-2 c = search needs
 
 loop-again-2 : tie.Need-loop-again-2 Inv-loop μ-loop
-loop-again-2 c = running-goes (c .before .before .before .before .before .before .before .before .before .before .before .before .before .before .before .before .loop .inv) refl (c .before .before .before .before .before .before .before .before .before .before .before .before .before .before .before .loop-test .taken) (c .before .before .before .before .before .before .before .before .before .before .before .if2 .left) (step-here _ _ _ _ _ refl (c .before .before .before .before .before .before .before .before .before .before .before .before .before .before .before .loop-test .taken) (c .before .before .before .before .before .before .before .before .before .before .before .before .if1 .left) (c .before .before .before .before .before .before .before .before .before .before .before .if2 .left) ∙ leaves-class _ _ _ _ _ (c .before .before .before .before .before .before .before .before .before .before .attribute-of .ensures) (c .before .before .before .before .before .before .before .before .a .given .1 ∙ ap Tagged.Defines (c .before .before .before .before .enum-told3 .given .1)) (value-here (c .before .before .before .before .before .before .before .before .before .before .before .before .before .before .before .before .before .before .before .args .u .now) (c .before .before .before .before .before .before .before .before .before .before .before .before .before .before .before .before .loop .at)) (c .before .before .before .code-read .ensures) (c .before .x2 .given .1))
+loop-again-2 c =
+    let told = c .before .before .before .before .before .before .before .before .before .before in
+    let at-loop = told .before .before .before .before .before .before in
+    running-goes (at-loop .loop .inv) refl (told .before .before .before .before .before .loop-test .taken) (told .before .if2 .left)
+        (step-here _ _ _ _ _ refl (told .before .before .before .before .before .loop-test .taken) (told .before .before .if1 .left) (told .before .if2 .left)
+            ∙ leaves-class _ _ _ _ _ (told .attribute-of .ensures) (c .before .before .before .before .before .before .before .before .a .given .1 ∙ ap Tagged.Defines (c .before .before .before .before .enum-told3 .given .1)) (value-here (at-loop .before .before .before .args .u .now) (at-loop .loop .at)) (c .before .before .before .code-read .ensures) (c .before .x2 .given .1))
 
 loop-less-3 : tie.Need-loop-less-3 Inv-loop μ-loop
 loop-less-3 c = search needs
 
 loop-again-3 : tie.Need-loop-again-3 Inv-loop μ-loop
-loop-again-3 c = running-goes (c .before .before .before .before .before .before .before .before .before .before .before .before .before .before .before .before .loop .inv) refl (c .before .before .before .before .before .before .before .before .before .before .before .before .before .before .before .loop-test .taken) (c .before .before .before .before .before .before .before .before .before .before .before .if2 .left) (step-here _ _ _ _ _ refl (c .before .before .before .before .before .before .before .before .before .before .before .before .before .before .before .loop-test .taken) (c .before .before .before .before .before .before .before .before .before .before .before .before .if1 .left) (c .before .before .before .before .before .before .before .before .before .before .before .if2 .left) ∙ leaves-lead _ _ _ _ _ (c .before .before .before .before .before .before .before .before .before .before .attribute-of .ensures) (c .before .before .before .before .before .before .before .before .a .given .1 ∙ ap Tagged.Defines (c .before .before .before .before .enum-told5 .given .1)) (value-here (c .before .before .before .before .before .before .before .before .before .before .before .before .before .before .before .before .before .before .before .args .u .now) (c .before .before .before .before .before .before .before .before .before .before .before .before .before .before .before .before .loop .at)) (c .before .before .before .code-read2 .ensures) (c .before .x3 .given .1))
+loop-again-3 c =
+    let told = c .before .before .before .before .before .before .before .before .before .before in
+    let at-loop = told .before .before .before .before .before .before in
+    running-goes (at-loop .loop .inv) refl (told .before .before .before .before .before .loop-test .taken) (told .before .if2 .left)
+        (step-here _ _ _ _ _ refl (told .before .before .before .before .before .loop-test .taken) (told .before .before .if1 .left) (told .before .if2 .left)
+            ∙ leaves-lead _ _ _ _ _ (told .attribute-of .ensures) (c .before .before .before .before .before .before .before .before .a .given .1 ∙ ap Tagged.Defines (c .before .before .before .before .enum-told5 .given .1)) (value-here (at-loop .before .before .before .args .u .now) (at-loop .loop .at)) (c .before .before .before .code-read2 .ensures) (c .before .x3 .given .1))
 
 loop-less-4 : tie.Need-loop-less-4 Inv-loop μ-loop
 loop-less-4 c = search needs
 
 loop-again-4 : tie.Need-loop-again-4 Inv-loop μ-loop
-loop-again-4 c = running-goes (c .before .before .before .before .before .before .before .before .before .before .before .before .before .before .before .before .loop .inv) refl (c .before .before .before .before .before .before .before .before .before .before .before .before .before .before .before .loop-test .taken) (c .before .before .before .before .before .before .before .before .before .before .before .if2 .left) (step-here _ _ _ _ _ refl (c .before .before .before .before .before .before .before .before .before .before .before .before .before .before .before .loop-test .taken) (c .before .before .before .before .before .before .before .before .before .before .before .before .if1 .left) (c .before .before .before .before .before .before .before .before .before .before .before .if2 .left) ∙ leaves-type _ _ _ _ _ (c .before .before .before .before .before .before .before .before .before .before .attribute-of .ensures) (c .before .before .before .before .before .before .before .before .a .given .1 ∙ ap Tagged.Defines (c .before .before .before .before .enum-told7 .given .1)) (value-here (c .before .before .before .before .before .before .before .before .before .before .before .before .before .before .before .before .before .before .before .args .u .now) (c .before .before .before .before .before .before .before .before .before .before .before .before .before .before .before .before .loop .at)) (c .before .before .before .type-read .ensures) (c .before .x4 .given .1))
+loop-again-4 c =
+    let told = c .before .before .before .before .before .before .before .before .before .before in
+    let at-loop = told .before .before .before .before .before .before in
+    running-goes (at-loop .loop .inv) refl (told .before .before .before .before .before .loop-test .taken) (told .before .if2 .left)
+        (step-here _ _ _ _ _ refl (told .before .before .before .before .before .loop-test .taken) (told .before .before .if1 .left) (told .before .if2 .left)
+            ∙ leaves-type _ _ _ _ _ (told .attribute-of .ensures) (c .before .before .before .before .before .before .before .before .a .given .1 ∙ ap Tagged.Defines (c .before .before .before .before .enum-told7 .given .1)) (value-here (at-loop .before .before .before .args .u .now) (at-loop .loop .at)) (c .before .before .before .type-read .ensures) (c .before .x4 .given .1))
 
 loop-less-5 : tie.Need-loop-less-5 Inv-loop μ-loop
 loop-less-5 c = search needs
 
 loop-again-5 : tie.Need-loop-again-5 Inv-loop μ-loop
-loop-again-5 c = running-goes (c .before .before .before .before .before .before .before .before .before .before .before .before .before .before .before .before .loop .inv) refl (c .before .before .before .before .before .before .before .before .before .before .before .before .before .before .before .loop-test .taken) (c .before .before .before .before .before .before .before .before .before .before .before .if2 .left) (step-here _ _ _ _ _ refl (c .before .before .before .before .before .before .before .before .before .before .before .before .before .before .before .loop-test .taken) (c .before .before .before .before .before .before .before .before .before .before .before .before .if1 .left) (c .before .before .before .before .before .before .before .before .before .before .before .if2 .left) ∙ leaves-interval _ _ _ _ _ (c .before .before .before .before .before .before .before .before .before .before .attribute-of .ensures) (c .before .before .before .before .before .before .before .before .a .given .1 ∙ ap Tagged.Defines (c .before .before .before .before .enum-told9 .given .1)) (value-here (c .before .before .before .before .before .before .before .before .before .before .before .before .before .before .before .before .before .before .before .args .u .now) (c .before .before .before .before .before .before .before .before .before .before .before .before .before .before .before .before .loop .at)) (c .before .before .before .scale-read .ensures) (c .before .x5 .given .1))
+loop-again-5 c =
+    let told = c .before .before .before .before .before .before .before .before .before .before in
+    let at-loop = told .before .before .before .before .before .before in
+    running-goes (at-loop .loop .inv) refl (told .before .before .before .before .before .loop-test .taken) (told .before .if2 .left)
+        (step-here _ _ _ _ _ refl (told .before .before .before .before .before .loop-test .taken) (told .before .before .if1 .left) (told .before .if2 .left)
+            ∙ leaves-interval _ _ _ _ _ (told .attribute-of .ensures) (c .before .before .before .before .before .before .before .before .a .given .1 ∙ ap Tagged.Defines (c .before .before .before .before .enum-told9 .given .1)) (value-here (at-loop .before .before .before .args .u .now) (at-loop .loop .at)) (c .before .before .before .scale-read .ensures) (c .before .x5 .given .1))
 
 loop-less-6 : tie.Need-loop-less-6 Inv-loop μ-loop
 loop-less-6 c = search needs
 
 loop-again-6 : tie.Need-loop-again-6 Inv-loop μ-loop
-loop-again-6 c = running-goes (c .before .before .before .before .before .before .before .before .before .before .before .before .before .before .before .before .loop .inv) refl (c .before .before .before .before .before .before .before .before .before .before .before .before .before .before .before .loop-test .taken) (c .before .before .before .before .before .before .before .before .before .before .before .if2 .left) (step-here _ _ _ _ _ refl (c .before .before .before .before .before .before .before .before .before .before .before .before .before .before .before .loop-test .taken) (c .before .before .before .before .before .before .before .before .before .before .before .before .if1 .left) (c .before .before .before .before .before .before .before .before .before .before .before .if2 .left) ∙ leaves-resolution _ _ _ _ _ (c .before .before .before .before .before .before .before .before .before .before .attribute-of .ensures) (c .before .before .before .before .before .before .before .before .a .given .1 ∙ ap Tagged.Defines (c .before .before .before .before .enum-told11 .given .1)) (value-here (c .before .before .before .before .before .before .before .before .before .before .before .before .before .before .before .before .before .before .before .args .u .now) (c .before .before .before .before .before .before .before .before .before .before .before .before .before .before .before .before .loop .at)) (c .before .before .before .scale-read2 .ensures) (c .before .x6 .given .1))
+loop-again-6 c =
+    let told = c .before .before .before .before .before .before .before .before .before .before in
+    let at-loop = told .before .before .before .before .before .before in
+    running-goes (at-loop .loop .inv) refl (told .before .before .before .before .before .loop-test .taken) (told .before .if2 .left)
+        (step-here _ _ _ _ _ refl (told .before .before .before .before .before .loop-test .taken) (told .before .before .if1 .left) (told .before .if2 .left)
+            ∙ leaves-resolution _ _ _ _ _ (told .attribute-of .ensures) (c .before .before .before .before .before .before .before .before .a .given .1 ∙ ap Tagged.Defines (c .before .before .before .before .enum-told11 .given .1)) (value-here (at-loop .before .before .before .args .u .now) (at-loop .loop .at)) (c .before .before .before .scale-read2 .ensures) (c .before .x6 .given .1))
 
 loop-less-7 : tie.Need-loop-less-7 Inv-loop μ-loop
 loop-less-7 c = search needs
 
 loop-again-7 : tie.Need-loop-again-7 Inv-loop μ-loop
-loop-again-7 c = running-goes (c .before .before .before .before .before .before .before .before .before .before .before .before .before .before .before .before .loop .inv) refl (c .before .before .before .before .before .before .before .before .before .before .before .before .before .before .before .loop-test .taken) (c .before .before .before .before .before .before .before .before .before .before .before .if2 .left) (step-here _ _ _ _ _ refl (c .before .before .before .before .before .before .before .before .before .before .before .before .before .before .before .loop-test .taken) (c .before .before .before .before .before .before .before .before .before .before .before .before .if1 .left) (c .before .before .before .before .before .before .before .before .before .before .before .if2 .left) ∙ leaves-offset _ _ _ _ _ (c .before .before .before .before .before .before .before .before .before .before .attribute-of .ensures) (c .before .before .before .before .before .before .before .before .a .given .1 ∙ ap Tagged.Defines (c .before .before .before .before .enum-told13 .given .1)) (value-here (c .before .before .before .before .before .before .before .before .before .before .before .before .before .before .before .before .before .before .before .args .u .now) (c .before .before .before .before .before .before .before .before .before .before .before .before .before .before .before .before .loop .at)) (c .before .before .before .bits-read .ensures) (c .before .x7 .given .1))
+loop-again-7 c =
+    let told = c .before .before .before .before .before .before .before .before .before .before in
+    let at-loop = told .before .before .before .before .before .before in
+    running-goes (at-loop .loop .inv) refl (told .before .before .before .before .before .loop-test .taken) (told .before .if2 .left)
+        (step-here _ _ _ _ _ refl (told .before .before .before .before .before .loop-test .taken) (told .before .before .if1 .left) (told .before .if2 .left)
+            ∙ leaves-offset _ _ _ _ _ (told .attribute-of .ensures) (c .before .before .before .before .before .before .before .before .a .given .1 ∙ ap Tagged.Defines (c .before .before .before .before .enum-told13 .given .1)) (value-here (at-loop .before .before .before .args .u .now) (at-loop .loop .at)) (c .before .before .before .bits-read .ensures) (c .before .x7 .given .1))
 
 loop-less-8 : tie.Need-loop-less-8 Inv-loop μ-loop
 loop-less-8 c = search needs
 
 loop-again-8 : tie.Need-loop-again-8 Inv-loop μ-loop
-loop-again-8 c = running-goes (c .before .before .before .before .before .before .before .before .before .before .before .before .before .before .before .before .loop .inv) refl (c .before .before .before .before .before .before .before .before .before .before .before .before .before .before .before .loop-test .taken) (c .before .before .before .before .before .before .before .before .before .before .before .if2 .left) (step-here _ _ _ _ _ refl (c .before .before .before .before .before .before .before .before .before .before .before .before .before .before .before .loop-test .taken) (c .before .before .before .before .before .before .before .before .before .before .before .before .if1 .left) (c .before .before .before .before .before .before .before .before .before .before .before .if2 .left) ∙ leaves-null _ _ _ _ _ (c .before .before .before .before .before .before .before .before .before .before .attribute-of .ensures) (c .before .before .before .before .before .before .before .before .a .given .1 ∙ ap Tagged.Defines (c .before .before .before .before .enum-told15 .given .1)) (value-here (c .before .before .before .before .before .before .before .before .before .before .before .before .before .before .before .before .before .before .before .args .u .now) (c .before .before .before .before .before .before .before .before .before .before .before .before .before .before .before .before .loop .at)) (c .before .before .before .bits-read2 .ensures) (c .before .x8 .given .1))
+loop-again-8 c =
+    let told = c .before .before .before .before .before .before .before .before .before .before in
+    let at-loop = told .before .before .before .before .before .before in
+    running-goes (at-loop .loop .inv) refl (told .before .before .before .before .before .loop-test .taken) (told .before .if2 .left)
+        (step-here _ _ _ _ _ refl (told .before .before .before .before .before .loop-test .taken) (told .before .before .if1 .left) (told .before .if2 .left)
+            ∙ leaves-null _ _ _ _ _ (told .attribute-of .ensures) (c .before .before .before .before .before .before .before .before .a .given .1 ∙ ap Tagged.Defines (c .before .before .before .before .enum-told15 .given .1)) (value-here (at-loop .before .before .before .args .u .now) (at-loop .loop .at)) (c .before .before .before .bits-read2 .ensures) (c .before .x8 .given .1))
 
 loop-less-9 : tie.Need-loop-less-9 Inv-loop μ-loop
 loop-less-9 c = search needs
 
 loop-again-9 : tie.Need-loop-again-9 Inv-loop μ-loop
-loop-again-9 c = running-goes (c .before .before .before .before .before .before .before .before .before .before .loop .inv) refl (c .before .before .before .before .before .before .before .before .before .loop-test .taken) (c .before .before .before .before .before .if2 .left) (step-here _ _ _ _ _ refl (c .before .before .before .before .before .before .before .before .before .loop-test .taken) (c .before .before .before .before .before .before .if1 .left) (c .before .before .before .before .before .if2 .left) ∙ leaves-same _ _ _ _ _ (c .before .before .before .before .attribute-of .ensures) (c .before .before .enum-told17 .given .1) (sym (c .before .stepped-over .ensures) ∙ not-false _ (c .if3 .left)))
+loop-again-9 c =
+    let told = c .before .before .before .before in
+    let at-loop = told .before .before .before .before .before .before in
+    running-goes (at-loop .loop .inv) refl (told .before .before .before .before .before .loop-test .taken) (told .before .if2 .left)
+        (step-here _ _ _ _ _ refl (told .before .before .before .before .before .loop-test .taken) (told .before .before .if1 .left) (told .before .if2 .left)
+            ∙ leaves-same _ _ _ _ _ (told .attribute-of .ensures) (c .before .before .enum-told17 .given .1) (sym (c .before .stepped-over .ensures) ∙ not-false _ (c .if3 .left)))
 
 returns : tie.Need-returns Inv-loop μ-loop
 returns c = (running-ends (c .before .loop .inv) (c .before .before .renewed .ensures) (step-none _ _ _ _ _ (c .loop-test .left)), c .before .loop .inv .low)
@@ -230,31 +275,85 @@ returns-3 : tie.Need-returns-3 Inv-loop μ-loop
 returns-3 c = (running-ends (c .before .before .before .before .before .loop .inv) (c .before .before .before .before .before .before .renewed .ensures) (step-past _ _ _ _ _ refl (c .before .before .before .before .loop-test .taken) (c .before .if1 .left) (c .if2 .taken)), c .before .before .before .before .before .loop .inv .low)
 
 returns-4 : tie.Need-returns-4 Inv-loop μ-loop
-returns-4 c = (running-ends (c .before .before .before .before .before .before .before .before .before .before .before .before .before .before .before .loop .inv) (c .before .before .before .before .before .before .before .before .before .before .before .before .before .before .before .before .renewed .ensures) (step-here _ _ _ _ _ refl (c .before .before .before .before .before .before .before .before .before .before .before .before .before .before .loop-test .taken) (c .before .before .before .before .before .before .before .before .before .before .before .if1 .left) (c .before .before .before .before .before .before .before .before .before .before .if2 .left) ∙ leaves-block _ _ _ _ _ (c .before .before .before .before .before .before .before .before .before .attribute-of .ensures) (c .before .before .before .before .before .before .before .a .given .1 ∙ ap Tagged.Defines (c .before .before .before .enum-told .given .1)) (value-here (c .before .before .before .before .before .before .before .before .before .before .before .before .before .before .before .before .before .before .args .u .now) (c .before .before .before .before .before .before .before .before .before .before .before .before .before .before .before .loop .at)) (c .before .before .block-read .ensures) (c .enum-told2 .given .1)), c .before .before .before .before .before .before .before .before .before .before .before .before .before .before .before .loop .inv .low)
+returns-4 c =
+    let told = c .before .before .before .before .before .before .before .before .before in
+    let at-loop = told .before .before .before .before .before .before in
+    (running-ends (at-loop .loop .inv) (at-loop .before .renewed .ensures)
+        (step-here _ _ _ _ _ refl (told .before .before .before .before .before .loop-test .taken) (told .before .before .if1 .left) (told .before .if2 .left)
+            ∙ leaves-block _ _ _ _ _ (told .attribute-of .ensures) (c .before .before .before .before .before .before .before .a .given .1 ∙ ap Tagged.Defines (c .before .before .before .enum-told .given .1)) (value-here (at-loop .before .before .before .args .u .now) (at-loop .loop .at)) (c .before .before .block-read .ensures) (c .enum-told2 .given .1)),
+        at-loop .loop .inv .low)
 
 returns-5 : tie.Need-returns-5 Inv-loop μ-loop
-returns-5 c = (running-ends (c .before .before .before .before .before .before .before .before .before .before .before .before .before .before .before .loop .inv) (c .before .before .before .before .before .before .before .before .before .before .before .before .before .before .before .before .renewed .ensures) (step-here _ _ _ _ _ refl (c .before .before .before .before .before .before .before .before .before .before .before .before .before .before .loop-test .taken) (c .before .before .before .before .before .before .before .before .before .before .before .if1 .left) (c .before .before .before .before .before .before .before .before .before .before .if2 .left) ∙ leaves-class _ _ _ _ _ (c .before .before .before .before .before .before .before .before .before .attribute-of .ensures) (c .before .before .before .before .before .before .before .a .given .1 ∙ ap Tagged.Defines (c .before .before .before .enum-told3 .given .1)) (value-here (c .before .before .before .before .before .before .before .before .before .before .before .before .before .before .before .before .before .before .args .u .now) (c .before .before .before .before .before .before .before .before .before .before .before .before .before .before .before .loop .at)) (c .before .before .code-read .ensures) (c .enum-told4 .given .1)), c .before .before .before .before .before .before .before .before .before .before .before .before .before .before .before .loop .inv .low)
+returns-5 c =
+    let told = c .before .before .before .before .before .before .before .before .before in
+    let at-loop = told .before .before .before .before .before .before in
+    (running-ends (at-loop .loop .inv) (at-loop .before .renewed .ensures)
+        (step-here _ _ _ _ _ refl (told .before .before .before .before .before .loop-test .taken) (told .before .before .if1 .left) (told .before .if2 .left)
+            ∙ leaves-class _ _ _ _ _ (told .attribute-of .ensures) (c .before .before .before .before .before .before .before .a .given .1 ∙ ap Tagged.Defines (c .before .before .before .enum-told3 .given .1)) (value-here (at-loop .before .before .before .args .u .now) (at-loop .loop .at)) (c .before .before .code-read .ensures) (c .enum-told4 .given .1)),
+        at-loop .loop .inv .low)
 
 returns-6 : tie.Need-returns-6 Inv-loop μ-loop
-returns-6 c = (running-ends (c .before .before .before .before .before .before .before .before .before .before .before .before .before .before .before .loop .inv) (c .before .before .before .before .before .before .before .before .before .before .before .before .before .before .before .before .renewed .ensures) (step-here _ _ _ _ _ refl (c .before .before .before .before .before .before .before .before .before .before .before .before .before .before .loop-test .taken) (c .before .before .before .before .before .before .before .before .before .before .before .if1 .left) (c .before .before .before .before .before .before .before .before .before .before .if2 .left) ∙ leaves-lead _ _ _ _ _ (c .before .before .before .before .before .before .before .before .before .attribute-of .ensures) (c .before .before .before .before .before .before .before .a .given .1 ∙ ap Tagged.Defines (c .before .before .before .enum-told5 .given .1)) (value-here (c .before .before .before .before .before .before .before .before .before .before .before .before .before .before .before .before .before .before .args .u .now) (c .before .before .before .before .before .before .before .before .before .before .before .before .before .before .before .loop .at)) (c .before .before .code-read2 .ensures) (c .enum-told6 .given .1)), c .before .before .before .before .before .before .before .before .before .before .before .before .before .before .before .loop .inv .low)
+returns-6 c =
+    let told = c .before .before .before .before .before .before .before .before .before in
+    let at-loop = told .before .before .before .before .before .before in
+    (running-ends (at-loop .loop .inv) (at-loop .before .renewed .ensures)
+        (step-here _ _ _ _ _ refl (told .before .before .before .before .before .loop-test .taken) (told .before .before .if1 .left) (told .before .if2 .left)
+            ∙ leaves-lead _ _ _ _ _ (told .attribute-of .ensures) (c .before .before .before .before .before .before .before .a .given .1 ∙ ap Tagged.Defines (c .before .before .before .enum-told5 .given .1)) (value-here (at-loop .before .before .before .args .u .now) (at-loop .loop .at)) (c .before .before .code-read2 .ensures) (c .enum-told6 .given .1)),
+        at-loop .loop .inv .low)
 
 returns-7 : tie.Need-returns-7 Inv-loop μ-loop
-returns-7 c = (running-ends (c .before .before .before .before .before .before .before .before .before .before .before .before .before .before .before .loop .inv) (c .before .before .before .before .before .before .before .before .before .before .before .before .before .before .before .before .renewed .ensures) (step-here _ _ _ _ _ refl (c .before .before .before .before .before .before .before .before .before .before .before .before .before .before .loop-test .taken) (c .before .before .before .before .before .before .before .before .before .before .before .if1 .left) (c .before .before .before .before .before .before .before .before .before .before .if2 .left) ∙ leaves-type _ _ _ _ _ (c .before .before .before .before .before .before .before .before .before .attribute-of .ensures) (c .before .before .before .before .before .before .before .a .given .1 ∙ ap Tagged.Defines (c .before .before .before .enum-told7 .given .1)) (value-here (c .before .before .before .before .before .before .before .before .before .before .before .before .before .before .before .before .before .before .args .u .now) (c .before .before .before .before .before .before .before .before .before .before .before .before .before .before .before .loop .at)) (c .before .before .type-read .ensures) (c .enum-told8 .given .1)), c .before .before .before .before .before .before .before .before .before .before .before .before .before .before .before .loop .inv .low)
+returns-7 c =
+    let told = c .before .before .before .before .before .before .before .before .before in
+    let at-loop = told .before .before .before .before .before .before in
+    (running-ends (at-loop .loop .inv) (at-loop .before .renewed .ensures)
+        (step-here _ _ _ _ _ refl (told .before .before .before .before .before .loop-test .taken) (told .before .before .if1 .left) (told .before .if2 .left)
+            ∙ leaves-type _ _ _ _ _ (told .attribute-of .ensures) (c .before .before .before .before .before .before .before .a .given .1 ∙ ap Tagged.Defines (c .before .before .before .enum-told7 .given .1)) (value-here (at-loop .before .before .before .args .u .now) (at-loop .loop .at)) (c .before .before .type-read .ensures) (c .enum-told8 .given .1)),
+        at-loop .loop .inv .low)
 
 returns-8 : tie.Need-returns-8 Inv-loop μ-loop
-returns-8 c = (running-ends (c .before .before .before .before .before .before .before .before .before .before .before .before .before .before .before .loop .inv) (c .before .before .before .before .before .before .before .before .before .before .before .before .before .before .before .before .renewed .ensures) (step-here _ _ _ _ _ refl (c .before .before .before .before .before .before .before .before .before .before .before .before .before .before .loop-test .taken) (c .before .before .before .before .before .before .before .before .before .before .before .if1 .left) (c .before .before .before .before .before .before .before .before .before .before .if2 .left) ∙ leaves-interval _ _ _ _ _ (c .before .before .before .before .before .before .before .before .before .attribute-of .ensures) (c .before .before .before .before .before .before .before .a .given .1 ∙ ap Tagged.Defines (c .before .before .before .enum-told9 .given .1)) (value-here (c .before .before .before .before .before .before .before .before .before .before .before .before .before .before .before .before .before .before .args .u .now) (c .before .before .before .before .before .before .before .before .before .before .before .before .before .before .before .loop .at)) (c .before .before .scale-read .ensures) (c .enum-told10 .given .1)), c .before .before .before .before .before .before .before .before .before .before .before .before .before .before .before .loop .inv .low)
+returns-8 c =
+    let told = c .before .before .before .before .before .before .before .before .before in
+    let at-loop = told .before .before .before .before .before .before in
+    (running-ends (at-loop .loop .inv) (at-loop .before .renewed .ensures)
+        (step-here _ _ _ _ _ refl (told .before .before .before .before .before .loop-test .taken) (told .before .before .if1 .left) (told .before .if2 .left)
+            ∙ leaves-interval _ _ _ _ _ (told .attribute-of .ensures) (c .before .before .before .before .before .before .before .a .given .1 ∙ ap Tagged.Defines (c .before .before .before .enum-told9 .given .1)) (value-here (at-loop .before .before .before .args .u .now) (at-loop .loop .at)) (c .before .before .scale-read .ensures) (c .enum-told10 .given .1)),
+        at-loop .loop .inv .low)
 
 returns-9 : tie.Need-returns-9 Inv-loop μ-loop
-returns-9 c = (running-ends (c .before .before .before .before .before .before .before .before .before .before .before .before .before .before .before .loop .inv) (c .before .before .before .before .before .before .before .before .before .before .before .before .before .before .before .before .renewed .ensures) (step-here _ _ _ _ _ refl (c .before .before .before .before .before .before .before .before .before .before .before .before .before .before .loop-test .taken) (c .before .before .before .before .before .before .before .before .before .before .before .if1 .left) (c .before .before .before .before .before .before .before .before .before .before .if2 .left) ∙ leaves-resolution _ _ _ _ _ (c .before .before .before .before .before .before .before .before .before .attribute-of .ensures) (c .before .before .before .before .before .before .before .a .given .1 ∙ ap Tagged.Defines (c .before .before .before .enum-told11 .given .1)) (value-here (c .before .before .before .before .before .before .before .before .before .before .before .before .before .before .before .before .before .before .args .u .now) (c .before .before .before .before .before .before .before .before .before .before .before .before .before .before .before .loop .at)) (c .before .before .scale-read2 .ensures) (c .enum-told12 .given .1)), c .before .before .before .before .before .before .before .before .before .before .before .before .before .before .before .loop .inv .low)
+returns-9 c =
+    let told = c .before .before .before .before .before .before .before .before .before in
+    let at-loop = told .before .before .before .before .before .before in
+    (running-ends (at-loop .loop .inv) (at-loop .before .renewed .ensures)
+        (step-here _ _ _ _ _ refl (told .before .before .before .before .before .loop-test .taken) (told .before .before .if1 .left) (told .before .if2 .left)
+            ∙ leaves-resolution _ _ _ _ _ (told .attribute-of .ensures) (c .before .before .before .before .before .before .before .a .given .1 ∙ ap Tagged.Defines (c .before .before .before .enum-told11 .given .1)) (value-here (at-loop .before .before .before .args .u .now) (at-loop .loop .at)) (c .before .before .scale-read2 .ensures) (c .enum-told12 .given .1)),
+        at-loop .loop .inv .low)
 
 returns-10 : tie.Need-returns-10 Inv-loop μ-loop
-returns-10 c = (running-ends (c .before .before .before .before .before .before .before .before .before .before .before .before .before .before .before .loop .inv) (c .before .before .before .before .before .before .before .before .before .before .before .before .before .before .before .before .renewed .ensures) (step-here _ _ _ _ _ refl (c .before .before .before .before .before .before .before .before .before .before .before .before .before .before .loop-test .taken) (c .before .before .before .before .before .before .before .before .before .before .before .if1 .left) (c .before .before .before .before .before .before .before .before .before .before .if2 .left) ∙ leaves-offset _ _ _ _ _ (c .before .before .before .before .before .before .before .before .before .attribute-of .ensures) (c .before .before .before .before .before .before .before .a .given .1 ∙ ap Tagged.Defines (c .before .before .before .enum-told13 .given .1)) (value-here (c .before .before .before .before .before .before .before .before .before .before .before .before .before .before .before .before .before .before .args .u .now) (c .before .before .before .before .before .before .before .before .before .before .before .before .before .before .before .loop .at)) (c .before .before .bits-read .ensures) (c .enum-told14 .given .1)), c .before .before .before .before .before .before .before .before .before .before .before .before .before .before .before .loop .inv .low)
+returns-10 c =
+    let told = c .before .before .before .before .before .before .before .before .before in
+    let at-loop = told .before .before .before .before .before .before in
+    (running-ends (at-loop .loop .inv) (at-loop .before .renewed .ensures)
+        (step-here _ _ _ _ _ refl (told .before .before .before .before .before .loop-test .taken) (told .before .before .if1 .left) (told .before .if2 .left)
+            ∙ leaves-offset _ _ _ _ _ (told .attribute-of .ensures) (c .before .before .before .before .before .before .before .a .given .1 ∙ ap Tagged.Defines (c .before .before .before .enum-told13 .given .1)) (value-here (at-loop .before .before .before .args .u .now) (at-loop .loop .at)) (c .before .before .bits-read .ensures) (c .enum-told14 .given .1)),
+        at-loop .loop .inv .low)
 
 returns-11 : tie.Need-returns-11 Inv-loop μ-loop
-returns-11 c = (running-ends (c .before .before .before .before .before .before .before .before .before .before .before .before .before .before .before .loop .inv) (c .before .before .before .before .before .before .before .before .before .before .before .before .before .before .before .before .renewed .ensures) (step-here _ _ _ _ _ refl (c .before .before .before .before .before .before .before .before .before .before .before .before .before .before .loop-test .taken) (c .before .before .before .before .before .before .before .before .before .before .before .if1 .left) (c .before .before .before .before .before .before .before .before .before .before .if2 .left) ∙ leaves-null _ _ _ _ _ (c .before .before .before .before .before .before .before .before .before .attribute-of .ensures) (c .before .before .before .before .before .before .before .a .given .1 ∙ ap Tagged.Defines (c .before .before .before .enum-told15 .given .1)) (value-here (c .before .before .before .before .before .before .before .before .before .before .before .before .before .before .before .before .before .before .args .u .now) (c .before .before .before .before .before .before .before .before .before .before .before .before .before .before .before .loop .at)) (c .before .before .bits-read2 .ensures) (c .enum-told16 .given .1)), c .before .before .before .before .before .before .before .before .before .before .before .before .before .before .before .loop .inv .low)
+returns-11 c =
+    let told = c .before .before .before .before .before .before .before .before .before in
+    let at-loop = told .before .before .before .before .before .before in
+    (running-ends (at-loop .loop .inv) (at-loop .before .renewed .ensures)
+        (step-here _ _ _ _ _ refl (told .before .before .before .before .before .loop-test .taken) (told .before .before .if1 .left) (told .before .if2 .left)
+            ∙ leaves-null _ _ _ _ _ (told .attribute-of .ensures) (c .before .before .before .before .before .before .before .a .given .1 ∙ ap Tagged.Defines (c .before .before .before .enum-told15 .given .1)) (value-here (at-loop .before .before .before .args .u .now) (at-loop .loop .at)) (c .before .before .bits-read2 .ensures) (c .enum-told16 .given .1)),
+        at-loop .loop .inv .low)
 
 returns-12 : tie.Need-returns-12 Inv-loop μ-loop
-returns-12 c = (running-ends (c .before .before .before .before .before .before .before .before .before .before .loop .inv) (c .before .before .before .before .before .before .before .before .before .before .before .renewed .ensures) (step-here _ _ _ _ _ refl (c .before .before .before .before .before .before .before .before .before .loop-test .taken) (c .before .before .before .before .before .before .if1 .left) (c .before .before .before .before .before .if2 .left) ∙ leaves-nothing _ _ _ _ _ (c .before .before .before .before .attribute-of .ensures) (c .before .before .enum-told17 .given .1) (sym (c .before .stepped-over .ensures) ∙ not-true _ (c .if3 .taken))), c .before .before .before .before .before .before .before .before .before .before .loop .inv .low)
+returns-12 c =
+    let told = c .before .before .before .before in
+    let at-loop = told .before .before .before .before .before .before in
+    (running-ends (at-loop .loop .inv) (at-loop .before .renewed .ensures)
+        (step-here _ _ _ _ _ refl (told .before .before .before .before .before .loop-test .taken) (told .before .before .if1 .left) (told .before .if2 .left)
+            ∙ leaves-nothing _ _ _ _ _ (told .attribute-of .ensures) (c .before .before .enum-told17 .given .1) (sym (c .before .stepped-over .ensures) ∙ not-true _ (c .if3 .taken))),
+        at-loop .loop .inv .low)
 
 pub run-spec : {M : Type 1} → statement M
 run-spec =
