@@ -6,6 +6,8 @@
 // words left so. That is where those octets lead one by one; they give nothing out, and behind none of them a call of the feed stops. It takes no
 // item that is cut off, no frame, no refused item and no fault of form.
 // Read first: crates link and taking, then specs/Ahead.antt.
+#![tactic(auto)]
+
 ghost use Rattle.std.specs.Prelude.{◌≡◌, List, true, ℕ, ◌+◌, ◌-◌, ◌≤◌, ◌<◌, length};
 ghost use Rattle.items.specs.declared.Within.TheVariants.{Root};
 ghost use Rattle.items.specs.Walk.{stands_in, is_inside, ends_open};
@@ -22,7 +24,7 @@ use standing::Standing;
 use walk::Head;
 
 // Where a walk stands behind items that were taken, the place that is kept there, and how many octets they took.
-#[derive(Drop)]
+#[derive(Clone, Copy)]
 pub struct Ahead {
     pub head: Head,
     pub around: u64,

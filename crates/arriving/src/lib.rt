@@ -4,6 +4,8 @@
 // words that a caller lends.
 // Promises, for any numbers, octets and words: `octet` does with one octet what the definition of the link does with it.
 // Read first: specs/Link.antt of crate link, then specs/Arriving.antt.
+#![tactic(auto)]
+
 ghost use Rattle.std.specs.Prelude.{◌≡◌, ◌+◌, ◌-◌, ◌^◌, ◌<◌, ◌≤◌, min, take, nat_lt};
 ghost use Rattle.items.specs.Walk.{stands_in};
 ghost use Rattle.standing.specs.Standing.{octets_limit};
@@ -25,7 +27,7 @@ use verdict::Checked;
 use walk::{Head, Step, Waveform};
 
 // A link, besides the octets that it keeps and the channels' records.
-#[derive(Drop)]
+#[derive(Clone, Copy)]
 pub struct Link {
     pub core: Core,
     pub head: Head,
@@ -33,7 +35,7 @@ pub struct Link {
 }
 
 // A link, and the octets that it keeps, at the front.
-#[derive(Drop)]
+#[derive(Clone, Copy)]
 pub struct Arrived {
     pub link: Link,
     pub octets: [u8; Held::ROOM],

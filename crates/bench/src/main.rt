@@ -1,6 +1,7 @@
 // Checks the MFER file on standard input, of at most 60,000 octets, and writes one line: `frames N`, `refused R at P` or `too long`.
 //
 // The line of an answer is that of crate line, and is proved there. No contract can say what is read and written.
+#![tactic(auto)]
 
 use libc::{STDIN_FILENO, STDOUT_FILENO};
 

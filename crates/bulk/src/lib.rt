@@ -5,6 +5,8 @@
 // channel that was found before, with nothing else read.
 // Promises, for any octets at all: the whole answer is a definition of specs/, refusals too, and so are the buffers afterwards.
 // Read first: crate strides, then specs/Samples.antt.
+#![tactic(auto)]
+
 ghost use Rattle.std.specs.Prelude.{◌≡◌, ◌+◌, ◌-◌, ◌≤◌, min, length, take};
 ghost use Rattle.std.proofs.lemmas.List.Edits.{sets};
 ghost use Rattle.heads.specs.Answer.{map_answer, left_by};

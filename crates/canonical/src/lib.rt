@@ -7,6 +7,8 @@
 // Read first: specs/Recording.antt (what a recording is), specs/Canonical.antt (its octets; a frame's head and groups are in crate groups),
 // specs/Write.antt (the writer's answer).
 // Refusal comes first: the size is known from one pass over the file before the first octet is stored. A frame is stored by crate frames.
+#![tactic(auto)]
+
 ghost use Rattle.std.specs.Prelude.{◌≡◌, ◌∷◌, [], ◌≤◌, length};
 ghost use Rattle.stores.specs.Storing.{Put};
 ghost use Rattle.heads.specs.Refusals.{no_room};
@@ -21,7 +23,7 @@ use walk::{Head, Step};
 use words::Records;
 
 // How many octets a writer writes, or a refusal.
-#[derive(Drop)]
+#[derive(Clone, Copy)]
 pub enum Written {
     Octets(usize),
     Refused(Refusal),

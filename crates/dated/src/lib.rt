@@ -6,6 +6,8 @@
 // Promises, for any numbers: `Dates::first`, `defined` and `cleared` keep the times, `note` is a record of now, `Dated::table` has all records
 // at the defaults, and `settle` answers what stands for a record's channel now. That this is document 01's rule is proved in proofs/Laws.antt.
 // Read first: specs/Dated.antt.
+#![tactic(auto)]
+
 ghost use Rattle.std.specs.Prelude.{◌≡◌};
 ghost use Rattle.octets.specs.Pick.{pick};
 ghost use Rattle.dated.specs.Dated.{noted, dated_table, first_dates, timed, root_defined, all_cleared, settled_from, settled_at};
@@ -14,14 +16,14 @@ use settings::{Change, Scale, Settings};
 use values::Bits;
 
 // What stood for a channel at a time.
-#[derive(Drop)]
+#[derive(Clone, Copy)]
 pub struct Dated {
     pub settings: Settings,
     pub at: u32,
 }
 
 // When the root last defined each attribute; 0 is before the first item.
-#[derive(Drop)]
+#[derive(Clone, Copy)]
 pub struct Times {
     pub block: u32,
     pub class: u32,
@@ -34,7 +36,7 @@ pub struct Times {
 }
 
 // The root's times, that of the last tag 05, and the time now.
-#[derive(Drop)]
+#[derive(Clone, Copy)]
 pub struct Dates {
     pub times: Times,
     pub cleared: u32,

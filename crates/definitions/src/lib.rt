@@ -3,6 +3,8 @@
 // Promises, for any octets at all: `define` answers the change that a definition asks for, or 6 or 7; `block_read` and its like answer the
 // value alone, or that it is refused. A new attribute is one more case of `Attribute`, and of `Change` in crate settings.
 // Read first: specs/Define.antt.
+#![tactic(auto)]
+
 ghost use Rattle.std.specs.Prelude.{◌≡◌, get_or};
 ghost use Rattle.definitions.specs.Define.{tagged, scale_length, bits_length, length_fits, standing_in, scale_of, bits_of, change_of, block_fits, scale_fits, in_range, defined, block_read, code_read, type_read, scale_read, bits_read};
 
@@ -11,7 +13,7 @@ use settings::{Change, Scale, Settings};
 use values::Bits;
 
 // The attributes that may stand in a group.
-#[derive(Drop)]
+#[derive(Clone, Copy)]
 pub enum Attribute {
     Block,
     Class,
@@ -24,7 +26,7 @@ pub enum Attribute {
 }
 
 // The attribute that a tag defines, if it defines one of these.
-#[derive(Drop)]
+#[derive(Clone, Copy)]
 pub enum Tagged {
     Defines(Attribute),
     Other,
@@ -171,7 +173,7 @@ fn in_range(c: Change) -> bool
 }
 
 // What a definition asks for.
-#[derive(Drop)]
+#[derive(Clone, Copy)]
 pub enum Defined {
     Changed(Change),
     Refused(u8),
@@ -197,31 +199,31 @@ pub fn define(a: Attribute, v: &[u8], little: bool, base: Settings) -> Defined
 
 // What a definition gives of one attribute, for each kind of value; `Refused` where `define` refuses. Nothing but the value is handed on, so that a
 // pass keeps a record in place and copies none.
-#[derive(Drop)]
+#[derive(Clone, Copy)]
 pub enum BlockRead {
     Value(u32),
     Refused,
 }
 
-#[derive(Drop)]
+#[derive(Clone, Copy)]
 pub enum CodeRead {
     Value(u16),
     Refused,
 }
 
-#[derive(Drop)]
+#[derive(Clone, Copy)]
 pub enum TypeRead {
     Value(u8),
     Refused,
 }
 
-#[derive(Drop)]
+#[derive(Clone, Copy)]
 pub enum ScaleRead {
     Value(Scale),
     Refused,
 }
 
-#[derive(Drop)]
+#[derive(Clone, Copy)]
 pub enum BitsRead {
     Value(Bits),
     Refused,

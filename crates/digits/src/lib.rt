@@ -4,6 +4,8 @@
 // Promises: each public function answers for every input and its whole answer is a definition of octets/specs/Number.antt. Octets
 // that the width leaves out are not looked at, nor is any past the fourth of a signed number.
 // Read first: octets/specs/Number.antt; then `span` and `extended`, on which the rest stands.
+#![tactic(auto)]
+
 ghost use Rattle.std.specs.Prelude.{◌≡◌, ◌<◌, ◌≤◌, min, take};
 ghost use Rattle.octets.specs.Number.{range, low_of, number_of, twos, signed_of};
 

@@ -2,6 +2,8 @@
 // Promises, for any octets at all: `item_effect` answers what an item asks for where this stands before it, or its refusal (6 to 9);
 // `standing_after` answers what stands after an effect. No record is changed here.
 // Read first: specs/Effects.antt; what stands is in crate standing, and what a waveform gives in crate framing.
+#![tactic(auto)]
+
 ghost use Rattle.std.specs.Prelude.{◌≡◌};
 ghost use Rattle.definitions.specs.Define.{tagged};
 ghost use Rattle.effects.specs.Effects.{order_effect, count_effect, sequences_effect, start_effect, compressed_effect, all_effect, one_effect, root_effect, plain_effect, member_effect, group_effect, effect_of, standing_after};
@@ -13,7 +15,7 @@ use settings::{Change, Settings};
 use standing::Standing;
 
 // What an item asks for.
-#[derive(Drop)]
+#[derive(Clone, Copy)]
 pub enum Effect {
     // Nothing.
     Pass,

@@ -6,6 +6,8 @@
 // Words too few for a link stay as they are: nothing is taken, told or answered by them, and their end is that of a file of no octets.
 // That all this is what request 3 asks for is shown in crate theorems.
 // Read first: specs/Link.antt and specs/Feed.antt of crate link, then specs/Feeding.antt.
+#![tactic(auto)]
+
 ghost use Rattle.std.specs.Prelude.{◌≡◌, ◌-◌, ◌≤◌, length};
 ghost use Rattle.heads.specs.Answer.{refused_as};
 ghost use Rattle.verdict.specs.Verdict.{checked_says};
@@ -23,7 +25,7 @@ use verdict::Checked;
 use walk::Waveform;
 
 // The sizes of a link kept in words.
-#[derive(Drop)]
+#[derive(Clone, Copy)]
 pub struct Words {}
 
 impl Words {
@@ -36,7 +38,7 @@ impl Words {
 
 // Why a call took no more octets: the piece is used up, or there is no room for the next one's sample; the head of a waveform has come, and its frame
 // is told; or the answer has come.
-#[derive(Drop)]
+#[derive(Clone, Copy)]
 pub enum Event {
     On,
     Frame,
@@ -44,7 +46,7 @@ pub enum Event {
 }
 
 // What a call took and gave out.
-#[derive(Drop)]
+#[derive(Clone, Copy)]
 pub struct Fed {
     pub taken: usize,
     pub given: usize,
@@ -52,7 +54,7 @@ pub struct Fed {
 }
 
 // The frame that is told, by its number.
-#[derive(Drop)]
+#[derive(Clone, Copy)]
 pub enum Told {
     Frame(u32, Waveform),
     Refused(Refusal),

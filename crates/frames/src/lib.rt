@@ -5,6 +5,8 @@
 // of a frame's samples, for whoever has samples to store as they stand. `Putting` of crate stores says this once.
 // Read first: specs/Parts.antt (the octets; a frame's head and groups are in crate groups).
 // The size is known before the first octet is stored. What is private here stores what fits: `Put` says which octets, from where on.
+#![tactic(auto)]
+
 ghost use Rattle.std.specs.Prelude.{◌≡◌, map, ◌+◌, ◌%◌, ◌≤◌, ◌<◌, min, length, take, drop};
 ghost use Rattle.stores.specs.Storing.{Put, Putting};
 ghost use Rattle.layout.specs.Frame.{sequence_octets, samples_octets, reported};

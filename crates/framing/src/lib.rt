@@ -4,6 +4,8 @@
 // numbers that no file has; `channels_of` answers how many channels a frame has, and `pointer_fits` whether a start pointer has signed 32 bits. Nothing is
 // carried out here.
 // Read first: specs/Framing.antt (the rule), then specs/AnyNumbers.antt; what stands is in crate standing.
+#![tactic(auto)]
+
 ghost use Rattle.std.specs.Prelude.{true, ◌≡◌, ◌*◌, ◌≤◌, ◌<◌, pos, ◌+ℤ◌};
 ghost use Rattle.octets.specs.Number.{range};
 ghost use Rattle.settings.specs.Settings.{block_limit};
@@ -15,7 +17,7 @@ use settings::Settings;
 use standing::Standing;
 
 // What a waveform gives: the frame's sequences and what stands after it, or a refusal.
-#[derive(Drop)]
+#[derive(Clone, Copy)]
 pub enum Framed {
     Taken(u32, Standing),
     Refused(u8),

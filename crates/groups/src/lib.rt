@@ -4,6 +4,8 @@
 // is stored and `at` is returned. `Putting` of crate stores says this once.
 // Read first: specs/Head.antt and specs/Group.antt (the octets).
 // Each of the two makes one test, against the size that crate sizes answers. What is private here stores what fits: `Put` says which octets, from where on.
+#![tactic(auto)]
+
 ghost use Rattle.std.specs.Prelude.{◌≡◌, ◌+◌, ◌≤◌, ◌<◌, length};
 ghost use Rattle.std.specs.Int.Signed.{mag};
 ghost use Rattle.stores.specs.Storing.{Put, Putting};

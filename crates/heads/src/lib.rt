@@ -3,12 +3,14 @@
 // Promises, for any octets at all: `item_form` answers what they say of the head of the item that begins with them, `item_head` where the value of the
 // item at their front stands, or the first fault of form (refusals 1 to 5 of document 01). What a tag means is not looked at here.
 // Read first: specs/Head.antt.
+#![tactic(auto)]
+
 ghost use Rattle.std.specs.Prelude.{◌≡◌, ◌+◌, ◌*◌, ◌^◌, ◌≤◌, length};
 ghost use Rattle.octets.specs.Pick.{both};
 ghost use Rattle.heads.specs.Head.{channel_of, length_of, unknown_context, root_only, primitive_form, group_length, group_form, form_of, head_of};
 
 // A refusal: its number in document 01's table, and the place in the file.
-#[derive(Drop)]
+#[derive(Clone, Copy)]
 pub struct Refusal {
     pub number: u8,
     pub place: usize,
@@ -60,7 +62,7 @@ impl Refusal {
 }
 
 // A channel number and how many octets it takes, or why there is none.
-#[derive(Drop)]
+#[derive(Clone, Copy)]
 pub enum Channel {
     Number { value: u32, octets: usize },
     PastEnd,
@@ -94,7 +96,7 @@ fn channel_from(u: &[u8], passed: usize, allowed: u32, value: u32) -> Channel
 }
 
 // A length and how many octets its field takes, or why there is none.
-#[derive(Drop)]
+#[derive(Clone, Copy)]
 pub enum Length {
     Known { value: usize, octets: usize },
     Open { octets: usize },
@@ -157,7 +159,7 @@ fn barred(inside: bool, tag: u8) -> bool
 }
 
 // What the octets that have come say of an item's head: more are wanted, the number of a fault, or all of it. `start` counts from the item's tag.
-#[derive(Drop)]
+#[derive(Clone, Copy)]
 pub enum Form {
     More,
     Faulty {
@@ -260,7 +262,7 @@ pub fn item_form(inside: bool, u: &[u8]) -> Form
 }
 
 // What stands before an item's value, or the number of its refusal. `start` counts from the item's tag.
-#[derive(Drop)]
+#[derive(Clone, Copy)]
 pub enum Head {
     Primitive {
         tag: u8,

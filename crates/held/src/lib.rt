@@ -4,6 +4,8 @@
 // any words at all hold some link.
 // Promises, for any words: `core_at` and `octets_at` answer what words hold, and `keep` stores it. Words too few stay as they are.
 // Read first: crate link, then specs/Words.antt.
+#![tactic(auto)]
+
 ghost use Rattle.std.specs.Prelude.{◌≡◌, ◌++◌, ◌+◌, ◌-◌, ◌≤◌, ◌<◌, min, length, get_or, take};
 ghost use Rattle.octets.specs.Number.{low_of};
 ghost use Rattle.words.specs.Words.{words_at, Overlaid};
@@ -15,7 +17,7 @@ use verdict::Checked;
 use walking::Walking;
 
 // The sizes of a link kept in words.
-#[derive(Drop)]
+#[derive(Clone, Copy)]
 pub struct Held {}
 
 impl Held {
@@ -36,7 +38,7 @@ impl Held {
 
 // Where in an item the octets have come to, besides the octets that are kept: in its head, in its value, in a waveform at a sample, before a refusal that is
 // sure once so many octets have come, or at the answer.
-#[derive(Drop)]
+#[derive(Clone, Copy)]
 pub enum Stage {
     Head,
     Value {
@@ -57,7 +59,7 @@ pub enum Stage {
 }
 
 // A link's own numbers; `held` octets are kept.
-#[derive(Drop)]
+#[derive(Clone, Copy)]
 pub struct Core {
     pub count: u64,
     pub around: u64,

@@ -3,13 +3,15 @@
 // Promises, for any octets at all: `next_item` answers the item at a cursor and the cursor behind it, the end of the file, or
 // the first fault of form (refusals 1 to 5 and 10 of document 01) with its place. What a tag means is not looked at here.
 // Read first: specs/Head.antt of `heads` (one item), then specs/Walk.antt (all of them).
+#![tactic(auto)]
+
 ghost use Rattle.std.specs.Prelude.{◌≡◌, ◌+◌, ◌-◌, ◌^◌, ◌<◌};
 ghost use Rattle.items.specs.Walk.{cursor, stands_in, is_inside, extent, ends_open, ended, item_of, next_of};
 
 use heads::{Head, Refusal};
 
 // Outside a group, in a definite group that ends before `end`, or in an open group whose tag stands at `place`.
-#[derive(Drop)]
+#[derive(Clone, Copy)]
 pub enum Within {
     Root,
     Definite { channel: u32, end: usize },
@@ -17,7 +19,7 @@ pub enum Within {
 }
 
 // Where the walk stands: before the octet at `at`.
-#[derive(Drop)]
+#[derive(Clone, Copy)]
 pub struct Cursor {
     pub at: usize,
     pub within: Within,
@@ -25,7 +27,7 @@ pub struct Cursor {
 
 // An item. `place` is its tag's, and its value is `len` octets from `start` on. A group's contents follow as items of their own;
 // a mark ends an open group.
-#[derive(Drop)]
+#[derive(Clone, Copy)]
 pub enum Item {
     Plain {
         place: usize,
@@ -50,7 +52,7 @@ pub enum Item {
 }
 
 // What stands at a cursor.
-#[derive(Drop)]
+#[derive(Clone, Copy)]
 pub enum Next {
     Found(Item, Cursor),
     End,

@@ -5,6 +5,8 @@
 // Promises, for any words: `head_at` and `waveform_at` answer what words hold, and `keep` stores it. Words too few for a head stay as they are.
 // `word` answers a word and `four_at` the number of its four lowest octets, for others that keep numbers so.
 // Read first: specs/Words.antt.
+#![tactic(auto)]
+
 ghost use Rattle.std.specs.Prelude.{◌≡◌, ◌+◌, ◌≤◌, length, get_or};
 ghost use Rattle.octets.specs.Number.{low_of, twos};
 ghost use Rattle.words.specs.Words.{words_at, Overlaid};
@@ -18,7 +20,7 @@ use walk::{Head, Waveform};
 use words::Records;
 
 // The sizes of a head and a frame kept in words.
-#[derive(Drop)]
+#[derive(Clone, Copy)]
 pub struct Kept {}
 
 impl Kept {

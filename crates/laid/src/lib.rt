@@ -1,1 +1,2 @@
 // Where the samples of a waveform lie.
+#![tactic(auto)]

@@ -3,6 +3,8 @@
 // For a reader that is fed in pieces: however many of them a piece has, they are taken at once.
 // Promises, for any numbers and octets: `pass` answers how many octets it took, none where the next one does more, and the link behind them.
 // Read first: crate arriving, then specs/Lasting.antt.
+#![tactic(auto)]
+
 ghost use Rattle.std.specs.Prelude.{◌≡◌, ◌-◌, ◌≤◌, length};
 ghost use Rattle.link.specs.Link.{value, waveform, waits, kept_limit};
 ghost use Rattle.rows.specs.Rows.{coming_at};
@@ -16,7 +18,7 @@ use rows::Spot;
 use standing::Standing;
 
 // A link behind octets that only had to come, the octets that it keeps, and how many it took.
-#[derive(Drop)]
+#[derive(Clone, Copy)]
 pub struct Passed {
     pub link: Link,
     pub octets: [u8; Held::ROOM],

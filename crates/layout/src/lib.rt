@@ -4,6 +4,8 @@
 // a sequence, those below a channel, and the octets that the channels' groups take in the canonical file.
 // `offset_bits` answers a channel's offset, one that is not defined too, and `reported` its attributes with that offset.
 // Read first: specs/Frame.antt (frames and the place of a sample), specs/Measure.antt.
+#![tactic(auto)]
+
 ghost use Rattle.std.specs.Prelude.{◌≡◌, ◌+◌, ◌%◌, ◌^◌, nat_lt};
 ghost use Rattle.octets.specs.Pick.{pick, both};
 ghost use Rattle.layout.specs.Frame.{offset_bits, width_agrees, reported};
@@ -13,7 +15,7 @@ use settings::{Change, Settings};
 use values::Bits;
 
 // What a pass over channels, from channel 0 on, tells.
-#[derive(Drop)]
+#[derive(Clone, Copy)]
 pub struct Layout {
     pub agree: bool,
     pub octets: u64,

@@ -3,6 +3,7 @@
 // Promises, for any answer and any buffer of 64 octets: `put_line` answers the line's length, the line stands at the start of the buffer, and the
 // octets past it are as they were. 64 octets hold the longest line, which has two numbers of 20 digits.
 // Read first: specs/Line.antt.
+#![tactic(auto)]
 
 ghost use Rattle.stores.specs.Storing.{Putting};
 ghost use Rattle.verdict.specs.Verdict.{checked_says};

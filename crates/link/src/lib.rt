@@ -1,1 +1,2 @@
 // A file read as its octets arrive.
+#![tactic(auto)]

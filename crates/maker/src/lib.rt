@@ -7,6 +7,8 @@
 // Refusal comes first: one pass over the rows tests every setting and sums up the layout, so that the size is known before the first octet is stored.
 // A second one stores the groups. Every octet is stored by a function that the writer stores it by: `groups::put_head`, `groups::put_group`,
 // `frames::open_waveform` and `runs::copy`. No table of records is made.
+#![tactic(auto)]
+
 ghost use Rattle.std.specs.Prelude.{◌≡◌, map, ◌+◌, ◌≤◌, length};
 ghost use Rattle.stores.specs.Storing.{Put};
 ghost use Rattle.heads.specs.Answer.{refused_as};

@@ -15,7 +15,7 @@ use settings::{Scale, Settings};
 use values::Bits;
 
 // The sizes of a row, and the places of what is looked at.
-#[derive(Drop)]
+#[derive(Clone, Copy)]
 pub struct Row {}
 
 impl Row {
@@ -47,7 +47,7 @@ impl Row {
 }
 
 // The layout of channels, or that a setting of one is outside the table.
-#[derive(Drop)]
+#[derive(Clone, Copy)]
 pub enum Measured {
     Channels(Layout),
     Outside,

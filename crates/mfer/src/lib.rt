@@ -4,6 +4,8 @@
 // every case, and at a refusal all are 0 but `place`, which is the refusal's. A slice passes as a pointer and a length.
 // Each function is thin over the crate that has its meaning; crate outputs turns what that answers into outputs.
 // Read first: specs/Outputs.antt of crate outputs, then specs/Answers.antt.
+#![tactic(auto)]
+
 ghost use Rattle.std.specs.Prelude.{◌≡◌, min, length};
 ghost use Rattle.heads.specs.Answer.{map_answer, left_by};
 ghost use Rattle.verdict.specs.Verdict.{check_of};

@@ -3,6 +3,8 @@
 // For callers that take plain numbers only, as the functions for C do (crate outputs), and for the maker, which takes the attributes in the same order.
 // Promises, for any answer: each number is what a definition of specs/ says, in its order.
 // Read first: specs/Numbers.antt.
+#![tactic(auto)]
+
 ghost use Rattle.std.specs.Prelude.{◌≡◌};
 ghost use Rattle.values.specs.Sample.{value_says};
 ghost use Rattle.numbers.specs.Numbers.{numbers_of, bit_pair_of, flag_number, frame_numbers_of};

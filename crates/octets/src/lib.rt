@@ -4,6 +4,8 @@
 // Promises: each public function answers for every input and its whole answer is a definition of specs/. What lies past
 // the end is not there, and octets past the eighth are not looked at.
 // Read first: specs/Number.antt; then the laws of proofs/Laws.antt and proofs/Octets.antt, which callers cite.
+#![tactic(auto)]
+
 ghost use Rattle.std.specs.Prelude.{◌≡◌, true, false, ◌+◌, ◌*◌, ◌<◌, ◌≤◌, length, take, drop};
 ghost use Rattle.octets.specs.Number.{range, NumberRead};
 

@@ -3,6 +3,8 @@
 // Promises, for any answer: the result is the number of the refusal, 0 where there is none; every output is set in every case, and at a refusal all are
 // 0 but `place`, which is the refusal's. Nothing here reads a file; crate mfer puts these around the functions that do.
 // Read first: crate numbers, then specs/Outputs.antt and specs/Walks.antt.
+#![tactic(auto)]
+
 ghost use Rattle.std.specs.Prelude.{◌≡◌};
 ghost use Rattle.verdict.specs.Verdict.{checked_says};
 ghost use Rattle.reader.specs.Answer.{described_says, sampled_says, looked_up_says};

@@ -5,6 +5,8 @@
 // Up to the first definition in a group it needs no channel records (`scan_root`), from there on it keeps them as they stood at a time (`scan_channels`). Both take
 // definitions in stretches where they can, and every other item by what crate effects says of it.
 // Read first: crate verdict (the file), specs/Scan.antt (what a pass answers), then specs/Passing.antt (what it knows on its way).
+#![tactic(auto)]
+
 ghost use Rattle.std.specs.Prelude.{◌≡◌, ◌+◌, ◌*◌, ◌-◌, ◌^◌, ◌≤◌, ◌<◌, min, length, take, replicate};
 ghost use Rattle.octets.specs.Pick.{pick};
 ghost use Rattle.items.specs.Walk.{cursor, refusal};
@@ -34,21 +36,21 @@ use verdict::Checked;
 use view::View;
 
 // The frame and the channel that a question names.
-#[derive(Drop)]
+#[derive(Clone, Copy)]
 pub struct Asked {
     pub frame: u32,
     pub channel: u32,
 }
 
 // The frame that is asked for, if the file has it.
-#[derive(Drop)]
+#[derive(Clone, Copy)]
 pub enum Found {
     Frame(View),
     Nothing,
 }
 
 // What one pass over a file answers; `size` is how many octets its frames take in the canonical file.
-#[derive(Drop)]
+#[derive(Clone, Copy)]
 pub struct Scan {
     pub checked: Checked,
     pub found: Found,
@@ -109,7 +111,7 @@ fn view_of(
 }
 
 // What a pass keeps of the frames that it has met: how many, the one that is asked for, and how many octets they take in the canonical file.
-#[derive(Drop)]
+#[derive(Clone, Copy)]
 struct Met {
     frames: u32,
     found: Found,

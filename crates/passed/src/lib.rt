@@ -5,6 +5,8 @@
 // Promises, for any octets, any times and any number: `over` answers the times where each definition among the items is the root's, how many items were
 // read then, and whether there is a definition among them.
 // Read first: specs/Passed.antt.
+#![tactic(auto)]
+
 ghost use Rattle.std.specs.Prelude.{◌≡◌};
 ghost use Rattle.settings.specs.Settings.{default_settings};
 ghost use Rattle.definitions.specs.Define.{standing_in};
@@ -15,7 +17,7 @@ use dated::{Dates, Times};
 use definitions::{Attribute, Tagged};
 
 // What a stretch counts: the times of its definitions, where they are the root's, its items, and whether it has a definition.
-#[derive(Drop)]
+#[derive(Clone, Copy)]
 pub struct Passed {
     pub dates: Dates,
     pub items: u64,

@@ -4,6 +4,8 @@
 // `describe` answers what stands for a channel in a frame, `place` where a sample lies, and `sample` where it lies, its bits and its value, that it is
 // declared and not there, or a refusal. All are thin over `pass::scan_file`, which walks the file once.
 // Read first: in crate pass specs/Verdict.antt (the file), then specs/Answer.antt (the questions).
+#![tactic(auto)]
+
 ghost use Rattle.std.specs.Prelude.{◌≡◌};
 ghost use Rattle.verdict.specs.Verdict.{checked_says, check_of};
 ghost use Rattle.reader.specs.Answer.{described_says, sampled_says, looked_up_says, placed_says, attributes_seen, attributes_of, placed_of, sample_of, seen_of};
@@ -16,7 +18,7 @@ use verdict::Checked;
 use view::{SamplePlace, View};
 
 // The attributes of a channel in a frame. The offset of its settings has the sample's width; a null of width 0 is none.
-#[derive(Drop)]
+#[derive(Clone, Copy)]
 pub struct Attributes {
     pub start: i64,
     pub channels: u32,
@@ -25,14 +27,14 @@ pub struct Attributes {
 }
 
 // The answer to the question for attributes.
-#[derive(Drop)]
+#[derive(Clone, Copy)]
 pub enum Described {
     Attributes(Attributes),
     Refused(Refusal),
 }
 
 // The answer to the question for a sample: its place, bits and value; no data at place 0 where it is declared and not there.
-#[derive(Drop)]
+#[derive(Clone, Copy)]
 pub enum Sampled {
     Sample {
         place: usize,
@@ -58,7 +60,7 @@ pub fn check(s: &[u8]) -> Checked
 }
 
 // A channel of a frame, or why there is none.
-#[derive(Drop)]
+#[derive(Clone, Copy)]
 pub enum LookedUp {
     Channel(View),
     Refused(Refusal),
@@ -125,7 +127,7 @@ pub fn describe(s: &[u8], frame: u32, channel: u32) -> Described
 }
 
 // The place of a sample and its channel, or that it is declared and not there, or why there is none.
-#[derive(Drop)]
+#[derive(Clone, Copy)]
 pub enum Placed {
     At(usize, View),
     Lacking,

@@ -5,6 +5,8 @@
 // and `layout_in` the layout that their records give. `refresh` brings the records of so many channels up to date, keeps the octets below each, and answers the layout.
 // Words of no record's numbers stay as they are, but for those octets.
 // Read first: specs/Records.antt, and specs/Words.antt of crate `words`.
+#![tactic(auto)]
+
 ghost use Rattle.std.specs.Prelude.{◌≡◌, map, ◌+◌, ◌*◌, ◌<◌, ◌≤◌, min, length, get_or, set, take, leb};
 ghost use Rattle.octets.specs.Pick.{pick};
 ghost use Rattle.octets.specs.Number.{low_of};

@@ -2,6 +2,8 @@
 //
 // For a file that is refused it writes one line there instead, `refused R at P`; for a longer file nothing, and `too long` to standard error.
 // `refused 23 at 0` is also its line where the canonical file is longer than 120,000 octets.
+#![tactic(auto)]
+
 use canonical::Written;
 use heads::Refusal;
 use libc::{STDERR_FILENO, STDIN_FILENO, STDOUT_FILENO};

@@ -6,6 +6,8 @@
 // lead a link to the sample that comes next, the samples that they give out stand at the front of the buffer, and it stops only where the next one cannot be
 // laid. The rest of the buffer stays as it is.
 // Read first: crate link, then specs/Rows.antt.
+#![tactic(auto)]
+
 ghost use Rattle.std.specs.Prelude.{◌≡◌, false, [], ℕ, ◌+◌, ◌-◌, ◌*◌, ◌%◌, ◌^◌, ◌≤◌, ◌<◌, ltb, leb, eqb, length, take, drop};
 ghost use Rattle.std.proofs.lemmas.List.Edits.{sets};
 ghost use Rattle.octets.specs.Pick.{pick, both};
@@ -23,7 +25,7 @@ use walk::Waveform;
 use words::{Records, Sampling};
 
 // The sizes of rows.
-#[derive(Drop)]
+#[derive(Clone, Copy)]
 pub struct Row {}
 
 impl Row {
@@ -32,7 +34,7 @@ impl Row {
 }
 
 // The sample that comes next: number `index` of the block of `channel` in `sequence`.
-#[derive(Drop)]
+#[derive(Clone, Copy)]
 pub struct Spot {
     pub sequence: u32,
     pub channel: u32,
@@ -40,7 +42,7 @@ pub struct Spot {
 }
 
 // The sample that comes next, and how many octets were taken and samples given out before it.
-#[derive(Drop)]
+#[derive(Clone, Copy)]
 pub struct Laid {
     pub at: Spot,
     pub taken: usize,
@@ -48,7 +50,7 @@ pub struct Laid {
 }
 
 // The two words that tell a value: its kind, and its whole number.
-#[derive(Drop)]
+#[derive(Clone, Copy)]
 struct Shown {
     kind: u64,
     whole: u64,

@@ -2,6 +2,7 @@
 //
 // Every public function is total, and promises `Putting` of stores/specs/Storing.antt as the functions of `stores` do. Read it
 // first, and then the definition that each contract names.
+#![tactic(auto)]
 
 ghost use Rattle.std.specs.Prelude.{◌≡◌, ◌∷◌, [], reverse, ◌⊎◌, ◌+◌, ◌-◌, ◌*◌, ◌/◌, ◌≤◌, min, length, take, drop};
 ghost use Rattle.std.proofs.lemmas.List.Edits.{sets};
@@ -110,7 +111,7 @@ fn turn_each(src: &[u8], from: usize, n: usize, w: usize, dst: &mut [u8], at: us
 }
 
 // Eight octets in a row.
-#[derive(Drop)]
+#[derive(Clone, Copy)]
 struct Eight {
     a: u8,
     b: u8,

@@ -4,13 +4,15 @@
 // Promises: `Settings::default` answers document 01's defaults; `apply` carries a change out in one record;
 // `Settings::at_most` cuts a count down to the channels that a frame may have. A new attribute is one more case of `Change`, and of `Attribute` in crate definitions.
 // Read first: specs/Settings.antt.
+#![tactic(auto)]
+
 ghost use Rattle.std.specs.Prelude.{◌≡◌, min};
 ghost use Rattle.settings.specs.Settings.{channel_limit, default_settings, applied};
 
 use values::Bits;
 
 // A unit, an exponent of ten and a mantissa.
-#[derive(Drop)]
+#[derive(Clone, Copy)]
 pub struct Scale {
     pub unit: u8,
     pub exponent: i8,
@@ -18,7 +20,7 @@ pub struct Scale {
 }
 
 // What stands for one channel. Offset and null of width 0 are not defined.
-#[derive(Drop)]
+#[derive(Clone, Copy)]
 pub struct Settings {
     pub block: u32,
     pub class: u16,
@@ -83,7 +85,7 @@ impl Settings {
 }
 
 // One attribute's new value.
-#[derive(Drop)]
+#[derive(Clone, Copy)]
 pub enum Change {
     Block(u32),
     Class(u16),

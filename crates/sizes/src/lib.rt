@@ -4,6 +4,8 @@
 // `null_size` a group's items and a null's value; `holds` whether so many octets hold so many sequences. Nothing here knows of a channel's
 // settings: a group goes by the channel's number, its sample width and its null.
 // Read first: specs/Size.antt.
+#![tactic(auto)]
+
 ghost use Rattle.std.specs.Prelude.{◌≡◌, ◌*◌, ◌^◌, ◌<◌, leb};
 ghost use Rattle.sizes.specs.Size.{channel_size, null_size, content_size, group_size, sequences_size, head_size, frame_size};
 

@@ -4,6 +4,8 @@
 // Promises, whatever numbers a spread holds: `count` is how many samples are declared, `there` how many of them are there, `readable` how many of those from a
 // number on there is room for, `lies` whether the waveform lies in a file of so many octets. `smaller` is the smaller of two numbers.
 // Read first: specs/Spread.antt.
+#![tactic(auto)]
+
 ghost use Rattle.std.specs.Prelude.{◌≡◌, ◌+◌, ◌-◌, ◌*◌, ◌/◌, ◌%◌, ◌<◌, min, leb};
 ghost use Rattle.spread.specs.Spread.{count_spread, there_spread, lies_spread};
 
@@ -11,7 +13,7 @@ use standing::Standing;
 
 // Where the samples of a channel lie: `place` is that of the waveform's first octet, `long` are its octets, `octets` those of a sequence, `below` those
 // below the channel.
-#[derive(Drop)]
+#[derive(Clone, Copy)]
 pub struct Spread {
     pub sequences: u32,
     pub little: bool,
@@ -24,7 +26,7 @@ pub struct Spread {
 }
 
 // The sequences of a frame: how many, their byte order, the place of the waveform's first octet, its octets, and those of a sequence.
-#[derive(Drop)]
+#[derive(Clone, Copy)]
 pub struct Sequences {
     pub count: u32,
     pub little: bool,

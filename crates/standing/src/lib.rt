@@ -2,6 +2,8 @@
 //
 // Promises: `first` is what stands before the first item; `with_continued` and `with_root` set what they name and keep all else.
 // Read first: specs/Standing.antt.
+#![tactic(auto)]
+
 ghost use Rattle.std.specs.Prelude.{◌≡◌};
 ghost use Rattle.standing.specs.Standing.{first_standing, with_continued, with_root};
 
@@ -9,7 +11,7 @@ use settings::Settings;
 
 // What stands outside the channels' own records. `counted` 0: no channel count stands. `sequences` 0: by waveform length. `start` is
 // the start pointer of a frame that came now, `continued` the one to which the previous frame leads.
-#[derive(Drop)]
+#[derive(Clone, Copy)]
 pub struct Standing {
     pub little: bool,
     pub counted: u32,

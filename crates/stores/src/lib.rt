@@ -4,6 +4,7 @@
 // where the list does not fit it stores nothing and returns `at`. `Putting` of specs/Storing.antt says this once. Read it
 // first, and then the definition that each contract names. Two store nothing: `overruns` says what does not fit, and `length_octets`
 // how many octets a length takes.
+#![tactic(auto)]
 
 ghost use Rattle.std.specs.Prelude.{◌≡◌, ◌∷◌, [], ◌+◌, ltb, length};
 ghost use Rattle.stores.specs.Number.{be, field};

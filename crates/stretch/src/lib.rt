@@ -4,6 +4,8 @@
 // change is handed from function to function. What does not belong to a stretch is left where it stands.
 // Promises, for any octets and any cursor: `along` answers how far the stretch at a cursor goes and the record that it leaves.
 // Read first: specs/Stretch.antt.
+#![tactic(auto)]
+
 ghost use Rattle.std.specs.Prelude.{◌≡◌, ◌≤◌, length};
 ghost use Rattle.stretch.specs.Stretch.{stepped_over, run_of, stretch_of};
 
@@ -13,7 +15,7 @@ use settings::Settings;
 use values::Bits;
 
 // The settings that a stretch leaves, and where it ends.
-#[derive(Drop)]
+#[derive(Clone, Copy)]
 pub struct Stretch {
     pub settings: Settings,
     pub at: usize,

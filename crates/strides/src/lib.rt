@@ -6,6 +6,8 @@
 // holds them, `lay_channels` as many as fit or are there; else they leave it as it is.
 // Read first: crate spread, specs/Laying.antt and specs/Channels.antt, then `lay` and upwards. A change to a loop wants its speed measured again: each width
 // has a loop of its own, with straight-line reads, because the compiler makes one wide load of them only so.
+#![tactic(auto)]
+
 ghost use Rattle.std.specs.Prelude.{◌≡◌, true, ◌⊎◌, ◌+◌, ◌*◌, ◌/◌, ◌≤◌, ◌<◌, min, length, take, leb};
 ghost use Rattle.standing.specs.Standing.{octets_limit};
 ghost use Rattle.std.proofs.lemmas.List.Edits.{sets};
@@ -21,7 +23,7 @@ use spread::{Sequences, Spread};
 use standing::Standing;
 
 // The answer to reading samples: how many were written, or why none.
-#[derive(Drop)]
+#[derive(Clone, Copy)]
 pub enum Read {
     Samples(usize),
     Refused(Refusal),

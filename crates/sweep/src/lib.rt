@@ -4,6 +4,8 @@
 // caller lends, with nothing of the file read but these samples.
 // Promises, for any words and any octets: the whole answer is a definition of specs/, refusals too, and so is the buffer afterwards.
 // Read first: crates strides and kept, then specs/Sweep.antt.
+#![tactic(auto)]
+
 ghost use Rattle.std.specs.Prelude.{◌≡◌, length};
 ghost use Rattle.heads.specs.Answer.{map_answer, left_by};
 ghost use Rattle.strides.specs.Channels.{read_says};

@@ -3,6 +3,8 @@
 // For a reader that gets its items one by one, as their octets arrive: `take` does with an effect what a walk does with the item that has it.
 // Promises, for any words, any head and any effect: what is answered and how the words are left is a definition of specs/.
 // Read first: crate walk, then specs/Takes.antt.
+#![tactic(auto)]
+
 ghost use Rattle.std.specs.Prelude.{◌≡◌, ◌<◌, ◌≤◌};
 ghost use Rattle.settings.specs.Settings.{channel_limit};
 ghost use Rattle.standing.specs.Standing.{frames_limit};
@@ -18,14 +20,14 @@ use standing::Standing;
 use walk::{Head, Step, Waveform};
 
 // An item leads on, or the walk stops at it.
-#[derive(Drop)]
+#[derive(Clone, Copy)]
 pub enum Went {
     On,
     Stops(Step),
 }
 
 // What became of an item, and where the walk stands then.
-#[derive(Drop)]
+#[derive(Clone, Copy)]
 pub struct Taken {
     pub went: Went,
     pub head: Head,

@@ -1,1 +1,2 @@
 // What holds of the whole: the three demands, over the definitions that the contracts of `reader` and `canonical` cite.
+#![tactic(auto)]

@@ -1,1 +1,2 @@
 // Which samples of a waveform are there.
+#![tactic(auto)]

@@ -5,6 +5,8 @@
 // samples.
 // Promises, for any words and any octets: the whole answer is a definition of specs/, refusals too, and so are the buffers afterwards.
 // Read first: crates walking and bulk, then specs/Tour.antt.
+#![tactic(auto)]
+
 ghost use Rattle.std.specs.Prelude.{◌≡◌, min, length};
 ghost use Rattle.heads.specs.Answer.{map_answer, left_by};
 ghost use Rattle.strides.specs.Channels.{read_says};

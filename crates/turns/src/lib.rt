@@ -5,6 +5,8 @@
 // Promises, for any numbers, octets, words and room: `feed` takes, leaves and gives out what the definition of a call says, and the buffer has the rows of
 // what is given out at its front and is else as it was.
 // Read first: specs/Feed.antt of crate link, then specs/Turns.antt.
+#![tactic(auto)]
+
 ghost use Rattle.std.specs.Prelude.{◌≡◌, ◌<◌, min, length};
 ghost use Rattle.standing.specs.Standing.{octets_limit};
 ghost use Rattle.link.specs.Link.{gives};
@@ -20,7 +22,7 @@ use standing::Standing;
 use walk::Waveform;
 
 // A link behind octets that were taken, the octets that it keeps, how many it took and how many rows it gave out.
-#[derive(Drop)]
+#[derive(Clone, Copy)]
 pub struct Ran {
     pub link: Link,
     pub octets: [u8; Held::ROOM],
@@ -29,7 +31,7 @@ pub struct Ran {
 }
 
 // The same, and whether the call stops there.
-#[derive(Drop)]
+#[derive(Clone, Copy)]
 struct Turned {
     ran: Ran,
     stops: bool,
@@ -171,7 +173,7 @@ fn many(t: &mut [u64], x: Link, p: [u8; Held::ROOM], u: &[u8], out: &mut [u64]) 
 }
 
 // What an octet gives out: nothing, a sample for which there is no room, or a row.
-#[derive(Drop)]
+#[derive(Clone, Copy)]
 enum Gave {
     Nothing,
     Full,

@@ -4,13 +4,15 @@
 // Promises: each public function answers for every input and its whole answer is a definition of specs/Sample.antt. A
 // single or double that is handed out has exactly the file's bits, and so has a float that is no number (proofs/Exact.antt).
 // Read first: specs/Sample.antt, in the order of the rules.
+#![tactic(auto)]
+
 ghost use Rattle.std.specs.Prelude.{◌≡◌, ◌<◌, ◌≤◌, pos};
 ghost use Rattle.octets.specs.Number.{range, twos};
 ghost use Rattle.values.specs.Sample.{width_of, whole_said, value_says, single_of, double_of, plain_of, low_bits, value_of};
 ghost use Rattle.values.specs.Told.{whole_meaning, other_meaning, meaning_of, whole_told, signless, number_told, told_of};
 
 // A value is one of seven kinds; `value_says` has their numbers. `NoData` is the value of a sample that is not there: no bits have it.
-#[derive(Drop)]
+#[derive(Clone, Copy)]
 pub enum Value {
     Whole(i64),
     Status(u16),
@@ -22,7 +24,7 @@ pub enum Value {
 }
 
 // Raw bits of a width in octets. Width 0: not defined.
-#[derive(Drop)]
+#[derive(Clone, Copy)]
 pub struct Bits {
     pub width: u8,
     pub bits: u64,
@@ -30,7 +32,7 @@ pub struct Bits {
 
 // What the bits of a data type's samples mean, as numbers, so that no sample asks for its type. A whole number up to `last` is itself, and one
 // above it stands for itself less the range that ends at `top`. Any other is of `kind`, and no number where it is above `infinity` without `sign`.
-#[derive(Drop)]
+#[derive(Clone, Copy)]
 pub struct Meaning {
     pub whole: bool,
     pub last: u32,
@@ -42,7 +44,7 @@ pub struct Meaning {
 }
 
 // The number of a value's kind, and its number where it is whole, else 0.
-#[derive(Drop)]
+#[derive(Clone, Copy)]
 pub struct Telling {
     pub kind: u8,
     pub whole: i64,

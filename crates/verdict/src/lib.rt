@@ -3,6 +3,8 @@
 // This crate has the definitions that every reader and writer of a file is measured by, and their laws. Its code is small: `Checked` is the answer of
 // the check, and `place_of` is the place of an item's tag.
 // Read first: specs/Verdict.antt (the file), then specs/Reached.antt (where its items lead).
+#![tactic(auto)]
+
 ghost use Rattle.std.specs.Prelude.{◌≡◌};
 ghost use Rattle.verdict.specs.Verdict.{place_at};
 
@@ -10,7 +12,7 @@ use heads::Refusal;
 use items::Item;
 
 // The answer of the check: the number of frames, or the refusal.
-#[derive(Drop)]
+#[derive(Clone, Copy)]
 pub enum Checked {
     Frames(u32),
     Refused(Refusal),

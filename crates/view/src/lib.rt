@@ -4,6 +4,8 @@
 // Promises, whatever numbers a view holds: `spread` is where its samples lie, and `find` where one of them lies in a file of so many octets, that it is not
 // there, or a refusal. The view of a frame of an accepted file lies in that file (reader/proofs/Answers: located-lies).
 // Read first: crate spread, then specs/View.antt.
+#![tactic(auto)]
+
 ghost use Rattle.std.specs.Prelude.{◌≡◌, ◌^◌, ◌<◌};
 ghost use Rattle.spread.specs.Spread.{place_spread};
 ghost use Rattle.view.specs.View.{spread_of, place_in, sample_place_says};
@@ -14,7 +16,7 @@ use spread::Spread;
 
 // What is kept of a frame and one of its channels: `place` is that of the waveform's first octet, `long` are its octets, `octets` those of a sequence,
 // `below` those below the channel, and `settings` the channel's, the defaults where the frame lacks it.
-#[derive(Drop)]
+#[derive(Clone, Copy)]
 pub struct View {
     pub start: i64,
     pub channels: u32,
@@ -28,7 +30,7 @@ pub struct View {
 }
 
 // The place of a sample, or that it is declared and not there, or why there is none.
-#[derive(Drop)]
+#[derive(Clone, Copy)]
 pub enum SamplePlace {
     At(usize),
     Lacking,

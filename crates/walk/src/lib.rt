@@ -6,6 +6,8 @@
 // `Head::first`, with records that are all of the time before the first item, stands before a file's first item; the frames that the walk stops at
 // from there on are the verdict's (proofs/Joins.antt).
 // Read first: specs/Advance.antt, then specs/Joined.antt.
+#![tactic(auto)]
+
 ghost use Rattle.std.specs.Prelude.{◌≡◌, ◌≤◌};
 ghost use Rattle.items.specs.Walk.{refusal};
 ghost use Rattle.settings.specs.Settings.{channel_limit};
@@ -21,7 +23,7 @@ use settings::Settings;
 use standing::Standing;
 
 // A frame, besides its channels' records: `octets` are those of a sequence.
-#[derive(Drop)]
+#[derive(Clone, Copy)]
 pub struct Waveform {
     pub start: i64,
     pub channels: u32,
@@ -33,7 +35,7 @@ pub struct Waveform {
 }
 
 // What a walk comes to.
-#[derive(Drop)]
+#[derive(Clone, Copy)]
 pub enum Step {
     Frame(Waveform),
     Ended,
@@ -41,7 +43,7 @@ pub enum Step {
 }
 
 // Where a walk stands, besides the channels' records.
-#[derive(Drop)]
+#[derive(Clone, Copy)]
 pub struct Head {
     pub cursor: Cursor,
     pub standing: Standing,
@@ -51,7 +53,7 @@ pub struct Head {
 }
 
 // What a walk has come to, and where it stands then.
-#[derive(Drop)]
+#[derive(Clone, Copy)]
 pub struct Moved {
     pub step: Step,
     pub head: Head,

@@ -6,6 +6,8 @@
 // to the next frame, the end or the refusal; `view_at` answers a channel of the frame that the last step told of. Words too few for a head stay as they
 // are, and are at the end. That the frames of an opened file are the verdict's is proved in proofs/Walked.antt.
 // Read first: crate walk, then specs/Words.antt and specs/Steps.antt.
+#![tactic(auto)]
+
 ghost use Rattle.std.specs.Prelude.{◌≡◌, ◌≤◌, length};
 ghost use Rattle.reader.specs.Answer.{looked_up_says};
 ghost use Rattle.kept.specs.Words.{head_words, holds_head};
@@ -21,7 +23,7 @@ use walk::{Head, Step, Waveform};
 use words::Records;
 
 // The size of a walk kept in words.
-#[derive(Drop)]
+#[derive(Clone, Copy)]
 pub struct Walking {}
 
 impl Walking {

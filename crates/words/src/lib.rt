@@ -7,6 +7,8 @@
 // numbers stay as they are.
 // `words_of` answers the words of a record's numbers and `signed_word` that of a signed number, for others that keep numbers so.
 // Read first: specs/Words.antt.
+#![tactic(auto)]
+
 ghost use Rattle.std.specs.Prelude.{◌≡◌, ◌+◌, ◌<◌, ◌≤◌, length, get_or, set};
 ghost use Rattle.octets.specs.Number.{low_of, twos};
 ghost use Rattle.dated.specs.Dated.{zero_dated};
@@ -17,7 +19,7 @@ use settings::{Scale, Settings};
 use values::Bits;
 
 // The sizes of records kept in words.
-#[derive(Drop)]
+#[derive(Clone, Copy)]
 pub struct Records {}
 
 impl Records {
@@ -38,7 +40,7 @@ impl Records {
 }
 
 // The settings that say how a channel's samples stand in a waveform, and what their bits mean.
-#[derive(Drop)]
+#[derive(Clone, Copy)]
 pub struct Sampling {
     pub block: u32,
     pub datatype: u8,

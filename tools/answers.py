@@ -1,0 +1,227 @@
+#!/usr/bin/env python3
+"""Turns proofs that answer an older Rattle's goals, Proof.antt, into Invariants.antt and Answers.antt.
+
+usage: python3 tools/answers.py NAMES CRATE [FUNCTION..]
+
+NAMES is the folder of what `rt check --generated DIR --old-names` writes for each crate: NAMES/CRATE/names.json. An answer that only says `search rules` is left out,
+since the check finds it. What it cannot turn it says, and leaves in the file for the check to refuse.
+"""
+
+import glob
+import json
+import os
+import re
+import sys
+
+N = r"[^\s(){}.;,@\"«»\[\]\\]+"
+alike = lambda s: re.sub(r"[-_]", "", s).lower()
+LEAVES = {"args", "requires", "ranges", "lifetimes", "auto", "well_formed", "type_inv", "utf8"}
+
+
+class Names:
+    def __init__(self, x):
+        self.x = x
+        self.places = x["places"]
+        self.at = {p[0]: i for i, p in enumerate(self.places)}
+        self.needs = {}
+        for (old, new), (place, _) in zip(x["needs"], x["asked_at"]):
+            self.needs.setdefault(alike(old), (new, place))
+        self.settled = x["settled"]
+
+    def need(self, name):
+        name = re.sub(r"^overflow-", "", name)
+        name = {"slice-bounds": "part"}.get(name, name)
+        for form in (name, re.sub(r"^slice-bounds-", "part-", name), "overflow" + name):
+            if alike(form) in self.needs:
+                return self.needs[alike(form)]
+        return None
+
+    def above(self, place):
+        while place is not None and place in self.at:
+            i = self.at[place]
+            yield i
+            place = self.places[i][1]
+
+    def resolve(self, path, place):
+        """The new path, after `c`, of an old one without its `before`s."""
+        step, rest = path[0], path[1:]
+        if step in LEAVES:
+            return path
+        line = list(self.above(place))
+        best = None
+        for i in line:
+            arm = self.x["arms"][i]
+            if not arm:
+                continue
+            for field, old, way in arm[2]:
+                if alike(old) == alike(step) and way and rest[: len(way)] == way and (best is None or len(way) > best[0]):
+                    best = (len(way), [arm[0], field] + rest[len(way):])
+        if best:
+            return best[1]
+        if rest[:1] == ["given"]:
+            for i in [*line, *range(len(self.places))]:
+                for var, old in self.x["typed"][i]:
+                    if alike(old) == alike(step):
+                        return ["type_inv", var] + rest[1:]
+        for i in line:
+            old, new = self.places[i][2]
+            if old and alike(old) == alike(step):
+                return [new] + rest
+        return None
+
+
+def paragraphs(text):
+    out = []
+    for part in re.split(r"\n\s*\n", text.strip("\n")):
+        if out and part[:1] in " \t":
+            out[-1] += "\n\n" + part
+        else:
+            out.append(part)
+    return out
+
+
+def inline(body, arg, names, place, said):
+    """Body with its places and steps under their new names."""
+    env = {arg: []}
+    token = r"(?<![^\s(){};,@\"\[\]\\])(%s)((?:\.%s)*)(?!%s)" % (N, N, r"[^\s(){};,@\"\[\]\\]")
+
+    def path_of(text):
+        parts = text.split(".")
+        return env[parts[0]] + parts[1:] if parts[0] in env else None
+
+    def new(path):
+        path = [x for x in path if x != "before"]
+        if not path:
+            return arg
+        got = names.resolve(path, place)
+        if got is None:
+            said.append("no step " + ".".join(path))
+            return arg + "." + ".".join(path)
+        return arg + "." + ".".join(got)
+
+    out, rest = "", body
+    let = re.compile(r"let (%s) = (%s(?:\.%s)*) in(\s|$)" % (N, N, N))
+    while True:
+        m = let.search(rest)
+        if not m:
+            break
+        head = rest[: m.start()]
+        out += re.sub(token, lambda k: new(path_of(k.group(0))) if k.group(1) in env else k.group(0), head)
+        path = path_of(m.group(2))
+        if path is None:
+            out += m.group(0)
+        else:
+            plain = [x for x in path if x != "before"]
+            got = names.resolve(plain, place) if plain else None
+            whole = got is not None and not (got[0].startswith("in-") and len(got) == 1)
+            if not plain or not whole or plain == path[-1:] and plain[0] not in LEAVES and len(got) == 1 and any(
+                alike(old) == alike(plain[0]) for i in names.above(place) if names.x["arms"][i] for _, old, _ in names.x["arms"][i][2]
+            ):
+                env[m.group(1)] = path
+            else:
+                env.pop(m.group(1), None)
+                out += f"let {m.group(1)} = {new(path)} in" + m.group(3)
+        rest = rest[m.end():]
+    out += re.sub(token, lambda k: new(path_of(k.group(0))) if k.group(1) in env else k.group(0), rest)
+    return out
+
+
+def turn(crate, function, names, path, said):
+    text = open(path, encoding="utf-8").read()
+    module = "Rattle.%s.proofs.%s" % (crate, function)
+    uses, comment, invariants, answers = [], [], [], []
+    first = True
+    for part in paragraphs(text):
+        lines = part.split("\n")
+        k = 0
+        while k < len(lines) and lines[k].startswith("--"):
+            k += 1
+        notes, code = lines[:k], lines[k:]
+        if first:
+            comment, notes, first = notes, [], False
+        if code and code[0].startswith("use "):
+            uses += [l for l in code if not re.search(r"\.(Statement\.\{statement\}|Tie as tie)", l)]
+            continue
+        if not code:
+            answers.append(part)
+            continue
+        body = "\n".join(code)
+        m = re.match(r"abbrev (?:pub )?(%s) : tie\.(invariant|decreases)-(%s)\n(?:unfolding [^\n]*\n)?" % (N, N), body)
+        if m:
+            kind, loop = m.group(2), m.group(3)
+            found = [l for l in names.x["loops"] if alike(l[0][0]) == alike(loop)]
+            if not found:
+                said.append("no loop " + loop)
+                invariants.append(body)
+                continue
+            i = names.x["loops"].index(found[0])
+            (_, new), vars_ = found[0]
+            changed = names.x["changed"][i]
+            d = re.match(r"(%s)((?: %s)*) =" % (N, N), body[m.end():])
+            args = d.group(2).split()
+            ways = ["l." + v if not ch else "l.initial." + v for v, ch in zip(vars_, changed)] + ["l." + v for v, ch in zip(vars_, changed) if ch]
+            if len(ways) != len(args):
+                said.append("loop %s: %d names for %d" % (loop, len(args), len(ways)))
+            to = dict(zip(args, ways))
+            rest = re.sub(N, lambda k: to.get(k.group(0), k.group(0)), body[m.end() + d.end():])
+            # A field of what is renamed is left as it is.
+            label = f"{kind}-{new}"
+            invariants.append("\n".join(notes + [f"abbrev pub {label} : goal.{label}", f"{label} l ={rest}"]))
+            continue
+        m = re.match(r"(%s) : tie\.Need-(%s)(?: [^\n]*)?\n((?:unfolding [^\n]*\n)?)" % (N, N), body)
+        if m:
+            got = names.need(m.group(2))
+            d = re.match(r"(%s) (%s)(?: κs)? =(\s)" % (N, N), body[m.end():])
+            if not d:
+                said.append("unread answer " + m.group(1))
+                answers.append(part)
+                continue
+            term = body[m.end() + d.end():].strip()
+            if term == "search rules":
+                continue
+            if got is None:
+                said.append("no goal " + m.group(2))
+                continue
+            new, place = got
+            term = inline(d.group(3) + body[m.end() + d.end():], d.group(2), names, place, said)
+            answers.append("\n".join(notes + [f"pub {new} : goal.{new}"] + ([m.group(3).rstrip("\n")] if m.group(3) else []) + [f"{new} {d.group(2)} ={term}"]))
+            continue
+        if re.search(r": \{M : Type 1\} → statement M", body):
+            continue
+        if "tie." in body:
+            said.append("helper with tie: " + body.split("\n")[0])
+        answers.append(part)
+    folder = os.path.dirname(path)
+    if invariants:
+        with open(os.path.join(folder, "Invariants.antt"), "w", encoding="utf-8") as f:
+            f.write("\n".join(comment + uses + [f"use {module}.Given as goal", ""]) + "\n" + "\n\n".join(invariants) + "\n")
+    if answers:
+        with open(os.path.join(folder, "Answers.antt"), "w", encoding="utf-8") as f:
+            f.write("\n".join(comment + uses + [f"use {module}.Goals as goal", ""]) + "\n" + "\n\n".join(answers) + "\n")
+    os.remove(path)
+
+
+def main(argv):
+    if len(argv) < 2:
+        print(__doc__)
+        return 2
+    at, crate, only = argv[0], argv[1], argv[2:]
+    with open(os.path.join(at, crate, "names.json"), encoding="utf-8") as f:
+        every = json.load(f)
+    for path in sorted(glob.glob(f"crates/{crate}/proofs/**/Proof.antt", recursive=True)):
+        function = os.path.dirname(path).split("/proofs/", 1)[1].replace("/", ".")
+        if only and function not in only:
+            continue
+        key = f"Rattle-{crate}-proofs.{function}.Lts"
+        if key not in every:
+            print(f"{crate} {function}: no names")
+            continue
+        said = []
+        turn(crate, function, Names(every[key]), path, said)
+        for s in said:
+            print(f"{crate} {function}: {s}")
+    return 0
+
+
+if __name__ == "__main__":
+    raise SystemExit(main(sys.argv[1:]))
