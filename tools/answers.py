@@ -14,6 +14,7 @@ import re
 import sys
 
 N = r"[^\s(){}.;,@\"«»\[\]\\]+"
+V = r"[^\W\d][^\s(){}.:;,@\"«»\[\]\\]*"
 alike = lambda s: re.sub(r"[-_]", "", s).lower()
 LEAVES = {"args", "requires", "ranges", "lifetimes", "auto", "well_formed", "type_inv", "utf8"}
 
@@ -44,9 +45,9 @@ class Names:
 
     def resolve(self, path, place):
         """The new path, after `c`, of an old one without its `before`s."""
-        step, rest = path[0], path[1:]
-        if step in LEAVES:
-            return path
+        step, rest = re.sub("_lem$", "", path[0]), path[1:]
+        if step.replace("-", "_") in LEAVES:
+            return [step.replace("-", "_")] + rest
         line = list(self.above(place))
         best = None
         for i in line:
@@ -66,6 +67,8 @@ class Names:
         for i in line:
             old, new = self.places[i][2]
             if old and alike(old) == alike(step):
+                if new.startswith("if-") or new.endswith("-test"):
+                    rest = [{"left": "false", "taken": "true"}.get(r, r) for r in rest[:1]] + rest[1:]
                 return [new] + rest
         return None
 
@@ -126,11 +129,70 @@ def inline(body, arg, names, place, said):
     return out
 
 
+class Helper:
+    """What a file says once of the facts at a place: it becomes a `let` of each answer that cites it."""
+
+    def __init__(self, body):
+        m = re.match(r"(abbrev )?(?:pub )?(%s) :\s" % N, body)
+        self.name = m.group(2)
+        rest = body[m.end():]
+        d = re.search(r"\n(?:unfolding ([^\n]*)\n)?%s (%s)((?: %s)*) =(?=\s)" % (re.escape(self.name), N, N), rest)
+        self.type, self.term = rest[: d.start()].strip(), rest[d.end():].strip()
+        self.unfolding, self.arg, self.more = (d.group(1) or "").split(), d.group(2), d.group(3).split()
+        self.at = None
+        b = re.match(r"\((%s) : tie\.(%s)[^()]*\)\s*→?\s*" % (N, N), self.type) or re.match(r"()tie\.(%s)[^→]*→\s*" % N, self.type)
+        self.type = self.type[b.end():]
+        self.typed = b.group(1) or self.arg
+        # A place under a name of its own.
+        self.place = bool(re.match(r"tie\.", self.type))
+
+    def uses(self, text):
+        return re.search(r"(?<![^\s(){};,\[\]])%s(?![^\s(){}.;,\[\]])" % re.escape(self.name), text) is not None
+
+    def bare(self, text):
+        """Text with the helper's first argument left out."""
+        name = re.escape(self.name)
+        if self.place:
+            text = re.sub(r"\(%s (%s(?:\.before)*)\)" % (name, V), lambda m: m.group(1), text)
+            return re.sub(r"(?<![^\s(){};,\[\]])%s (%s(?:\.before)*)(?![^\s(){};,\[\]])" % (name, V), lambda m: m.group(1), text)
+        return re.sub(r"(?<![^\s(){};,\[\]])%s (\(%s %s\)|%s(?:\.before)*)(?![^\s(){};,\[\]])" % (name, V, V, V), self.name, text)
+
+
+def expanded(term, unfolding, arg, helpers):
+    """A term that cites helpers, after the lets that say them."""
+    wanted, text = [], term
+    for h in reversed(helpers):
+        if h.uses(text):
+            wanted.insert(0, h)
+            text += "\n" + h.type + "\n" + h.term
+    lets = ""
+    for h in wanted:
+        unfolding += [x for x in h.unfolding if x not in unfolding]
+        if h.place:
+            continue
+        as_arg = lambda s, a: re.sub(r"(?<![^\s(){};,\[\]])%s(?![^\s(){}.;,\[\]])" % re.escape(a), arg, s)
+        term_of = as_arg(h.term, h.arg).lstrip()
+        if h.more:
+            term_of = "λ " + " ".join(h.more) + ". " + term_of
+        lets += "let %s : %s =\n        %s in\n    " % (h.name, as_arg(h.type, h.typed), term_of)
+    for h in helpers:
+        lets, term = h.bare(lets), h.bare(term)
+    return "\n    " + lets + term.lstrip() if lets else term
+
+
 def turn(crate, function, names, path, said):
     text = open(path, encoding="utf-8").read()
     module = "Rattle.%s.proofs.%s" % (crate, function)
     uses, comment, invariants, answers = [], [], [], []
     first = True
+    helpers = []
+    for part in paragraphs(text):
+        body = "\n".join(l for l in part.split("\n") if not l.startswith("--"))
+        if "tie." in body and not re.match(r"(?s)use |.*: tie\.(Need|invariant|decreases)-|.*statement M", body):
+            try:
+                helpers.append(Helper(body))
+            except AttributeError:
+                pass
     for part in paragraphs(text):
         lines = part.split("\n")
         k = 0
@@ -183,10 +245,14 @@ def turn(crate, function, names, path, said):
                 said.append("no goal " + m.group(2))
                 continue
             new, place = got
-            term = inline(d.group(3) + body[m.end() + d.end():], d.group(2), names, place, said)
-            answers.append("\n".join(notes + [f"pub {new} : goal.{new}"] + ([m.group(3).rstrip("\n")] if m.group(3) else []) + [f"{new} {d.group(2)} ={term}"]))
+            unfolding = m.group(3).split()[1:]
+            term = expanded(d.group(3) + body[m.end() + d.end():], unfolding, d.group(2), helpers)
+            term = inline(term, d.group(2), names, place, said)
+            answers.append("\n".join(notes + [f"pub {new} : goal.{new}"] + (["unfolding " + " ".join(unfolding)] if unfolding else []) + [f"{new} {d.group(2)} ={term}"]))
             continue
         if re.search(r": \{M : Type 1\} → statement M", body):
+            continue
+        if any(re.match(r"(abbrev )?(pub )?%s :" % re.escape(h.name), body) for h in helpers):
             continue
         if "tie." in body:
             said.append("helper with tie: " + body.split("\n")[0])

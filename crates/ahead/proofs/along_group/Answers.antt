@@ -1,0 +1,33 @@
+-- The stretch is the one at the front of the octets; the record of its channel is stored where it has a definition.
+use native.Mathlib.Omega.{arith}
+use Rattle.ahead.proofs.Asks.{stretch-inside}
+use Rattle.ahead.proofs.Laws.{goes_none}
+use Rattle.ahead.proofs.Stretches.{group_inside, group_put, group_kept}
+use borrow.Author.Rules.{rules}
+use Rattle.ahead.proofs.along_group.Goals as goal
+
+pub along_ignored-requires : goal.along_ignored-requires
+along_ignored-requires c =
+    (c.requires.0, (c.requires.1.0, (c.requires.1.1.0, (group_inside c.args.within c.args.channel c.requires.1.1.1, c.if-st-eq0.true))))
+
+pub returns-then-st-eq0 : goal.returns-then-st-eq0
+returns-then-st-eq0 c = c.along_ignored.ensures _
+
+pub returns-then-dates : goal.returns-then-dates
+returns-then-dates c = goes_none _ _ _ _ c.none.ensures
+
+pub returns-then-k-eq0 : goal.returns-then-k-eq0
+returns-then-k-eq0 c = goes_none _ _ _ _ c.none-then-k-eq0.ensures
+
+pub returns-then-passed : goal.returns-then-passed
+returns-then-passed c =
+    group_put _ c.args.h _ _ _ c.if-dates.false (omega (arith, c.if-st-eq0.false)) c.requires.1.1.0 c.requires.1.1.1
+    c.requires.0 c.requires.1.0 c.settled-stood.ensures c.along-ahead.ensures c.if-k-eq0.false
+    c.part.ensures c.over-passed.ensures c.around_at-mark.ensures c.if-passed.true c.note.ensures
+    c.put.ensures
+
+pub returns-else-passed : goal.returns-else-passed
+returns-else-passed c =
+    group_kept _ c.args.h _ _ _ c.if-dates.false (omega (arith, c.if-st-eq0.false)) c.requires.1.1.0
+    c.requires.1.1.1 c.requires.0 c.requires.1.0 c.settled-stood.ensures c.along-ahead.ensures
+    c.if-k-eq0.false c.part.ensures c.over-passed.ensures c.around_at-mark.ensures c.if-passed.false

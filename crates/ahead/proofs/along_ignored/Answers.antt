@@ -1,0 +1,16 @@
+-- The items of the stretch at the front of the octets do nothing; what it counts, its octets count.
+use native.Mathlib.Omega.{arith}
+use Rattle.ahead.proofs.Asks.{stretch-inside}
+use Rattle.ahead.proofs.Laws.{goes_none}
+use Rattle.ahead.proofs.Stretches.{ignored_goes}
+use borrow.Author.Rules.{rules}
+use Rattle.ahead.proofs.along_ignored.Goals as goal
+
+pub returns-then-k-eq0 : goal.returns-then-k-eq0
+returns-then-k-eq0 c = λ t. goes_none _ _ _ t c.none.ensures
+
+pub returns : goal.returns
+returns c =
+    λ t. ignored_goes _ c.args.h c.args.around t c.requires.1.1.0 c.requires.1.1.1.0 c.requires.1.1.1.1
+    c.requires.0 c.requires.1.0 c.along-ahead.ensures c.if-k-eq0.false c.part.ensures c.over-passed.ensures
+    c.around_at-mark.ensures

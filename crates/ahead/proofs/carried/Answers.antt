@@ -1,0 +1,14 @@
+-- An effect that leads on is carried out; where it does not, nothing is taken.
+use Rattle.ahead.proofs.Laws.{goes_none, item-goes}
+use borrow.Author.Rules.{rules}
+use Rattle.ahead.proofs.carried.Goals as goal
+
+pub returns-in-Frame : goal.returns-in-Frame
+returns-in-Frame c = goes_none _ _ _ _ c.none.ensures
+
+pub returns-in-Refused : goal.returns-in-Refused
+returns-in-Refused c = goes_none _ _ _ _ c.none-in-Refused.ensures
+
+pub returns-in_default : goal.returns-in_default
+returns-in_default c =
+    item-goes c.requires c.in_default.keys3 c.take-taken.ensures c.stands_in.ensures c.around_at.ensures

@@ -1,0 +1,16 @@
+-- The octets taken so far lead where the walk stands; each turn goes on behind them.
+use mathlib.Core.Path.{refl, ◌∙◌}
+use Prim.Native.Nat.{◌-◌}
+use native.Mathlib.Omega.{arith}
+use lib.ListN.{length}
+use borrow.Author.Rules.{rules}
+use Rattle.heads.proofs.Heads.{rest-is}
+use Rattle.ahead.specs.Ahead.{GoesAhead}
+use Rattle.ahead.proofs.Laws.{goes_none, goes-both, goes_near}
+use Rattle.ahead.proofs.items.Given as goal
+
+abbrev pub invariant-loop-taken : goal.invariant-loop-taken
+invariant-loop-taken l = GoesAhead l.u l.initial.head l.initial.mark l.initial.t (record { l.head = l.head; l.around = l.mark; l.taken = l.taken }) l.t
+
+abbrev pub decreases-loop-taken : goal.decreases-loop-taken
+decreases-loop-taken l = length l.u - l.taken

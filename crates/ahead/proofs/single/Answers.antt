@@ -1,0 +1,12 @@
+-- The octets at hand end with the definite group around.
+use Rattle.ahead.proofs.Laws.{reach_of_lem, reach_in}
+use borrow.Author.Rules.{rules}
+use Rattle.ahead.proofs.single.Goals as goal
+
+pub item_in-requires : goal.item_in-requires
+item_in-requires c =
+    reach_in _ c.args.h c.requires c.stands_in.ensures c.reach.ensures
+
+pub returns : goal.returns
+returns c =
+    reach_of_lem c.stands_in.ensures c.reach.ensures c.item_in.ensures

@@ -1,0 +1,26 @@
+-- By the channel that is found: what is seen of a frame of the file are its samples.
+use mathlib.Core.Path.{ap, ◌∙◌}
+use mathlib.Core.List.{List}
+use Prim.Native.Nat.{ℕ}
+use lib.ListN.{length}
+use Rattle.heads.specs.Answer.{Answer, map_answer, left_by}
+use Rattle.reader.proofs.Answers.{located, unseen}
+use Rattle.bulk.specs.Samples.{read_of, count_read}
+use Rattle.strides.proofs.Channels.{kept}
+use Rattle.bulk.proofs.Reading.{read_located}
+use borrow.Author.Rules.{rules}
+use Rattle.bulk.proofs.samples.Goals as goal
+
+pub returns-in-Refused : goal.returns-in-Refused
+unfolding count_read read_of
+returns-in-Refused c =
+    let e = unseen _ _ _ _ _ _ c.look_up.ensures c.in-Refused.is in
+    (ap (map_answer length) e, kept _ e)
+
+pub returns-in-Channel : goal.returns-in-Channel
+unfolding count_read
+returns-in-Channel c =
+    let a = c.args in
+    let l = located a.s.now a.frame a.channel _ c.look_up.ensures c.in-Channel.is in
+    let e = read_located l a.first (length a.out.now) in
+    (c.seen.ensures.0 ∙ ap (map_answer length) e, c.seen.ensures.1 ∙ ap (λ (b : Answer (List ℕ)). left_by b a.out.now) e)

@@ -1,0 +1,31 @@
+-- By the channel that is found: what is seen of a frame of the file are its samples.
+use mathlib.Core.Path.{ap, ◌∙◌}
+use mathlib.Core.List.{List}
+use Prim.Native.Nat.{min}
+use lib.ListN.{length}
+use Rattle.heads.specs.Answer.{Answer, map_answer, left_by}
+use Rattle.values.specs.Sample.{Said}
+use Rattle.reader.proofs.Answers.{located, unseen}
+use Rattle.bulk.specs.Samples.{values_of, kinds_in, wholes_in}
+use Rattle.strides.proofs.Channels.{kept}
+use Rattle.bulk.proofs.Reading.{values_located}
+use borrow.Author.Rules.{rules}
+use Rattle.bulk.proofs.values.Goals as goal
+
+pub returns-in-Refused : goal.returns-in-Refused
+unfolding values_of
+returns-in-Refused c =
+    let e = unseen _ _ _ _ _ _ c.look_up.ensures c.in-Refused.is in
+    (ap (map_answer length) e, (kept _ (ap kinds_in e), kept _ (ap wholes_in e)))
+
+pub returns-in-Channel : goal.returns-in-Channel
+returns-in-Channel c =
+    let a = c.args in
+    let l = located a.s.now a.frame a.channel _ c.look_up.ensures c.in-Channel.is in
+    let e = values_located l a.first (min (length a.kinds.now) (length a.wholes.now)) in (
+      c.values_seen.ensures.0 ∙ ap (map_answer length) e,
+      (
+        c.values_seen.ensures.1.0 ∙ ap (λ (b : Answer (List Said)). left_by (kinds_in b) a.kinds.now) e,
+        c.values_seen.ensures.1.1 ∙ ap (λ (b : Answer (List Said)). left_by (wholes_in b) a.wholes.now) e,
+      ),
+    )

@@ -1,0 +1,52 @@
+-- By how many samples are read: what is told of them are their values.
+use mathlib.Core.Path.{sym, ap, ◌∙◌}
+use Prim.Native.Nat.{min}
+use native.Mathlib.Omega.{arith}
+use lib.ListN.{length, length-map}
+use lib.Seq.{sets}
+use Rattle.octets.specs.Number.{Octets}
+use Rattle.heads.specs.Answer.{answered, map_answer}
+use Rattle.view.proofs.Lying.{lies_seen}
+use Rattle.strides.proofs.Walks.{length-bits}
+use Rattle.strides.proofs.Channels.{kept, filled}
+use Rattle.bulk.specs.Samples.{bits_seen, values_by, values_seen, kinds_in, wholes_in}
+use Rattle.bulk.proofs.Reading.{read_refused, read_asked, read_bits}
+use Rattle.bulk.proofs.Telling.{there-small, kinds_told, wholes_told}
+use borrow.Author.Rules.{rules}
+use Rattle.bulk.proofs.values_seen.Goals as goal
+
+pub tell_samples-requires : goal.tell_samples-requires
+tell_samples-requires c =
+    let a = c.args in
+    let small = there-small a.v (omega arith) (omega arith) in
+    let room = min (length a.kinds.now) (length a.wholes.now) in
+    let k = read_asked a.s.now a.v a.first room (rw c.smaller.ensures at c.readable.ensures) c.in-Samples.is in
+    let n = k.1 in
+    record { lies = lies_seen k.0.lies; number = omega arith; small = omega (arith, small); kinds_fit = omega arith; wholes_fit = omega arith }
+
+pub returns-in-Refused : goal.returns-in-Refused
+unfolding values_seen
+returns-in-Refused c =
+    let a = c.args in
+    let room = min (length a.kinds.now) (length a.wholes.now) in
+    let read = read_refused a.s.now a.v a.first room (rw c.smaller.ensures at c.readable.ensures) c.in-Refused.is in
+    let e = ap (map_answer (values_by a.v.settings)) read in
+    (ap (map_answer length) e, (kept _ (ap kinds_in e), kept _ (ap wholes_in e)))
+
+pub returns-in-Samples : goal.returns-in-Samples
+unfolding values_seen
+returns-in-Samples c =
+    let a = c.args in
+    let room = min (length a.kinds.now) (length a.wholes.now) in
+    let many = rw c.smaller.ensures at c.readable.ensures in
+    let some = c.in-Samples.is in
+    let fits = (read_asked a.s.now a.v a.first room many some).1 in
+    let e = ap (map_answer (values_by a.v.settings)) (read_bits a.s.now a.v a.first room many some) in
+    let n = c.in-Samples.n in
+    let long = length-bits (bits_seen a.s.now a.v) a.first n in
+    let octets : Octets a.s.now = λ i. (c.type_inv.s i).fits in
+    let kinds = c.tell_samples.ensures.0 ∙ ap (sets a.kinds.now 0) (kinds_told a.s.now octets a.v a.first n) in
+    let wholes = c.tell_samples.ensures.1 ∙ ap (sets a.wholes.now 0) (wholes_told a.s.now octets a.v a.first n) in (
+      ap answered (sym (simp length-map long)) ∙ ap (map_answer length) e,
+      (filled _ (ap kinds_in e) (simp length-map (omega arith)) kinds, filled _ (ap wholes_in e) (simp length-map (omega arith)) wholes),
+    )

@@ -1,0 +1,23 @@
+-- By what the pass over the file says, and by whether the canonical file is longer than a file may be.
+use borrow.Author.Rules.{rules}
+use mathlib.Core.Path.{◌∙◌}
+use native.Mathlib.Omega.{arith}
+use Rattle.canonical.proofs.Lengths.{sized-refused, sized-none, sized-long, sized-whole}
+use Rattle.canonical.proofs.canonical_length.Goals as goal
+
+pub returns-in_default : goal.returns-in_default
+returns-in_default c =
+    sized-refused _ _ _ c.scan_file-pass.ensures _ (c.in_default.is ∙ c.in-Refused.is)
+
+pub returns-then-n-eq0 : goal.returns-then-n-eq0
+returns-then-n-eq0 c =
+    sized-none _ _ _ c.scan_file-pass.ensures _ c.in-Frames.is c.if-n-eq0.true
+
+pub returns-then-size : goal.returns-then-size
+returns-then-size c =
+    c.no_room.ensures
+    ∙ sized-long _ _ _ c.scan_file-pass.ensures _ c.in-Frames.is c.if-n-eq0.false (omega (arith, c.if-size.true))
+
+pub returns : goal.returns
+returns c =
+    sized-whole _ _ _ c.scan_file-pass.ensures _ c.in-Frames.is c.if-n-eq0.false (omega (arith, c.if-size.false))

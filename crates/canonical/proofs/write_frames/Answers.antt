@@ -1,0 +1,59 @@
+-- Frame after frame of the walk: what is written so far is the canonical file of the frames met so far.
+use borrow.Author.Rules.{rules}
+use mathlib.Core.Path.{◌≡◌, sym, ◌∙◌}
+use mathlib.Core.List.{List, [], map}
+use Prim.Native.Nat.{ℕ, ◌≤◌, ◌-◌}
+use native.Mathlib.Omega.{arith}
+use lib.ListN.{length, length-replicate}
+use Rattle.stores.proofs.Stores.{put_long}
+use Rattle.standing.specs.Standing.{octets_limit}
+use Rattle.words.specs.Words.{table_words, records_in, Holding}
+use Rattle.records.specs.Records.{outdated}
+use Rattle.words.proofs.Laws.{records-full}
+use Rattle.walk.specs.declared.Head.{Head}
+use Rattle.walk.specs.Advance.{first_head, stand_of}
+use Rattle.walk.proofs.Joins.{Reaches, reaches_cleared}
+use Rattle.canonical.proofs.Writing.{Writing, ready_small, writing_first, writing_later, frame-start, writing_frame, written_done}
+use Rattle.canonical.proofs.write_frames.Goals as goal
+
+-- The walk begins with records that are all of the time before the first item.
+started : {s u v : List ℕ} {h : Head} → length s ≤ octets_limit → length u ≡ table_words → Holding u (map outdated (records_in u)) v → h ≡ first_head → Reaches s [] (stand_of h v)
+started {s = s} {u = u} l f k e = rw (e, k.records) (reaches_cleared s (records_in u) l (records-full u f))
+
+pub put_order-at-requires : goal.put_order-at-requires
+put_order-at-requires c =
+    omega (arith, c.requires.room)
+
+pub loop-v-init : goal.loop-v-init
+loop-v-init c =
+    let long = length-replicate {A = ℕ} table_words 0 in (
+      writing_first c.requires (started (ready_small c.requires) long c.clear.ensures c.first-h.ensures)
+          c.put_order-at.ensures,
+      c.clear.ensures.long ∙ long,
+    )
+
+pub slice_bounds-advance-end : goal.slice_bounds-advance-end
+slice_bounds-advance-end c = sym c.loop-v.invariant.1
+
+pub overflow_cast-v : goal.overflow_cast-v
+overflow_cast-v c =
+    frame-start c.loop-v.invariant.0 c.in-Frame.is c.advance-m.ensures.same
+
+pub loop-v-smaller : goal.loop-v-smaller
+loop-v-smaller c =
+    omega (arith, writing_later c.loop-v.invariant.0 c.in-Frame.is c.advance-m.ensures.same)
+
+pub loop-v-preserved : goal.loop-v-preserved
+loop-v-preserved c = (
+  writing_frame c.loop-v.invariant.0 c.in-Frame.is c.advance-m.ensures.same (λ (k : ℕ). omega (arith, c.type_inv.s k))
+      c.part-w.ensures c.put_frame-at.ensures,
+  c.advance-m.ensures.long ∙ c.loop-v.invariant.1,
+)
+
+pub shape_of-out-in_default : goal.shape_of-out-in_default
+shape_of-out-in_default c =
+    put_long c.loop-v.invariant.0.put ∙ put_long c.put_order-at.ensures
+
+pub returns-in_default : goal.returns-in_default
+returns-in_default c =
+    written_done c.loop-v.invariant.0 c.advance-m.result.step c.in_default.keys2 c.advance-m.ensures.same c.put_order-at.ensures

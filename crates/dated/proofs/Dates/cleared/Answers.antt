@@ -1,0 +1,6 @@
+-- The time is one later.
+use Rattle.std.proofs.Common.{rules}
+use Rattle.dated.proofs.Dates.cleared.Goals as goal
+
+pub returns : goal.returns
+returns c = rw c.wrapping_add_u32.ensures

@@ -1,0 +1,6 @@
+-- One time is noted, and now is one later.
+use Rattle.std.proofs.Common.{rules}
+use Rattle.dated.proofs.Dates.defined.Goals as goal
+
+pub returns : goal.returns
+returns c = rw (c.timed-times.ensures, c.wrapping_add_u32.ensures)

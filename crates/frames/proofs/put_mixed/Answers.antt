@@ -1,0 +1,40 @@
+-- Whole sequences, and then the part of one that is cut off.
+use native.Mathlib.Nat.{div-mul-le_self, div-add-mod'}
+use native.Mathlib.Omega.{arith}
+use lib.ListN.{take}
+use Rattle.words.specs.Words.{held_in}
+use Rattle.frames.proofs.Samples.{mixed_whole, mixed_room, mixed_put, mixed_none}
+use borrow.Author.Rules.{rules}
+use Rattle.frames.proofs.put_mixed.Goals as goal
+
+pub returns-then-sequence-eq0 : goal.returns-then-sequence-eq0
+returns-then-sequence-eq0 c =
+    let a = c.args in
+    let pre = c.requires in
+    mixed_none (take a.count (held_in a.t.now)) a.octets a.w.now pre.0.1 pre.1.1 c.if-sequence-eq0.true _ _
+
+pub put_blocks-next-requires : goal.put_blocks-next-requires
+put_blocks-next-requires c =
+    let a = c.args in
+    let pre = c.requires in
+    let whole = mixed_whole (take a.count (held_in a.t.now)) a.octets a.w.now pre.0.1 pre.1.1 in
+    ((pre.0.0, omega (arith, whole, pre.1.0)), omega (arith, whole, pre.1.2))
+
+pub overflow_mul-whole : goal.overflow_mul-whole
+overflow_mul-whole c =
+    let a = c.args in
+    omega (arith, div-mul-le_self a.octets a.sequence)
+
+pub put_part-requires : goal.put_part-requires
+put_part-requires c =
+    let a = c.args in
+    let pre = c.requires in
+    let cs = take a.count (held_in a.t.now) in
+    let room = mixed_room cs a.octets a.w.now pre.0.1 pre.1.1 pre.1.0 pre.1.2 c.put_blocks-next.ensures in
+    ((pre.0.0, omega (arith, div-add-mod' a.octets a.sequence, pre.1.0)), room)
+
+pub returns : goal.returns
+returns c =
+    let a = c.args in
+    let pre = c.requires in
+    mixed_put (take a.count (held_in a.t.now)) a.octets a.w.now pre.0.1 pre.1.1 c.put_blocks-next.ensures c.put_part.ensures

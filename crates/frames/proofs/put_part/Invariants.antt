@@ -1,0 +1,17 @@
+-- The samples still to come of the sequence, stored from here on, give the wanted buffer.
+use Prim.Native.Nat.{◌-◌, ◌^◌, ◌<◌}
+use native.Mathlib.Omega.{arith}
+use lib.ListN.{length, take}
+use Rattle.words.specs.Words.{held_in}
+use Rattle.stores.proofs.Stores.{put_long}
+use Rattle.frames.specs.Parts.{Few}
+use Rattle.frames.proofs.Coming.{nth, taken-long}
+use Rattle.frames.proofs.Parting.{block_narrow, width_some, Parts, parts_first, parts_next, parts_last, parts_done}
+use borrow.Author.Rules.{rules}
+use Rattle.frames.proofs.put_part.Given as goal
+
+abbrev pub invariant-loop-i : goal.invariant-loop-i
+invariant-loop-i l = Few l.count l.t × Parts (take l.count (held_in l.t)) l.w l.from l.rest l.at l.initial.out l.i l.place l.left l.next l.out
+
+abbrev pub decreases-loop-i : goal.decreases-loop-i
+decreases-loop-i l = l.count - l.i

@@ -1,0 +1,51 @@
+-- One run as it stands, one run turned round, or block by block.
+use mathlib.Core.Path.{subst, ◌≡◌, ◌∙◌}
+use mathlib.Core.List.{List}
+use native.Mathlib.Omega.{arith}
+use borrow.Author.Tests.{not-true, not-false}
+use lib.ListN.{take}
+use Rattle.words.specs.Words.{held_in}
+use Prim.Native.Nat.{ℕ, ◌<◌}
+use Rattle.settings.specs.declared.Settings.{Settings}
+use Rattle.laid.specs.Turned.{Even}
+use Rattle.stores.specs.Storing.{put_fits}
+use Rattle.groups.proofs.Puts.{put_as}
+use Rattle.frames.proofs.Samples.{samples_big, samples-little, samples_narrow, samples_even, even_room, taken-room}
+use borrow.Author.Rules.{rules}
+use Rattle.frames.proofs.put_samples.Goals as goal
+
+one_wide : (cs : List Settings) (v : ℕ) → (0 < v → Even v cs) → v ≡ 1 → Even 1 cs
+one_wide cs v f e = subst (λ (w : ℕ). Even w cs) e (f (omega arith))
+
+pub returns-then-not-little : goal.returns-then-not-little
+returns-then-not-little c =
+    let a = c.args in
+    let cs = take a.count (held_in a.t.now) in
+    put_as (samples_big {little = a.little} cs _ _ (not-true _ c.if-not-little.true))
+    (put_fits (taken-room a.octets a.at a.w.now a.out.now c.requires.1.2) c.copy.ensures)
+
+pub returns-then-v-eq1 : goal.returns-then-v-eq1
+returns-then-v-eq1 c =
+    let a = c.args in
+    let cs = take a.count (held_in a.t.now) in
+    let one = one_wide cs _ c.even_width-v.ensures c.if-v-eq1.true in
+    let little = not-false _ c.if-not-little.false in
+    put_as (samples_narrow cs a.octets a.w.now c.requires.0.1 c.requires.1.1 one ∙ samples-little {little = a.little} cs _ _ little)
+    (put_fits (taken-room a.octets a.at a.w.now a.out.now c.requires.1.2) c.copy-then-v-eq1.ensures)
+
+pub returns-then-v-eq0 : goal.returns-then-v-eq0
+returns-then-v-eq0 c =
+    let a = c.args in
+    put_as (samples-little {little = a.little} (take a.count (held_in a.t.now)) _ _ (not-false _ c.if-not-little.false)) c.put_mixed.ensures
+
+pub returns : goal.returns
+returns c =
+    let a = c.args in
+    let cs = take a.count (held_in a.t.now) in
+    let v = c.even_width-v in
+    let p : 0 < v.result = omega arith in
+    let pre = c.requires in
+    let long = even_room cs a.octets a.w.now pre.0.1 pre.1.1 pre.1.0 v.result p (v.ensures p) in
+    let little = not-false _ c.if-not-little.false in
+    put_as (samples_even cs a.octets a.w.now pre.0.1 pre.1.1 pre.1.0 _ p (v.ensures p) ∙ samples-little {little = a.little} cs _ _ little)
+    (put_fits (omega (arith, pre.1.2)) c.turn.ensures)

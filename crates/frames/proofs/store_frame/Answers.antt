@@ -1,0 +1,43 @@
+-- Head, groups, tag, length and samples, one after the other.
+use mathlib.Core.Path.{◌≡◌}
+use lib.ListN.{length, take}
+use Rattle.words.specs.Words.{held_in}
+use mir.Facts.{to_z-of_z}
+use Rattle.frames.proofs.Coming.{taken-long}
+use Rattle.frames.proofs.Given.{asked-samples, asked-long}
+use Rattle.frames.proofs.Stored.{groups-room, samples-room, frame-stored}
+use borrow.Author.Rules.{rules}
+use Rattle.frames.proofs.store_frame.Goals as goal
+
+pub put_groups-b-requires : goal.put_groups-b-requires
+put_groups-b-requires c =
+    let tabled : let a = c.args in length (take a.count (held_in a.t.now)) ≡ a.count =
+        λ = let a. c.args in taken-long a.t.now c.requires.0.0 in
+            let a = c.args in
+    let pre = c.requires in
+    let start = to_z-of_z c.ranges.start in
+    (pre.0.0, groups-room (take a.count (held_in a.t.now)) a.sequences a.octets (tabled) start pre.1.1 c.put_head-a.ensures)
+
+pub put_samples-requires : goal.put_samples-requires
+put_samples-requires c =
+    let tabled : let a = c.args in length (take a.count (held_in a.t.now)) ≡ a.count =
+        λ = let a. c.args in taken-long a.t.now c.requires.0.0 in
+                    let a = c.args in
+    let pre = c.requires in
+    let start = to_z-of_z c.ranges.start in
+    let room =
+    samples-room (take a.count (held_in a.t.now)) a.sequences a.octets (tabled) start pre.1.1 c.put_head-a.ensures
+    c.put_groups-b.ensures c.open_waveform-c.ensures in
+    let samples = asked-samples (take a.count (held_in a.t.now)) a.sequences a.w.now pre.1.0.0 pre.0.1 in
+    (pre.0, (samples.0, samples.1, room))
+
+pub returns : goal.returns
+returns c =
+    let tabled : let a = c.args in length (take a.count (held_in a.t.now)) ≡ a.count =
+        λ = let a. c.args in taken-long a.t.now c.requires.0.0 in
+                        let a = c.args in
+    let pre = c.requires in
+    let start = to_z-of_z c.ranges.start in
+    frame-stored (take a.count (held_in a.t.now)) a.sequences a.octets (tabled) start pre.1.1 c.put_head-a.ensures
+    c.put_groups-b.ensures c.open_waveform-c.ensures
+    (asked-long a.little (take a.count (held_in a.t.now)) a.sequences a.w.now pre.1.0.0) c.put_samples.ensures

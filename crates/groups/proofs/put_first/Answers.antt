@@ -1,0 +1,15 @@
+-- Four numbers' items, one after the other.
+use native.Mathlib.Omega.{arith}
+use lib.ListN.{length-append}
+use Rattle.groups.proofs.Puts.{put_two, put_more}
+use borrow.Author.Rules.{rules}
+use Rattle.groups.proofs.put_first.Goals as goal
+
+pub returns : goal.returns
+returns c =
+    let room = simp length-append at c.requires in
+    put_more (simp length-append (omega arith))
+    (put_more (simp length-append (omega arith))
+    (put_two (omega arith) c.put_field-a.ensures c.put_field-b.ensures)
+    c.put_field-d.ensures)
+    c.put_field.ensures

@@ -1,0 +1,12 @@
+-- Each number by itself.
+use borrow.Author.Rules.{rules}
+use Rattle.held.proofs.core_at.Goals as goal
+
+pub returns : goal.returns
+returns c =
+    λ i. record {
+      count = c.word.ensures i;
+      around = c.word-2.ensures i;
+      held = c.held_at.ensures i;
+      stage = c.stage_at-stage.ensures i;
+    }

@@ -1,0 +1,7 @@
+-- Each number by itself.
+use Rattle.items.specs.Walk.{refusal}
+use borrow.Author.Rules.{rules}
+use Rattle.held.proofs.refusal_at.Goals as goal
+
+pub returns : goal.returns
+returns c = λ i. refusal (c.one_at.ensures i) (c.word.ensures i)

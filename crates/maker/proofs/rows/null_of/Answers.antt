@@ -1,0 +1,16 @@
+-- By whether there is a null.
+use Rattle.maker.proofs.Channels.{null-some}
+use Rattle.maker.specs.Given.{given_at}
+use Rattle.maker.specs.Given.{null_made}
+use mathlib.Core.Path.{sym, ◌∙◌}
+use borrow.Author.Rules.{rules}
+use Rattle.maker.proofs.rows.null_of.Goals as goal
+
+pub returns-then-no_null : goal.returns-then-no_null
+unfolding null_made
+returns-then-no_null c = sym (rw (sym c.no_null.ensures ∙ c.if-no_null.true))
+
+pub returns : goal.returns
+returns c =
+    let a = c.args in
+    null-some (given_at a.numbers.now a.bits.now a.i) c.requires.1 (sym c.no_null.ensures ∙ c.if-no_null.false)

@@ -1,0 +1,21 @@
+-- The bits are looked at where the data type is in the table.
+use Rattle.maker.specs.Given.{in_table}
+use borrow.Author.Tests.{not-true, not-false}
+use mathlib.Core.Path.{sym, ap₂, ◌∙◌}
+use Rattle.octets.specs.Pick.{both}
+use borrow.Author.Rules.{rules}
+use Rattle.maker.proofs.rows.row_fits.Goals as goal
+
+pub returns-then-not-numbers_fit : goal.returns-then-not-numbers_fit
+unfolding in_table
+returns-then-not-numbers_fit c = sym (rw (sym c.numbers_fit.ensures ∙ not-true _ c.if-not-numbers_fit.true))
+
+pub bits_within-within-requires : goal.bits_within-within-requires
+bits_within-within-requires c =
+    (c.requires, sym c.numbers_fit.ensures ∙ not-false _ c.if-not-numbers_fit.false)
+
+pub returns : goal.returns
+unfolding in_table
+returns c =
+    let numbers = sym c.numbers_fit.ensures ∙ not-false _ c.if-not-numbers_fit.false in
+    c.all.ensures ∙ rw numbers (ap₂ both c.scales_fit-scales.ensures c.bits_within-within.ensures)

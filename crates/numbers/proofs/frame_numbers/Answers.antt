@@ -1,0 +1,9 @@
+-- Each number in its order.
+use mathlib.Core.List.{[], ◌∷◌}
+use Rattle.numbers.specs.Numbers.{frame_numbers_of}
+use borrow.Author.Rules.{rules}
+use Rattle.numbers.proofs.frame_numbers.Goals as goal
+
+pub returns : goal.returns
+unfolding frame_numbers_of
+returns c = let v = c.args.v in λ i. v.channels ∷ v.sequences ∷ c.flag_number.ensures i ∷ v.place ∷ v.len ∷ v.octets ∷ []

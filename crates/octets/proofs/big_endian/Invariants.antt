@@ -1,0 +1,18 @@
+-- `octets::big_endian` meets its contract: what was read so far, with the octets that are left after it, always gives the number
+-- of all octets. Assumes nothing.
+use Prim.Native.Nat.{◌≤◌, ◌<◌, ◌-◌}
+use mathlib.Core.Path.{◌≡◌, refl}
+use native.Mathlib.Nat.{lt_of_lt_of_le}
+use native.Mathlib.Omega.{arith}
+use lib.Dec.{lit<}
+use lib.ListN.{length, drop}
+use Rattle.octets.specs.Number.{range, big_from, number_of}
+use Rattle.octets.proofs.Laws.{push, cap, push_fits, big_turn, big_end}
+use borrow.Author.Rules.{rules}
+use Rattle.octets.proofs.big_endian.Given as goal
+
+abbrev pub invariant-loop-i : goal.invariant-loop-i
+invariant-loop-i l = (l.i ≤ length l.s) × (l.n < range l.i) × (big_from l.n (drop l.i l.s) ≡ big_from 0 l.s)
+
+abbrev pub decreases-loop-i : goal.decreases-loop-i
+decreases-loop-i l = length l.s - l.i

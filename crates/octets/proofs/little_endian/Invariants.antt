@@ -1,0 +1,18 @@
+-- `octets::little_endian` meets its contract: it reads from the back, and what was read so far is the number of the octets passed.
+-- Assumes nothing.
+use Prim.Native.Nat.{◌≤◌, ◌<◌, ◌-◌}
+use mathlib.Core.Path.{◌≡◌}
+use native.Mathlib.Nat.{lt_of_lt_of_le}
+use native.Mathlib.Omega.{arith}
+use lib.Dec.{lit<}
+use lib.ListN.{length, drop}
+use Rattle.octets.specs.Number.{range, little_of, number_of}
+use Rattle.octets.proofs.Laws.{push_back, range_pos, cap, push_fits, little-start, little_turn, little_end}
+use borrow.Author.Rules.{rules}
+use Rattle.octets.proofs.little_endian.Given as goal
+
+abbrev pub invariant-loop-i : goal.invariant-loop-i
+invariant-loop-i l = (l.i ≤ length l.s) × (l.n < range (length l.s - l.i)) × (l.n ≡ little_of (drop l.i l.s))
+
+abbrev pub decreases-loop-i : goal.decreases-loop-i
+decreases-loop-i l = l.i

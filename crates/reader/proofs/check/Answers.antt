@@ -1,0 +1,7 @@
+-- The pass's count or refusal.
+use Rattle.reader.proofs.Answers.{checked_is}
+use borrow.Author.Rules.{rules}
+use Rattle.reader.proofs.check.Goals as goal
+
+pub returns : goal.returns
+returns c = checked_is _ _ _ c.scan_file-pass.ensures

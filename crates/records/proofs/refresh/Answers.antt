@@ -1,0 +1,19 @@
+-- All records that there are, by the words of the root settings.
+use mathlib.Core.Path.{ap, ◌∙◌}
+use Rattle.dated.specs.declared.Dated.{Dated}
+use Rattle.records.proofs.Channels.{channels-few}
+use Rattle.records.proofs.Renewing.{words-settings}
+use Rattle.records.proofs.Refreshing.{refreshed-few}
+use borrow.Author.Rules.{rules}
+use Rattle.records.proofs.refresh.Goals as goal
+
+pub renew_all-requires : goal.renew_all-requires
+renew_all-requires c = (
+  channels-few _ _ c.at_most-n.ensures,
+  (ap (λ (x : Dated). x.at) (c.words_of-w.ensures ∙ c.note.ensures), c.since_of-since.ensures),
+)
+
+pub returns : goal.returns
+returns c =
+    let e = words-settings c.words_of-w.result _ (c.words_of-w.ensures ∙ c.note.ensures) in
+    rw e at (refreshed-few _ c.at_most-n.ensures c.renew_all.ensures)

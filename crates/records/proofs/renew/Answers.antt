@@ -1,0 +1,20 @@
+-- A record that is up to date stays as it is; every other takes over what the root has defined since.
+use mathlib.Core.Path.{refl}
+use mathlib.Core.Logic.{⊎_elim}
+use native.Mathlib.Omega.{arith}
+use Rattle.records.specs.Records.{settings_by}
+use Rattle.records.proofs.Renewing.{renew_keeps, renew_stores}
+use borrow.Author.Rules.{rules}
+use Rattle.records.proofs.renew.Goals as goal
+
+pub returns-then-at-dates : goal.returns-then-at-dates
+returns-then-at-dates c =
+    let a = c.args in
+    renew_keeps a.t.now a.k (settings_by a.w.now) a.dates (omega arith) c.time-at.ensures c.if-dates-at.true c.if-at-dates.true
+
+pub returns : goal.returns
+returns c =
+    let a = c.args in
+    renew_stores a.t.now a.k (settings_by a.w.now) a.dates (omega arith) c.time-at.ensures
+    c.overtake.ensures c.requires.1.1 c.requires.1.0 refl c.behind_from.ensures (search rules)
+    (λ late now. ⊎_elim {C = ⊥} (λ p. p.2.left now) (λ p. omega (arith, p.left, late)) c.if-dates-at.branch)

@@ -1,0 +1,38 @@
+-- Record by record: those behind are up to date.
+use Prim.Native.Nat.{◌-◌}
+use native.Mathlib.Omega.{arith}
+use borrow.Author.Rules.{rules}
+use Rattle.records.specs.Records.{settings_by}
+use Rattle.records.proofs.Refreshing.{Refreshing, refreshing_start, refreshing_room, refreshing_more, refreshing_all}
+use Rattle.records.proofs.renew_all.Goals as goal
+
+pub loop-i-init : goal.loop-i-init
+loop-i-init c =
+    let few = c.requires.0 in
+    refreshing_start _ _ few.0 few.1 c.none-l.ensures
+
+pub renew-requires : goal.renew-requires
+renew-requires c =
+    (refreshing_room c.loop-i.invariant c.loop-i-test.true, c.requires.1)
+
+pub lay_next-l-requires : goal.lay_next-l-requires
+lay_next-l-requires c =
+    omega (arith, refreshing_room c.loop-i.invariant c.loop-i-test.true, c.renew.ensures.long)
+
+pub overflow_add-i : goal.overflow_add-i
+overflow_add-i c =
+    omega (arith, c.loop-i.invariant.sums.few, c.loop-i-test.true)
+
+pub loop-i-smaller : goal.loop-i-smaller
+loop-i-smaller c = omega (arith, c.loop-i-test.true)
+
+pub loop-i-preserved : goal.loop-i-preserved
+loop-i-preserved c =
+    let laid = c.lay_next-l.ensures in
+    refreshing_more c.loop-i.invariant c.loop-i-test.true c.renew.ensures laid.0 _ laid.1
+
+pub shape_of-t : goal.shape_of-t
+shape_of-t c = c.loop-i.invariant.long
+
+pub returns : goal.returns
+returns c = refreshing_all c.loop-i.invariant c.loop-i-test.false

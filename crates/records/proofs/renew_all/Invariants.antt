@@ -1,0 +1,13 @@
+-- Record by record: those behind are up to date.
+use Prim.Native.Nat.{◌-◌}
+use native.Mathlib.Omega.{arith}
+use borrow.Author.Rules.{rules}
+use Rattle.records.specs.Records.{settings_by}
+use Rattle.records.proofs.Refreshing.{Refreshing, refreshing_start, refreshing_room, refreshing_more, refreshing_all}
+use Rattle.records.proofs.renew_all.Given as goal
+
+abbrev pub invariant-loop-i : goal.invariant-loop-i
+invariant-loop-i l = Refreshing l.initial.t l.n (settings_by l.w) l.dates l.i l.l l.t
+
+abbrev pub decreases-loop-i : goal.decreases-loop-i
+decreases-loop-i l = l.n - l.i

@@ -1,0 +1,16 @@
+-- The loop's invariant: the samples before the one at hand are laid.
+use mathlib.Core.Path.{sym, ◌∙◌}
+use Prim.Native.Nat.{◌-◌, ◌*◌, ◌^◌, ◌<◌}
+use native.Mathlib.Omega.{arith}
+use lib.ListN.{length}
+use borrow.Author.Rules.{rules}
+use Rattle.rows.specs.Rows.{row_words, laid}
+use Rattle.rows.specs.Laying.{Onward}
+use Rattle.rows.proofs.Laying.{Fitting, onward-none, onward-more, tests_true, tests_false}
+use Rattle.rows.proofs.lay_on.Given as goal
+
+abbrev pub invariant-loop-bits : goal.invariant-loop-bits
+invariant-loop-bits l = Onward l.t l.v l.count l.u (laid l.initial.x l.initial.i l.initial.n) l.initial.out (laid l.x l.i l.n) l.out
+
+abbrev pub decreases-loop-bits : goal.decreases-loop-bits
+decreases-loop-bits l = length l.u - l.i

@@ -1,0 +1,12 @@
+-- `runs::copy_octets` meets its contract. The loop's invariant: the stores still to come give the buffer that is wanted.
+use mathlib.Core.Path.{refl}
+use Prim.Native.Nat.{◌-◌}
+use native.Mathlib.Omega.{arith}
+use Rattle.runs.proofs.Moves.{Moving, begins, one_moves, moved}
+use Rattle.runs.proofs.copy_octets.Given as goal
+
+abbrev pub invariant-loop-i : goal.invariant-loop-i
+invariant-loop-i l = Moving l.src l.q l.n l.initial.dst l.p l.dst l.i
+
+abbrev pub decreases-loop-i : goal.decreases-loop-i
+decreases-loop-i l = l.n - l.i

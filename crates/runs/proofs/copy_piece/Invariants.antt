@@ -1,0 +1,24 @@
+-- `runs::copy_piece` meets its contract. The first loop's invariant: the array begins with the octets read so far. The second's: the stores still to come give the
+-- buffer that is wanted.
+use borrow.Author.Rules.{rules}
+use mathlib.Core.Path.{◌≡◌, refl, sym, ◌∙◌}
+use mathlib.Core.List.{List}
+use Prim.Native.Nat.{ℕ, ◌+◌, ◌-◌, ◌≤◌, ◌<◌}
+use native.Mathlib.Numerals.{add-one}
+use native.Mathlib.Omega.{arith}
+use lib.ListN.{length, set, take, drop, get_or, length-set, length-drop, length-replicate}
+use lib.Seq.{take-suc, take-suc-set, get_or-take, get_or-drop}
+use Rattle.runs.proofs.Moves.{Moving, begins, one_moves, moved}
+use Rattle.runs.proofs.copy_piece.Given as goal
+
+abbrev pub invariant-loop-i : goal.invariant-loop-i
+invariant-loop-i l = Held l.src l.q l.k l.piece l.i
+
+abbrev pub decreases-loop-i : goal.decreases-loop-i
+decreases-loop-i l = l.k - l.i
+
+abbrev pub invariant-loop-j : goal.invariant-loop-j
+invariant-loop-j l = Moving l.src l.q l.k l.initial.dst l.p l.dst l.j
+
+abbrev pub decreases-loop-j : goal.decreases-loop-j
+decreases-loop-j l = l.k - l.j

@@ -1,0 +1,21 @@
+-- `runs::turn_sample` meets its contract. The loop's invariant: the stores still to come give the buffer that is wanted.
+use borrow.Author.Rules.{rules}
+use mathlib.Core.Path.{◌≡◌, refl, sym, ap, ◌∙◌}
+use mathlib.Core.List.{List}
+use Prim.Native.Nat.{ℕ, zero, suc, ◌+◌, ◌-◌, ◌≤◌, ◌<◌}
+use native.Mathlib.Numerals.{add-one}
+use native.Mathlib.Omega.{arith}
+use lib.ListN.{length, set, get_or, length-set}
+use lib.Seq.{sets}
+use Rattle.runs.proofs.Places.{from_end, reversed}
+use Rattle.runs.proofs.turn_sample.Given as goal
+
+abbrev pub invariant-loop-k : goal.invariant-loop-k
+invariant-loop-k l =
+    (l.k ≤ l.w)
+    × (l.p + l.k ≡ l.at + l.w)
+    × (length l.dst ≡ length l.initial.dst)
+    × (sets l.dst l.p (from_end l.src l.from l.k) ≡ sets l.initial.dst l.at (from_end l.src l.from l.w))
+
+abbrev pub decreases-loop-k : goal.decreases-loop-k
+decreases-loop-k l = l.k

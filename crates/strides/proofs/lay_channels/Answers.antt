@@ -1,0 +1,24 @@
+-- By whether the samples of all channels lie in the file.
+use mathlib.Core.Path.{sym, ap, ◌∙◌}
+use lib.ListN.{length}
+use Rattle.heads.specs.Answer.{map_answer}
+use Rattle.strides.specs.Channels.{spreads_from}
+use Rattle.strides.proofs.Channels.{kept, swept_refused, swept_count, swept_left}
+use borrow.Author.Rules.{rules}
+use Rattle.strides.proofs.lay_channels.Goals as goal
+
+pub lay_all-requires : goal.lay_all-requires
+lay_all-requires c = sym c.all_lie.ensures ∙ c.if-all_lie.true
+
+pub returns-then-all_lie : goal.returns-then-all_lie
+returns-then-all_lie c =
+    let a = c.args in
+    let xs = spreads_from a.t.now a.q 0 a.channels in
+    let e = sym c.all_lie.ensures ∙ c.if-all_lie.true in
+    (swept_count a.s.now a.out.now xs e c.lay_all.ensures.0, swept_left a.s.now a.out.now xs e c.lay_all.ensures.1)
+
+pub returns : goal.returns
+returns c =
+    let a = c.args in
+    let e = swept_refused a.s.now a.out.now (spreads_from a.t.now a.q 0 a.channels) (sym c.all_lie.ensures ∙ c.if-all_lie.false) in
+    (ap (map_answer length) e, kept _ e)

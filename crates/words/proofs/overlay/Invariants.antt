@@ -1,0 +1,15 @@
+-- The loop's invariant: the words before a are stored.
+use Prim.Native.Nat.{◌+◌, ◌-◌, ◌≤◌}
+use mathlib.Core.Path.{◌≡◌}
+use native.Mathlib.Omega.{arith}
+use lib.ListN.{length}
+use borrow.Author.Rules.{rules}
+use Rattle.words.specs.Words.{record_numbers, Overlaid}
+use Rattle.words.proofs.Laws.{overlaid_more}
+use Rattle.words.proofs.overlay.Given as goal
+
+abbrev pub invariant-loop-a : goal.invariant-loop-a
+invariant-loop-a l = (l.i + record_numbers ≤ length l.initial.t) × (l.a ≤ record_numbers) × Overlaid l.initial.t l.i l.w l.a l.t
+
+abbrev pub decreases-loop-a : goal.decreases-loop-a
+decreases-loop-a l = record_numbers - l.a
