@@ -30,7 +30,7 @@ class Names:
         self.settled = x["settled"]
 
     def need(self, name):
-        name = re.sub(r"^overflow-", "", name)
+        name = re.sub(r"^(overflow|nonzero)-", "", name)
         name = {"slice-bounds": "part"}.get(name, name)
         for form in (name, re.sub(r"^slice-bounds-", "part-", name), "overflow" + name):
             if alike(form) in self.needs:

@@ -10,5 +10,8 @@ use Rattle.digits.proofs.lowest.Goals as goal
 pub returns-then-w-ge8 : goal.returns-then-w-ge8
 returns-then-w-ge8 c = sym (mod-eq_of_lt (lt_of_lt_of_le (search rules) (cap 8 _ c.if-w-ge8.true)))
 
+pub nonzero_rem-result : goal.nonzero_rem-result
+nonzero_rem-result c = omega (arith, c.span.ensures, range_pos c.args.w)
+
 pub returns : goal.returns
 returns c = ap (λ (m : ℕ). c.args.n % m) c.span.ensures

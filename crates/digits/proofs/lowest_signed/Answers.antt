@@ -2,6 +2,7 @@
 -- Assumes nothing.
 use mathlib.Core.Path.{◌∙◌}
 use native.Mathlib.Nat.{mod-lt, min-le_right}
+use mir.Syntax.{w32}
 use mir.Facts.{to_z-of_z}
 use Rattle.octets.proofs.Laws.{range_pos}
 use borrow.Author.Rules.{rules}
@@ -11,4 +12,4 @@ pub extended-requires : goal.extended-requires
 extended-requires c = (rw c.at_most_four-k.ensures (min-le_right _ 4), rw c.lowest.ensures (mod-lt _ (range_pos _)))
 
 pub returns : goal.returns
-returns c = to_z-of_z (search rules) ∙ c.extended.ensures ∙ rw (c.lowest.ensures, c.at_most_four-k.ensures)
+returns c = to_z-of_z {w = w32} (search rules) ∙ c.extended.ensures ∙ rw (c.lowest.ensures, c.at_most_four-k.ensures)

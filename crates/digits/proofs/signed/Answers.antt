@@ -4,6 +4,7 @@ use Prim.Native.Nat.{◌≤◌}
 use mathlib.Core.Path.{◌∙◌}
 use native.Mathlib.Omega.{arith}
 use lib.ListN.{length}
+use mir.Syntax.{w32}
 use mir.Facts.{to_z-of_z}
 use Rattle.octets.specs.Number.{signed_of, NumberRead}
 use Rattle.octets.proofs.Laws.{part_short, read_all}
@@ -25,4 +26,4 @@ returns c =
     part_short 4 c.args.s.now _ c.part-x.ensures in
     let all : NumberRead c.args.little c.part-x.result.now c.number.result =
     read_all _ _ _ (omega (arith, short)) c.number.ensures in
-    to_z-of_z (search rules) ∙ c.extended.ensures ∙ rw ((all).value, c.part-x.ensures)
+    to_z-of_z {w = w32} (search rules) ∙ c.extended.ensures ∙ rw ((all).value, c.part-x.ensures)

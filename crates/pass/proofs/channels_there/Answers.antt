@@ -27,6 +27,14 @@ block_of s w e = ap (λ (v : ℕ). s.block * v) e
 
 -- ---- the needs
 
+pub nonzero_rem-left : goal.nonzero_rem-left
+nonzero_rem-left c =
+    let channels : List Settings =
+        take c.args.n (settled_in c.args.root c.args.dates c.args.t3) in
+    let cut : c.args.len < c.args.sequences * sequence_octets (channels) =
+        rw c.requires.0.1 at c.requires.1 in
+    rw c.requires.0.1 (cut_some (channels) c.args.sequences c.args.len (cut))
+
 pub loop-i-init : goal.loop-i-init
 loop-i-init c = cutting_first _ _
 
@@ -42,22 +50,25 @@ overflow_mul-block c =
     let q : c.width-w.result ≤ 8 = omega (arith, c.width-w.ensures, width_le c.settle-c.result.datatype) in
     omega (arith, mul-le-mul p q)
 
+pub nonzero_rem-result : goal.nonzero_rem-result
+nonzero_rem-result c = cells_some c.settle-c.result.block c.width-w.result c.loop-i.left c.if-left-block.true
+
 pub overflow_sub-result : goal.overflow_sub-result
 overflow_sub-result c = omega (arith, mod-le c.loop-i.left c.width-w.result, c.loop-i.invariant.small, mod-le c.args.len c.args.octets)
 
 pub returns-then-left-block : goal.returns-then-left-block
 returns-then-left-block c =
     let channels : List Settings =
-    take c.args.n (settled_in c.args.root c.args.dates c.args.t3) in
+        take c.args.n (settled_in c.args.root c.args.dates c.args.t3) in
     let cut : c.args.len < c.args.sequences * sequence_octets (channels) =
-    rw c.requires.0.1 at c.requires.1 in
+        rw c.requires.0.1 at c.requires.1 in
     let full : length c.args.t3 ≡ channel_limit =
-    search rules in
+        search rules in
     let answer : {left : ℕ} → left ≡ partial_octets (channels) (c.args.len % c.args.octets)
     → c.args.len - left ≡ there_octets (channels) c.args.sequences c.args.len =
-    λ e. let a = c.args in
+        λ e. let a = c.args in
     sym (there_cut (channels) a.sequences a.len (cut) ∙ ap (λ (t : ℕ). a.len - t) (sym (rw c.requires.0.1 at e))) in
-    let a = c.args in
+                        let a = c.args in
     let left = settled_last a.root a.dates a.t3 (full) a.n c.requires.0.0 _ c.loop-i.i c.loop-i.left c.loop-i.invariant c.loop-i-test.true c.settle-c.ensures (block_of _ _ c.width-w.ensures) c.if-left-block.true in
     answer (rw c.width-w.ensures left)
 
@@ -70,8 +81,8 @@ loop-i-smaller c = omega arith
 pub loop-i-preserved : goal.loop-i-preserved
 loop-i-preserved c =
     let full : length c.args.t3 ≡ channel_limit =
-    search rules in
-    let a = c.args in
+        search rules in
+                        let a = c.args in
     settled_block a.root a.dates a.t3 (full) a.n c.requires.0.0 _ c.loop-i.i c.loop-i.left c.loop-i.invariant c.loop-i-test.true c.settle-c.ensures (block_of _ _ c.width-w.ensures) c.if-left-block.false
 
 pub overflow_sub-result-2 : goal.overflow_sub-result-2
@@ -80,14 +91,14 @@ overflow_sub-result-2 c = omega (arith, c.loop-i.invariant.small, mod-le c.args.
 pub returns : goal.returns
 returns c =
     let channels : List Settings =
-    take c.args.n (settled_in c.args.root c.args.dates c.args.t3) in
+        take c.args.n (settled_in c.args.root c.args.dates c.args.t3) in
     let cut : c.args.len < c.args.sequences * sequence_octets (channels) =
-    rw c.requires.0.1 at c.requires.1 in
+        rw c.requires.0.1 at c.requires.1 in
     let full : length c.args.t3 ≡ channel_limit =
-    search rules in
+        search rules in
     let answer : {left : ℕ} → left ≡ partial_octets (channels) (c.args.len % c.args.octets)
     → c.args.len - left ≡ there_octets (channels) c.args.sequences c.args.len =
-    λ e. let a = c.args in
+        λ e. let a = c.args in
     sym (there_cut (channels) a.sequences a.len (cut) ∙ ap (λ (t : ℕ). a.len - t) (sym (rw c.requires.0.1 at e))) in
-    let a = c.args in
+            let a = c.args in
     answer (settled_past a.root a.dates a.t3 (full) a.n c.requires.0.0 _ c.loop-i.i c.loop-i.left c.loop-i.invariant c.loop-i-test.false)

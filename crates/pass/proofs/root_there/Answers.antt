@@ -21,6 +21,14 @@ returns-then-holds c =
     let a = c.args in
     held-there (take (channels_of a.st.counted) (replicate channel_limit a.st.root)) a.sequences a.len c.requires c.holds.ensures c.if-holds.true
 
+pub nonzero_rem-result : goal.nonzero_rem-result
+nonzero_rem-result c =
+    let a = c.args in
+    let n = channels_of a.st.counted in
+    let cs = take n (replicate channel_limit a.st.root) in
+    let cut = held_cut cs a.sequences a.len c.requires c.holds.ensures c.if-holds.false in
+    rw c.width-w.ensures (even_some (width_in a.st.root) cs (root_even n a.st.root) (cut_some cs a.sequences a.len cut))
+
 pub overflow_sub-result : goal.overflow_sub-result
 overflow_sub-result c = omega (arith, mod-le c.args.len c.width-w.result)
 

@@ -12,6 +12,9 @@ use Rattle.runs.proofs.turn_blocks.Goals as goal
 block : {w left : ℕ} → Whole w → 16 / w ≤ left → 16 ≤ left * w
 block {w} a h = rw a.size at (mul-le-mul_right w h)
 
+pub nonzero_div-each : goal.nonzero_div-each
+nonzero_div-each c = (whole c.requires.0).some
+
 pub loop-left-init : goal.loop-left-init
 loop-left-init c = record { there = omega arith; room = omega arith; long = refl; rest = refl }
 
