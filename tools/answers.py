@@ -19,15 +19,59 @@ alike = lambda s: re.sub(r"[-_]", "", s).lower()
 LEAVES = {"args", "requires", "ranges", "lifetimes", "auto", "well_formed", "type_inv", "utf8"}
 
 
+def labelled(fields, rest):
+    """A way into clauses that now have names: the clause by its place."""
+    if len(fields) < 2 or not rest or not rest[0].isdigit():
+        return rest
+    k = int(rest[0])
+    if k < len(fields):
+        return [fields[k]] + rest[1:]
+    return rest
+
+
+def parts_of(text):
+    """The parts of a tuple, or None."""
+    text = text.strip()
+    if not (text.startswith("(") and text.endswith(")")):
+        return None
+    depth, out, at = 0, [], 1
+    for i, ch in enumerate(text):
+        if ch in "([{":
+            depth += 1
+        elif ch in ")]}":
+            depth -= 1
+            if depth == 0 and i < len(text) - 1:
+                return None
+        elif ch == "," and depth == 1:
+            out.append(text[at:i].strip())
+            at = i + 1
+    last = text[at:-1].strip()
+    return out + ([last] if last else [])
+
+
+def named(term, fields):
+    """A tuple of clauses as a record of them."""
+    at = max(term.rfind(" in\n"), term.rfind(" in ("))
+    lets, body = (term[: at + 3], term[at + 3:]) if at >= 0 and parts_of(term) is None else ("", term)
+    parts = parts_of(body)
+    while parts and 1 < len(parts) < len(fields) and parts_of(parts[-1]) and len(parts_of(parts[-1])) > 1:
+        parts = parts[:-1] + parts_of(parts[-1])
+    if not parts or len(parts) != len(fields):
+        return None
+    return lets + "\n    record {\n" + "".join("      %s = %s;\n" % x for x in zip(fields, parts)) + "    }"
+
+
 class Names:
     def __init__(self, x):
         self.x = x
         self.places = x["places"]
         self.at = {p[0]: i for i, p in enumerate(self.places)}
-        self.needs = {}
+        self.needs, self.old = {}, {}
         for (old, new), (place, _) in zip(x["needs"], x["asked_at"]):
             self.needs.setdefault(alike(old), (new, place))
-        self.settled = x["settled"]
+            self.old[new] = alike(old)
+        self.asked = {alike(k): v for k, v in x["asked"].items()}
+        self.pre = (x["pre"] or {}).get("fields", [])
 
     def need(self, name):
         name = re.sub(r"^(overflow|nonzero)-", "", name)
@@ -47,7 +91,7 @@ class Names:
         """The new path, after `c`, of an old one without its `before`s."""
         step, rest = re.sub("_lem$", "", path[0]), path[1:]
         if step.replace("-", "_") in LEAVES:
-            return [step.replace("-", "_")] + rest
+            return [step.replace("-", "_")] + (labelled(self.pre, rest) if step == "requires" else rest)
         line = list(self.above(place))
         best = None
         for i in line:
@@ -59,6 +103,10 @@ class Names:
                     best = (len(way), [arm[0], field] + rest[len(way):])
         if best:
             return best[1]
+        if step == "match" and rest[:1] == ["rest"]:
+            for i in line:
+                if self.places[i][2][0] == "match" or alike(self.places[i][2][0]).startswith("match"):
+                    return [self.places[i][2][1], self.places[i][2][1] + "-own"] + rest
         if rest[:1] == ["given"]:
             for i in [*line, *range(len(self.places))]:
                 for var, old in self.x["typed"][i]:
@@ -69,6 +117,9 @@ class Names:
             if old and alike(old) == alike(step):
                 if new.startswith("if-") or new.endswith("-test"):
                     rest = [{"left": "false", "taken": "true"}.get(r, r) for r in rest[:1]] + rest[1:]
+                fields = (self.x["clauses"][i] or {}).get("fields", [])
+                if rest[:1] == ["ensures"]:
+                    rest = ["ensures"] + labelled(fields, rest[1:])
                 return [new] + rest
         return None
 
@@ -248,6 +299,11 @@ def turn(crate, function, names, path, said):
             unfolding = m.group(3).split()[1:]
             term = expanded(d.group(3) + body[m.end() + d.end():], unfolding, d.group(2), helpers)
             term = inline(term, d.group(2), names, place, said)
+            fields = names.asked.get(names.old[new], [])
+            if len(fields) > 1 and "record {" not in term:
+                as_record = named(term, fields)
+                if as_record:
+                    term = as_record
             answers.append("\n".join(notes + [f"pub {new} : goal.{new}"] + (["unfolding " + " ".join(unfolding)] if unfolding else []) + [f"{new} {d.group(2)} ={term}"]))
             continue
         if re.search(r": \{M : Type 1\} → statement M", body):
@@ -257,13 +313,28 @@ def turn(crate, function, names, path, said):
         if "tie." in body:
             said.append("helper with tie: " + body.split("\n")[0])
         answers.append(part)
+    # What an invariant cites stands beside it.
+    shared, text = [], "\n".join(invariants)
+    for part in reversed(answers):
+        m = re.match(r"(?:--[^\n]*\n)*((?:abbrev |unfoldable |pub |record |data )*)(%s)(?= :|\n| \(| \{)" % N, part)
+        if m and not m.group(2).startswith("module") and " : goal." not in part and re.search(r"(?<![^\s(){};,.\[\]])%s(?![^\s(){}.;,\[\]])" % re.escape(m.group(2)), text):
+            shared.insert(0, (m.group(2), part))
+            text += "\n" + part
+    answers = [a for a in answers if a not in [s for _, s in shared]]
+    shared_names = [n for n, _ in shared]
+    for n, part in reversed(shared):
+        head = re.sub(r"(?m)^((?:abbrev |unfoldable |record |data )*)(?=%s(?: :|\n| \(| \{))" % re.escape(n), lambda m: m.group(1) + "pub " if m.group(1).startswith(("abbrev", "unfoldable")) else "pub " + m.group(1), part, count=1) if not re.search(r"(?m)^(abbrev |unfoldable )?pub ", part) else part
+        if re.search(r"(?m)^pub record ", head):
+            head = re.sub(r"(?m)^  (?=%s(?: %s)* :)(?!pub )" % (N, N), "  pub ", head)
+        invariants.insert(0, head)
     folder = os.path.dirname(path)
     if invariants:
         with open(os.path.join(folder, "Invariants.antt"), "w", encoding="utf-8") as f:
             f.write("\n".join(comment + uses + [f"use {module}.Given as goal", ""]) + "\n" + "\n\n".join(invariants) + "\n")
     if answers:
         with open(os.path.join(folder, "Answers.antt"), "w", encoding="utf-8") as f:
-            f.write("\n".join(comment + uses + [f"use {module}.Goals as goal", ""]) + "\n" + "\n\n".join(answers) + "\n")
+            brought = [f"use {module}.Invariants.{{{', '.join(shared_names)}}}"] if shared_names else []
+            f.write("\n".join(comment + uses + brought + [f"use {module}.Goals as goal", ""]) + "\n" + "\n\n".join(answers) + "\n")
     os.remove(path)
 
 

@@ -8,7 +8,13 @@ use Rattle.ahead.proofs.along_group.Goals as goal
 
 pub along_ignored-requires : goal.along_ignored-requires
 along_ignored-requires c =
-    (c.requires.0, (c.requires.1.0, (c.requires.1.1.0, (group_inside c.args.within c.args.channel c.requires.1.1.1, c.if-st-eq0.true))))
+    record {
+      u_bound = c.requires.u_bound;
+      fits = c.requires.fits.0;
+      within_value = c.requires.fits.1.0;
+      within_value_2 = group_inside c.args.within c.args.channel c.requires.fits.1.1;
+      counted_value = c.if-st-eq0.true;
+    }
 
 pub returns-then-st-eq0 : goal.returns-then-st-eq0
 returns-then-st-eq0 c = c.along_ignored.ensures _
@@ -21,13 +27,13 @@ returns-then-k-eq0 c = goes_none _ _ _ _ c.none-then-k-eq0.ensures
 
 pub returns-then-passed : goal.returns-then-passed
 returns-then-passed c =
-    group_put _ c.args.h _ _ _ c.if-dates.false (omega (arith, c.if-st-eq0.false)) c.requires.1.1.0 c.requires.1.1.1
-    c.requires.0 c.requires.1.0 c.settled-stood.ensures c.along-ahead.ensures c.if-k-eq0.false
+    group_put _ c.args.h _ _ _ c.if-dates.false (omega (arith, c.if-st-eq0.false)) c.requires.fits.1.0 c.requires.fits.1.1
+    c.requires.u_bound c.requires.fits.0 c.settled-stood.ensures c.along-ahead.ensures c.if-k-eq0.false
     c.part.ensures c.over-passed.ensures c.around_at-mark.ensures c.if-passed.true c.note.ensures
     c.put.ensures
 
 pub returns-else-passed : goal.returns-else-passed
 returns-else-passed c =
-    group_kept _ c.args.h _ _ _ c.if-dates.false (omega (arith, c.if-st-eq0.false)) c.requires.1.1.0
-    c.requires.1.1.1 c.requires.0 c.requires.1.0 c.settled-stood.ensures c.along-ahead.ensures
+    group_kept _ c.args.h _ _ _ c.if-dates.false (omega (arith, c.if-st-eq0.false)) c.requires.fits.1.0
+    c.requires.fits.1.1 c.requires.u_bound c.requires.fits.0 c.settled-stood.ensures c.along-ahead.ensures
     c.if-k-eq0.false c.part.ensures c.over-passed.ensures c.around_at-mark.ensures c.if-passed.false

@@ -11,4 +11,4 @@ returns-then-k-eq0 c = λ t. goes_none _ _ _ t c.none.ensures
 
 pub returns : goal.returns
 returns c =
-    λ t. root_goes _ c.args.h c.args.around t c.requires.1 c.requires.0 c.default-base.ensures c.along-ahead.ensures c.if-k-eq0.false c.part.ensures c.over-passed.ensures c.with_root.ensures
+    λ t. root_goes _ c.args.h c.args.around t c.requires.within_value c.requires.u_bound c.default-base.ensures c.along-ahead.ensures c.if-k-eq0.false c.part.ensures c.over-passed.ensures c.with_root.ensures

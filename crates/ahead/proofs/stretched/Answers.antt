@@ -12,19 +12,32 @@ returns-then-not-stepped_over c = goes_none _ _ _ _ c.none-then-not-stepped_over
 
 pub along_root-requires : goal.along_root-requires
 along_root-requires c =
-    (c.requires, sym c.stands_in-within.ensures ∙ c.in-Root.is)
+    record {
+      u_bound = c.requires;
+      within_value = sym c.stands_in-within.ensures ∙ c.in-Root.is;
+    }
 
 pub along_group-requires : goal.along_group-requires
 along_group-requires c =
     let w = sym c.in-Definite.is ∙ c.stands_in-within.ensures in
     let e = reach_in _ c.args.h c.requires w c.reach.ensures in
-    (e.0, (e.1, (w, refl)))
+    record {
+      u_bound = e.0;
+      fits = e.1;
+      within_value = w;
+      in_group = refl;
+    }
 
 pub along_group-requires-in-Open : goal.along_group-requires-in-Open
 along_group-requires-in-Open c =
     let w = sym c.in-Open.is ∙ c.stands_in-within.ensures in
     let e = reach_in _ c.args.h c.requires w c.reach-in-Open.ensures in
-    (e.0, (e.1, (w, refl)))
+    record {
+      u_bound = e.0;
+      fits = e.1;
+      within_value = w;
+      in_group = refl;
+    }
 
 pub returns-in-Root : goal.returns-in-Root
 returns-in-Root c = c.along_root.ensures _

@@ -15,7 +15,10 @@ pub returns-in-Refused : goal.returns-in-Refused
 unfolding count_read read_of
 returns-in-Refused c =
     let e = unseen _ _ _ _ _ _ c.look_up.ensures c.in-Refused.is in
-    (ap (map_answer length) e, kept _ e)
+    record {
+      result_value = ap (map_answer length) e;
+      out_after = kept _ e;
+    }
 
 pub returns-in-Channel : goal.returns-in-Channel
 unfolding count_read
@@ -23,4 +26,7 @@ returns-in-Channel c =
     let a = c.args in
     let l = located a.s.now a.frame a.channel _ c.look_up.ensures c.in-Channel.is in
     let e = read_located l a.first (length a.out.now) in
-    (c.seen.ensures.0 ∙ ap (map_answer length) e, c.seen.ensures.1 ∙ ap (λ (b : Answer (List ℕ)). left_by b a.out.now) e)
+    record {
+      result_value = c.seen.ensures.result_value ∙ ap (map_answer length) e;
+      out_after = c.seen.ensures.out_after ∙ ap (λ (b : Answer (List ℕ)). left_by b a.out.now) e;
+    }

@@ -12,7 +12,7 @@ use borrow.Author.Rules.{rules}
 use Rattle.bulk.proofs.tell.Goals as goal
 
 pub loop-i-init : goal.loop-i-init
-loop-i-init c = (mapping_begins _ _ _ c.requires.1.0, mapping_begins _ _ _ c.requires.1.1)
+loop-i-init c = (mapping_begins _ _ _ c.requires.n_in_bounds_2.0, mapping_begins _ _ _ c.requires.n_in_bounds_2.1)
 
 pub bounds-wholes-at : goal.bounds-wholes-at
 bounds-wholes-at c =
@@ -24,8 +24,8 @@ loop-i-preserved c =
     search rules in
     let a = c.args in
     let e = c.tell-t.ensures in (
-      mapping_turns _ _ _ c.requires.0 c.loop-i-test.true (ap (λ (t : Telling). t.kind) e) c.loop-i.invariant.0,
-      mapping_turns _ _ _ c.requires.0 c.loop-i-test.true (to_z-of_z (whole-fits) ∙ ap (λ (t : Telling). t.whole) e) c.loop-i.invariant.1,
+      mapping_turns _ _ _ c.requires.n_in_bounds c.loop-i-test.true (ap (λ (t : Telling). t.kind) e) c.loop-i.invariant.0,
+      mapping_turns _ _ _ c.requires.n_in_bounds c.loop-i-test.true (to_z-of_z (whole-fits) ∙ ap (λ (t : Telling). t.whole) e) c.loop-i.invariant.1,
     )
 
 pub shape_of-kinds : goal.shape_of-kinds
@@ -35,4 +35,8 @@ pub shape_of-wholes : goal.shape_of-wholes
 shape_of-wholes c = c.loop-i.invariant.1.long
 
 pub returns : goal.returns
-returns c = (mapping_ends _ _ _ c.loop-i-test.false c.loop-i.invariant.0, mapping_ends _ _ _ c.loop-i-test.false c.loop-i.invariant.1)
+returns c =
+    record {
+      kinds_after = mapping_ends _ _ _ c.loop-i-test.false c.loop-i.invariant.0;
+      wholes_after = mapping_ends _ _ _ c.loop-i-test.false c.loop-i.invariant.1;
+    }

@@ -16,16 +16,19 @@ pub returns-in-Refused : goal.returns-in-Refused
 unfolding values_of
 returns-in-Refused c =
     let e = unseen _ _ _ _ _ _ c.look_up.ensures c.in-Refused.is in
-    (ap (map_answer length) e, (kept _ (ap kinds_in e), kept _ (ap wholes_in e)))
+    record {
+      result_value = ap (map_answer length) e;
+      kinds_after = kept _ (ap kinds_in e);
+      wholes_after = kept _ (ap wholes_in e);
+    }
 
 pub returns-in-Channel : goal.returns-in-Channel
 returns-in-Channel c =
     let a = c.args in
     let l = located a.s.now a.frame a.channel _ c.look_up.ensures c.in-Channel.is in
-    let e = values_located l a.first (min (length a.kinds.now) (length a.wholes.now)) in (
-      c.values_seen.ensures.0 ∙ ap (map_answer length) e,
-      (
-        c.values_seen.ensures.1.0 ∙ ap (λ (b : Answer (List Said)). left_by (kinds_in b) a.kinds.now) e,
-        c.values_seen.ensures.1.1 ∙ ap (λ (b : Answer (List Said)). left_by (wholes_in b) a.wholes.now) e,
-      ),
-    )
+    let e = values_located l a.first (min (length a.kinds.now) (length a.wholes.now)) in
+    record {
+      result_value = c.values_seen.ensures.result_value ∙ ap (map_answer length) e;
+      kinds_after = c.values_seen.ensures.kinds_after.0 ∙ ap (λ (b : Answer (List Said)). left_by (kinds_in b) a.kinds.now) e;
+      wholes_after = c.values_seen.ensures.kinds_after.1 ∙ ap (λ (b : Answer (List Said)). left_by (wholes_in b) a.wholes.now) e;
+    }

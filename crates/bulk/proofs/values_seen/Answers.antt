@@ -31,7 +31,11 @@ returns-in-Refused c =
     let room = min (length a.kinds.now) (length a.wholes.now) in
     let read = read_refused a.s.now a.v a.first room (rw c.smaller.ensures at c.readable.ensures) c.in-Refused.is in
     let e = ap (map_answer (values_by a.v.settings)) read in
-    (ap (map_answer length) e, (kept _ (ap kinds_in e), kept _ (ap wholes_in e)))
+    record {
+      result_value = ap (map_answer length) e;
+      kinds_after = kept _ (ap kinds_in e);
+      wholes_after = kept _ (ap wholes_in e);
+    }
 
 pub returns-in-Samples : goal.returns-in-Samples
 unfolding values_seen
@@ -45,8 +49,10 @@ returns-in-Samples c =
     let n = c.in-Samples.n in
     let long = length-bits (bits_seen a.s.now a.v) a.first n in
     let octets : Octets a.s.now = λ i. (c.type_inv.s i).fits in
-    let kinds = c.tell_samples.ensures.0 ∙ ap (sets a.kinds.now 0) (kinds_told a.s.now octets a.v a.first n) in
-    let wholes = c.tell_samples.ensures.1 ∙ ap (sets a.wholes.now 0) (wholes_told a.s.now octets a.v a.first n) in (
-      ap answered (sym (simp length-map long)) ∙ ap (map_answer length) e,
-      (filled _ (ap kinds_in e) (simp length-map (omega arith)) kinds, filled _ (ap wholes_in e) (simp length-map (omega arith)) wholes),
-    )
+    let kinds = c.tell_samples.ensures.kinds_after ∙ ap (sets a.kinds.now 0) (kinds_told a.s.now octets a.v a.first n) in
+    let wholes = c.tell_samples.ensures.wholes_after ∙ ap (sets a.wholes.now 0) (wholes_told a.s.now octets a.v a.first n) in
+    record {
+      result_value = ap answered (sym (simp length-map long)) ∙ ap (map_answer length) e;
+      kinds_after = filled _ (ap kinds_in e) (simp length-map (omega arith)) kinds;
+      wholes_after = filled _ (ap wholes_in e) (simp length-map (omega arith)) wholes;
+    }

@@ -38,4 +38,4 @@ returns-in-18 c = ap tagged (sym c.in-18.is)
 
 pub returns-in_default : goal.returns-in_default
 unfolding tagged
-returns-in_default c = simp (ne_eqb _ 4 c.in_default.rest.0.0.0.0.0.0.0.1, ne_eqb _ 8 c.in_default.rest.0.0.0.0.0.0.1, ne_eqb _ 9 c.in_default.rest.0.0.0.0.0.1, ne_eqb _ 10 c.in_default.rest.0.0.0.0.1, ne_eqb _ 11 c.in_default.rest.0.0.0.1, ne_eqb _ 12 c.in_default.rest.0.0.1, ne_eqb _ 13 c.in_default.rest.0.1, ne_eqb _ 18 c.in_default.rest.1)
+returns-in_default c = simp (ne_eqb _ 4 c.in_default.in_default-own.rest.0.0.0.0.0.0.0.1, ne_eqb _ 8 c.in_default.in_default-own.rest.0.0.0.0.0.0.1, ne_eqb _ 9 c.in_default.in_default-own.rest.0.0.0.0.0.1, ne_eqb _ 10 c.in_default.in_default-own.rest.0.0.0.0.1, ne_eqb _ 11 c.in_default.in_default-own.rest.0.0.0.1, ne_eqb _ 12 c.in_default.in_default-own.rest.0.0.1, ne_eqb _ 13 c.in_default.in_default-own.rest.0.1, ne_eqb _ 18 c.in_default.in_default-own.rest.1)

@@ -37,4 +37,4 @@ returns-in-30 c = simp c.in-30.is
 
 pub returns-in_default : goal.returns-in_default
 unfolding root_effect
-returns-in_default c = simp (ne_eqb _ 1 c.in_default.rest.0.0.0.0.0.1, ne_eqb _ 5 c.in_default.rest.0.0.0.0.1, ne_eqb _ 6 c.in_default.rest.0.0.0.1, ne_eqb _ 7 c.in_default.rest.0.0.1, ne_eqb _ 14 c.in_default.rest.0.1, ne_eqb _ 30 c.in_default.rest.1)
+returns-in_default c = simp (ne_eqb _ 1 c.in_default.in_default-own.rest.0.0.0.0.0.1, ne_eqb _ 5 c.in_default.in_default-own.rest.0.0.0.0.1, ne_eqb _ 6 c.in_default.in_default-own.rest.0.0.0.1, ne_eqb _ 7 c.in_default.in_default-own.rest.0.0.1, ne_eqb _ 14 c.in_default.in_default-own.rest.0.1, ne_eqb _ 30 c.in_default.in_default-own.rest.1)

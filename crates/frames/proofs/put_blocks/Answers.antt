@@ -10,7 +10,7 @@ use Rattle.frames.proofs.put_blocks.Goals as goal
 
 pub loop-q-init : goal.loop-q-init
 loop-q-init c =
-    (c.requires.0.0, sequences_first _ _ _ _ _ c.requires.0.1 c.requires.1)
+    (c.requires.few.0, sequences_first _ _ _ _ _ c.requires.few.1 c.requires.sequences_in_bounds)
 
 pub loop-i-init : goal.loop-i-init
 loop-i-init c =

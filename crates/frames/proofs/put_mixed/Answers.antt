@@ -18,7 +18,10 @@ put_blocks-next-requires c =
     let a = c.args in
     let pre = c.requires in
     let whole = mixed_whole (take a.count (held_in a.t.now)) a.octets a.w.now pre.0.1 pre.1.1 in
-    ((pre.0.0, omega (arith, whole, pre.1.0)), omega (arith, whole, pre.1.2))
+    record {
+      few = (pre.0.0, omega (arith, whole, pre.1.0));
+      sequences_in_bounds = omega (arith, whole, pre.1.2);
+    }
 
 pub overflow_mul-whole : goal.overflow_mul-whole
 overflow_mul-whole c =
@@ -31,7 +34,10 @@ put_part-requires c =
     let pre = c.requires in
     let cs = take a.count (held_in a.t.now) in
     let room = mixed_room cs a.octets a.w.now pre.0.1 pre.1.1 pre.1.0 pre.1.2 c.put_blocks-next.ensures in
-    ((pre.0.0, omega (arith, div-add-mod' a.octets a.sequence, pre.1.0)), room)
+    record {
+      few = (pre.0.0, omega (arith, div-add-mod' a.octets a.sequence, pre.1.0));
+      rest_in_bounds = room;
+    }
 
 pub returns : goal.returns
 returns c =

@@ -22,7 +22,7 @@ returns-then-not-little c =
     let a = c.args in
     let cs = take a.count (held_in a.t.now) in
     put_as (samples_big {little = a.little} cs _ _ (not-true _ c.if-not-little.true))
-    (put_fits (taken-room a.octets a.at a.w.now a.out.now c.requires.1.2) c.copy.ensures)
+    (put_fits (taken-room a.octets a.at a.w.now a.out.now c.requires.octets_in_bounds.2) c.copy.ensures)
 
 pub returns-then-v-eq1 : goal.returns-then-v-eq1
 returns-then-v-eq1 c =
@@ -30,8 +30,8 @@ returns-then-v-eq1 c =
     let cs = take a.count (held_in a.t.now) in
     let one = one_wide cs _ c.even_width-v.ensures c.if-v-eq1.true in
     let little = not-false _ c.if-not-little.false in
-    put_as (samples_narrow cs a.octets a.w.now c.requires.0.1 c.requires.1.1 one ∙ samples-little {little = a.little} cs _ _ little)
-    (put_fits (taken-room a.octets a.at a.w.now a.out.now c.requires.1.2) c.copy-then-v-eq1.ensures)
+    put_as (samples_narrow cs a.octets a.w.now c.requires.few.1 c.requires.octets_in_bounds.1 one ∙ samples-little {little = a.little} cs _ _ little)
+    (put_fits (taken-room a.octets a.at a.w.now a.out.now c.requires.octets_in_bounds.2) c.copy-then-v-eq1.ensures)
 
 pub returns-then-v-eq0 : goal.returns-then-v-eq0
 returns-then-v-eq0 c =

@@ -12,7 +12,7 @@ use Rattle.frames.proofs.store_frame.Goals as goal
 pub put_groups-b-requires : goal.put_groups-b-requires
 put_groups-b-requires c =
     let tabled : let a = c.args in length (take a.count (held_in a.t.now)) ≡ a.count =
-        λ = let a. c.args in taken-long a.t.now c.requires.0.0 in
+        λ = let a. c.args in taken-long a.t.now c.requires.few.0 in
             let a = c.args in
     let pre = c.requires in
     let start = to_z-of_z c.ranges.start in
@@ -21,7 +21,7 @@ put_groups-b-requires c =
 pub put_samples-requires : goal.put_samples-requires
 put_samples-requires c =
     let tabled : let a = c.args in length (take a.count (held_in a.t.now)) ≡ a.count =
-        λ = let a. c.args in taken-long a.t.now c.requires.0.0 in
+        λ = let a. c.args in taken-long a.t.now c.requires.few.0 in
                     let a = c.args in
     let pre = c.requires in
     let start = to_z-of_z c.ranges.start in
@@ -29,12 +29,15 @@ put_samples-requires c =
     samples-room (take a.count (held_in a.t.now)) a.sequences a.octets (tabled) start pre.1.1 c.put_head-a.ensures
     c.put_groups-b.ensures c.open_waveform-c.ensures in
     let samples = asked-samples (take a.count (held_in a.t.now)) a.sequences a.w.now pre.1.0.0 pre.0.1 in
-    (pre.0, (samples.0, samples.1, room))
+    record {
+      few = pre.0;
+      octets_in_bounds = (samples.0, samples.1, room);
+    }
 
 pub returns : goal.returns
 returns c =
     let tabled : let a = c.args in length (take a.count (held_in a.t.now)) ≡ a.count =
-        λ = let a. c.args in taken-long a.t.now c.requires.0.0 in
+        λ = let a. c.args in taken-long a.t.now c.requires.few.0 in
                         let a = c.args in
     let pre = c.requires in
     let start = to_z-of_z c.ranges.start in

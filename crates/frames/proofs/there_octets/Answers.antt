@@ -11,26 +11,26 @@ use Rattle.frames.proofs.there_octets.Goals as goal
 
 pub overflow_mul-result : goal.overflow_mul-result
 overflow_mul-result c =
-            let a = c.args in
+    let a = c.args in
     let h : a.sequences * a.sequence ≤ a.long = leb-true _ _ (sym c.holds.ensures ∙ c.if-holds.true) in
     omega (arith, c.ranges.long)
 
 pub returns-then-holds : goal.returns-then-holds
 returns-then-holds c =
-            let a = c.args in
+    let a = c.args in
     octets-whole (take a.count (held_in a.t.now)) _ _ c.requires.1 (leb-true _ _ (sym c.holds.ensures ∙ c.if-holds.true))
 
 pub nonzero_rem-long : goal.nonzero_rem-long
 nonzero_rem-long c =
-            let a = c.args in
+    let a = c.args in
     width_some a.sequences _ _ (leb-false _ _ (sym c.holds.ensures ∙ c.if-holds.false))
 
 pub overflow_sub-result : goal.overflow_sub-result
 overflow_sub-result c =
-        let a = c.args in
+    let a = c.args in
     omega (arith, c.partial_octets.ensures, partial_few (take a.count (held_in a.t.now)) a.sequences a.long c.requires.1)
 
 pub returns : goal.returns
 returns c =
-                let a = c.args in
+    let a = c.args in
     ap (λ (n : ℕ). a.long - n) c.partial_octets.ensures ∙ octets_cut (take a.count (held_in a.t.now)) _ _ c.requires.1 (leb-false _ _ (sym c.holds.ensures ∙ c.if-holds.false))

@@ -45,6 +45,6 @@ pub returns-in_default : goal.returns-in_default
 returns-in_default c =
     let other : (n : ℕ) → (c.word-kind.result ≡ n → ⊥) → eqb (get_or c.args.w.now 3 0) n ≡ false =
     λ n ne. ne_eqb _ n (λ e. ne (c.word-kind.ensures ∙ e)) in
-    let others = c.in_default.rest in
+    let others = c.in_default.in_default-own.rest in
     simp (other 0 others.0.0.0.0.1, other 1 others.0.0.0.1, other 2 others.0.0.1, other 3 others.0.1, other 4 others.1)
     (λ i. Stage.Decided (Checked.Refused (c.refusal_at-in_default.ensures i)))

@@ -24,7 +24,7 @@ put_rows-b-requires c =
     let counted : length (channels) ≡ c.args.n =
         λ = let a. c.args in made-long a.n a.numbers.now a.bits.now in
     let room : let a = c.args in 0 + frame_size a.sequences (groups_size 0 (channels)) (length a.samples.now) ≤ length a.out.now =
-        omega (arith, c.requires.1.1) in
+        omega (arith, c.requires.samples_len_bound.1) in
             let a = c.args in
     let pre = c.requires in
     (pre.0, groups-room (channels) a.sequences (length a.samples.now) (counted) (to_z-of_z c.ranges.start) (room) c.put_head-a.ensures)
@@ -36,7 +36,7 @@ returns c =
     let counted : length (channels) ≡ c.args.n =
         λ = let a. c.args in made-long a.n a.numbers.now a.bits.now in
     let room : let a = c.args in 0 + frame_size a.sequences (groups_size 0 (channels)) (length a.samples.now) ≤ length a.out.now =
-        omega (arith, c.requires.1.1) in
+        omega (arith, c.requires.samples_len_bound.1) in
                         let a = c.args in
     let start = to_z-of_z c.ranges.start in
     let all = take_all (length a.samples.now) a.samples.now (omega arith) in

@@ -25,33 +25,10 @@ use Rattle.pass.proofs.Turns.{Facing, facing_later, facing_nothing, facing_stand
 use Rattle.pass.proofs.Stretches.{GroupOpened, opened_group, opened_nothing, opened-counted, group_entered, stretch-on}
 use Rattle.pass.proofs.Records.{Passing, passing_from, passing_at, passing_on, passing_count, passing_all, passing_one, passing_outside, passing_group, settled_more, settled_seen, stands-full}
 use Rattle.pass.proofs.Cut.{held-there, held_cut, held_small}
+use Rattle.pass.proofs.scan_channels.Invariants.{Behind, at_item, at_loop, item_of, file_of, asked_of, met}
 use Rattle.pass.proofs.scan_channels.Goals as goal
 
 -- ---- what is known at the places on the way
-
--- An item is met, and the cursor stands behind it.
-abbrev Behind : Type 0
-Behind = tie.After-renewed invariant-loop2 decreases-loop2 invariant-loop decreases-loop
-
-abbrev at_item : Behind → tie.After-item invariant-loop2 decreases-loop2 invariant-loop decreases-loop
-at_item c = c.before.before
-
-abbrev at_loop : Behind → tie.At-loop invariant-loop2 decreases-loop2 invariant-loop decreases-loop
-at_loop c = (at_item c).before.before.before
-
-abbrev item_of : Behind → Item
-item_of c = (at_item c).item.given.0.0
-
-abbrev file_of : Behind → List ℕ
-file_of c = (at_loop c).before.before.before.before.args.s.now
-
-abbrev asked_of : Behind → Asked
-asked_of c = (at_loop c).before.before.before.before.args.asked
-
-met : (c : Behind) → let l = (at_loop c).loop in Facing (file_of c) (asked_of c) (settled_in l.st.root l.dates l.table) l.c l.st l.met (item_of c) c.renewed.result (effect_of (file_of c) l.st (item_of c))
-met c =
-    let at_next = (at_item c).before.before in
-    record { before = (at_loop c).loop.invariant.pass; found = sym at_next.next-item.ensures ∙ found_as (at_item c).item.given.1 c.renewed.ensures; asks = refl }
 
 -- What the item asks for is known.
 abbrev Known : Type 0
@@ -226,7 +203,10 @@ overflow_mul-there c = record { fits = held_small _ _ _ c.holds.ensures c.if-hol
 pub channels_there-there-requires : goal.channels_there-there-requires
 channels_there-there-requires c =
     let octets = framing_octets (framing c) in
-    (((at_sum c).loop2.invariant.few, rw (at_sum c).before.before.channels-of.ensures octets), rw octets (held_cut _ _ _ octets c.holds.ensures c.if-holds.false))
+    record {
+      n_le_channel_limit = ((at_sum c).loop2.invariant.few, rw (at_sum c).before.before.channels-of.ensures octets);
+      len_bound = rw octets (held_cut _ _ _ octets c.holds.ensures c.if-holds.false);
+    }
 
 pub with_frame-met-requires : goal.with_frame-met-requires
 with_frame-met-requires c = framing_room (framing (given_of c)) (taken_of c).sequences.given.1 (counted c)

@@ -8,4 +8,7 @@ use Rattle.records.proofs.lay_next.Goals as goal
 pub returns : goal.returns
 returns c =
     let a = c.args in
-    (refl, subst (λ (y : Settings). More a.k 0 y a.l c.more.result) c.held-c.ensures c.more.ensures)
+    record {
+      t_after = refl;
+      more = subst (λ (y : Settings). More a.k 0 y a.l c.more.result) c.held-c.ensures c.more.ensures;
+    }

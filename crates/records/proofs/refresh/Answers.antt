@@ -8,10 +8,12 @@ use borrow.Author.Rules.{rules}
 use Rattle.records.proofs.refresh.Goals as goal
 
 pub renew_all-requires : goal.renew_all-requires
-renew_all-requires c = (
-  channels-few _ _ c.at_most-n.ensures,
-  (ap (λ (x : Dated). x.at) (c.words_of-w.ensures ∙ c.note.ensures), c.since_of-since.ensures),
-)
+renew_all-requires c =
+    record {
+      n_le_channel_limit = channels-few _ _ c.at_most-n.ensures;
+      time_word_value = ap (λ (x : Dated). x.at) (c.words_of-w.ensures ∙ c.note.ensures);
+      since_value = c.since_of-since.ensures;
+    }
 
 pub returns : goal.returns
 returns c =

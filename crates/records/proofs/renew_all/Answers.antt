@@ -8,12 +8,12 @@ use Rattle.records.proofs.renew_all.Goals as goal
 
 pub loop-i-init : goal.loop-i-init
 loop-i-init c =
-    let few = c.requires.0 in
+    let few = c.requires.n_le_channel_limit in
     refreshing_start _ _ few.0 few.1 c.none-l.ensures
 
 pub renew-requires : goal.renew-requires
 renew-requires c =
-    (refreshing_room c.loop-i.invariant c.loop-i-test.true, c.requires.1)
+    (refreshing_room c.loop-i.invariant c.loop-i-test.true, c.requires.time_word_value)
 
 pub lay_next-l-requires : goal.lay_next-l-requires
 lay_next-l-requires c =

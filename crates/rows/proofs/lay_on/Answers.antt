@@ -43,7 +43,10 @@ put_row-requires c =
     let l = c.loop-bits in
     tests_true a.t.now a.v a.count a.u.now a.from a.out.now l.x l.i l.n l.out
     sampling.result c.width-w.result sampling.ensures c.width-w.ensures l.invariant (sym c.lays.ensures ∙ c.if-lays.true) in
-    (rw c.width-w.ensures at c.bits_at-bits.ensures.1, omega (arith, fits-here, c.loop-bits.invariant.long))
+    record {
+      bits_bound = rw c.width-w.ensures at c.bits_at-bits.ensures.1;
+      row_words_in_bounds = omega (arith, fits-here, c.loop-bits.invariant.long);
+    }
 
 pub overflow_add-i : goal.overflow_add-i
 overflow_add-i c =
@@ -107,8 +110,9 @@ pub returns-else-lays : goal.returns-else-lays
 returns-else-lays c =
     let sampling = c.sampling_at-c in
     let a = c.args in
-    let l = c.loop-bits in (
-      l.invariant,
-      tests_false a.t.now a.v a.count a.u.now a.from a.out.now l.x l.i l.n l.out
-          sampling.result c.width-w.result sampling.ensures c.width-w.ensures l.invariant (sym c.lays.ensures ∙ c.if-lays.false),
-    )
+    let l = c.loop-bits in
+    record {
+      onward = l.invariant;
+      given_value = tests_false a.t.now a.v a.count a.u.now a.from a.out.now l.x l.i l.n l.out
+          sampling.result c.width-w.result sampling.ensures c.width-w.ensures l.invariant (sym c.lays.ensures ∙ c.if-lays.false);
+    }

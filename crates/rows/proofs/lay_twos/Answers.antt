@@ -70,7 +70,10 @@ put_row-requires c =
     let l = c.loop-two in
     tests_true a.t.now a.v a.count a.u.now (laid a.at 0 0) a.out.now l.x l.i l.n l.out
     sampling.result 2 sampling.ensures (width_here) l.invariant (tested_here).1 in
-    (rw (← width_here) c.two_at-two.ensures.1, omega (arith, fits-here, c.loop-two.invariant.long))
+    record {
+      bits_bound = rw (← width_here) c.two_at-two.ensures.1;
+      row_words_in_bounds = omega (arith, fits-here, c.loop-two.invariant.long);
+    }
 
 pub overflow_add-i : goal.overflow_add-i
 unfolding width_of

@@ -61,5 +61,5 @@ returns-in-8 c = c.float-in-8.ensures
 
 pub returns-in_default : goal.returns-in_default
 returns-in_default c =
-    let rest = c.in_default.rest in
+    let rest = c.in_default.in_default-own.rest in
     c.whole-in_default.ensures ∙ rest_shown _ _ c.requires rest.0.0.0.0.0.1 rest.0.0.0.0.1 rest.0.0.0.1 rest.0.0.1 rest.0.1 rest.1

@@ -27,7 +27,10 @@ put_row-requires c =
     let narrow : width.result ≤ 8 = rw width.ensures (width_le c.sampling_at-c.result.datatype) in
     (part_read a.little width.result a.octets.now _ narrow c.part-x.ensures c.number.ensures, part_fits a.little width.result a.octets.now _ narrow c.part-x.ensures c.number.ensures) in
     let width = c.width in
-    (rw width.ensures at (bits_of).1, omega arith)
+    record {
+      bits_bound = rw width.ensures at (bits_of).1;
+      row_words_in_bounds = omega arith;
+    }
 
 pub returns : goal.returns
 returns c =

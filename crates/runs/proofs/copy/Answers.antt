@@ -57,7 +57,11 @@ pub overflow_add-at : goal.overflow_add-at
 overflow_add-at c = omega arith
 
 pub copy_piece-done-requires : goal.copy_piece-done-requires
-copy_piece-done-requires c = (omega arith, omega arith)
+copy_piece-done-requires c =
+    record {
+      n_in_bounds = omega arith;
+      n_in_bounds_2 = omega arith;
+    }
 
 pub overflow_add-done : goal.overflow_add-done
 overflow_add-done c = omega arith
@@ -67,7 +71,7 @@ loop-done-smaller c = omega arith
 
 pub loop-done-preserved : goal.loop-done-preserved
 loop-done-preserved c =
-    moves c.copy_piece-done.result (omega arith) c.copy_piece-done.ensures.1 c.loop-done.invariant
+    moves c.copy_piece-done.result (omega arith) c.copy_piece-done.ensures.dst_after c.loop-done.invariant
 
 pub overflow_add-from-2 : goal.overflow_add-from-2
 overflow_add-from-2 c = omega arith
@@ -79,7 +83,11 @@ pub overflow_add-at-2 : goal.overflow_add-at-2
 overflow_add-at-2 c = omega arith
 
 pub copy_octets-requires : goal.copy_octets-requires
-copy_octets-requires c = (omega arith, omega arith)
+copy_octets-requires c =
+    record {
+      n_in_bounds = omega arith;
+      n_in_bounds_2 = omega arith;
+    }
 
 pub overflow_add-result : goal.overflow_add-result
 overflow_add-result c = omega arith

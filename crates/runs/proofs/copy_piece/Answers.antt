@@ -9,17 +9,8 @@ use native.Mathlib.Omega.{arith}
 use lib.ListN.{length, set, take, drop, get_or, length-set, length-drop, length-replicate}
 use lib.Seq.{take-suc, take-suc-set, get_or-take, get_or-drop}
 use Rattle.runs.proofs.Moves.{Moving, begins, one_moves, moved}
+use Rattle.runs.proofs.copy_piece.Invariants.{piece_octets, Held}
 use Rattle.runs.proofs.copy_piece.Goals as goal
-
--- The octets of a piece.
-abbrev piece_octets : ℕ
-piece_octets = 1048576
-
--- The first i octets of the array are those of s from q on.
-record Held (s : List ℕ) (q k : ℕ) (a : List ℕ) (i : ℕ) : Type 0 where
-  low : i ≤ k
-  long : length a ≡ piece_octets
-  held : take i a ≡ take i (drop q s)
 
 -- A turn of the first loop reads one octet more.
 reads : {s : List ℕ} {q k : ℕ} {a : List ℕ} {i : ℕ} → q + i < length s → i < k → k ≤ piece_octets → Held s q k a i
@@ -90,4 +81,8 @@ pub shape_of-dst : goal.shape_of-dst
 shape_of-dst c = c.loop-j.invariant.long
 
 pub returns : goal.returns
-returns c = ((omega arith, omega arith), moved c.loop-j-test.false c.loop-j.invariant)
+returns c =
+    record {
+      lower_bound = (omega arith, omega arith);
+      dst_after = moved c.loop-j-test.false c.loop-j.invariant;
+    }

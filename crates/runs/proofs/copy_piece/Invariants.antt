@@ -11,6 +11,16 @@ use lib.Seq.{take-suc, take-suc-set, get_or-take, get_or-drop}
 use Rattle.runs.proofs.Moves.{Moving, begins, one_moves, moved}
 use Rattle.runs.proofs.copy_piece.Given as goal
 
+-- The octets of a piece.
+abbrev pub piece_octets : ℕ
+piece_octets = 1048576
+
+-- The first i octets of the array are those of s from q on.
+pub record Held (s : List ℕ) (q k : ℕ) (a : List ℕ) (i : ℕ) : Type 0 where
+  pub low : i ≤ k
+  pub long : length a ≡ piece_octets
+  pub held : take i a ≡ take i (drop q s)
+
 abbrev pub invariant-loop-i : goal.invariant-loop-i
 invariant-loop-i l = Held l.src l.q l.k l.piece l.i
 

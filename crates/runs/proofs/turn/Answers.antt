@@ -88,7 +88,10 @@ turn_run-requires c =
     let a = c.args in
     let h = there a.src.now a.from a.w a.n (omega arith) c.if-src-from-2.false in
     let k = sym c.overruns.ensures ∙ c.if-overruns.false in
-    (omega arith, omega (arith, ltb-false))
+    record {
+      w_in_bounds = omega arith;
+      w_in_bounds_2 = omega (arith, ltb-false);
+    }
 
 pub overflow_add-result : goal.overflow_add-result
 overflow_add-result c =

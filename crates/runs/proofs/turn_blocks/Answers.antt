@@ -13,32 +13,36 @@ block : {w left : ℕ} → Whole w → 16 / w ≤ left → 16 ≤ left * w
 block {w} a h = rw a.size at (mul-le-mul_right w h)
 
 pub nonzero_div-each : goal.nonzero_div-each
-nonzero_div-each c = (whole c.requires.0).some
+nonzero_div-each c = (whole c.requires.fact).some
 
 pub loop-left-init : goal.loop-left-init
 loop-left-init c = record { there = omega arith; room = omega arith; long = refl; rest = refl }
 
 pub turn_block-requires : goal.turn_block-requires
 turn_block-requires c =
-    let h = block (whole c.requires.0) c.loop-left-test.true in
-    (c.requires.0, (omega arith, omega arith))
+    let h = block (whole c.requires.fact) c.loop-left-test.true in
+    record {
+      fact = c.requires.fact;
+      q_in_bounds = omega arith;
+      p_in_bounds = omega arith;
+    }
 
 pub overflow_add-q : goal.overflow_add-q
 overflow_add-q c =
-    let h = block (whole c.requires.0) c.loop-left-test.true in
+    let h = block (whole c.requires.fact) c.loop-left-test.true in
     omega arith
 
 pub overflow_add-p : goal.overflow_add-p
 overflow_add-p c =
-    let h = block (whole c.requires.0) c.loop-left-test.true in
+    let h = block (whole c.requires.fact) c.loop-left-test.true in
     omega arith
 
 pub loop-left-smaller : goal.loop-left-smaller
-loop-left-smaller c = let h = whole c.requires.0 in omega arith
+loop-left-smaller c = let h = whole c.requires.fact in omega arith
 
 pub loop-left-preserved : goal.loop-left-preserved
 loop-left-preserved c =
-    left_less _ 16 (whole c.requires.0).size
+    left_less _ 16 (whole c.requires.fact).size
     c.loop-left-test.true
     c.turn_block.ensures
     c.loop-left.invariant

@@ -23,13 +23,17 @@ four_less {q = q} {p = p} {left = left} h first second l =
 
 pub loop-left-init : goal.loop-left-init
 loop-left-init c =
-    record { there = omega (arith, c.requires.0); room = omega (arith, c.requires.1); long = refl; rest = refl }
+    record { there = omega (arith, c.requires.n_in_bounds); room = omega (arith, c.requires.n_in_bounds_2); long = refl; rest = refl }
 
 pub turn_two-requires : goal.turn_two-requires
 turn_two-requires c =
     let inv = c.loop-left.invariant in
     let small = c.well_formed.0.1 in
-    (omega (arith, inv.there, c.loop-left-test.true), (omega (arith, inv.room, c.loop-left-test.true), div-eq_of_lt (omega (arith, small))))
+    record {
+      q_in_bounds = omega (arith, inv.there, c.loop-left-test.true);
+      p_in_bounds = omega (arith, inv.room, c.loop-left-test.true);
+      zero_value = div-eq_of_lt (omega (arith, small));
+    }
 
 pub overflow_add-q : goal.overflow_add-q
 overflow_add-q c =
@@ -45,7 +49,11 @@ turn_two-requires-in-loop-left c =
     let inv = c.loop-left.invariant in
     let small = c.well_formed.0.1 in
     let rest = left_less 2 16 refl (omega (arith, c.loop-left-test.true)) c.turn_two.ensures inv in
-    (omega (arith, inv.there, c.loop-left-test.true), (omega (arith, rest.room, c.loop-left-test.true), div-eq_of_lt (omega (arith, small))))
+    record {
+      q_in_bounds = omega (arith, inv.there, c.loop-left-test.true);
+      p_in_bounds = omega (arith, rest.room, c.loop-left-test.true);
+      zero_value = div-eq_of_lt (omega (arith, small));
+    }
 
 pub overflow_add-q-in-loop-left : goal.overflow_add-q-in-loop-left
 overflow_add-q-in-loop-left c =
@@ -64,7 +72,11 @@ loop-left-preserved c =
     four_less c.loop-left-test.true c.turn_two.ensures c.turn_two-in-loop-left.ensures c.loop-left.invariant
 
 pub turn_each-requires : goal.turn_each-requires
-turn_each-requires c = (c.loop-left.invariant.there, c.loop-left.invariant.room)
+turn_each-requires c =
+    record {
+      w_in_bounds = c.loop-left.invariant.there;
+      w_in_bounds_2 = c.loop-left.invariant.room;
+    }
 
 pub returns : goal.returns
 returns c = c.turn_each.ensures ∙ c.loop-left.invariant.rest

@@ -30,12 +30,16 @@ pub returns-then-w-eq1 : goal.returns-then-w-eq1
 returns-then-w-eq1 c =
     let a = c.args in
     plain a.dst.now a.at a.n (drop a.from a.src.now)
-    c.if-w-eq1.true c.requires.1 c.copy.ensures
+    c.if-w-eq1.true c.requires.w_in_bounds_2 c.copy.ensures
 
 pub turn_blocks-requires : goal.turn_blocks-requires
 turn_blocks-requires c =
     let h = ap (λ (k : ℕ). c.args.n * k) c.if-w-eq2.true in
-    (inl refl, (omega arith, omega arith))
+    record {
+      fact = inl refl;
+      w_in_bounds = omega arith;
+      w_in_bounds_2 = omega arith;
+    }
 
 pub returns-then-w-eq2 : goal.returns-then-w-eq2
 returns-then-w-eq2 c =
@@ -46,7 +50,11 @@ returns-then-w-eq2 c =
 pub turn_blocks-requires-then-w-eq4 : goal.turn_blocks-requires-then-w-eq4
 turn_blocks-requires-then-w-eq4 c =
     let h = ap (λ (k : ℕ). c.args.n * k) c.if-w-eq4.true in
-    (inr refl, (omega arith, omega arith))
+    record {
+      fact = inr refl;
+      w_in_bounds = omega arith;
+      w_in_bounds_2 = omega arith;
+    }
 
 pub returns-then-w-eq4 : goal.returns-then-w-eq4
 returns-then-w-eq4 c =
@@ -57,7 +65,10 @@ returns-then-w-eq4 c =
 pub turn_eights-requires : goal.turn_eights-requires
 turn_eights-requires c =
     let h = ap (λ (k : ℕ). c.args.n * k) c.if-w-eq8.true in
-    (omega (arith, h, c.requires), omega (arith, h, c.requires))
+    record {
+      n_in_bounds = omega (arith, h, c.requires);
+      n_in_bounds_2 = omega (arith, h, c.requires);
+    }
 
 pub returns-then-w-eq8 : goal.returns-then-w-eq8
 returns-then-w-eq8 c =

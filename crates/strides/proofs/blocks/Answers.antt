@@ -6,7 +6,7 @@ use Rattle.strides.proofs.Walks.{Blocking, blocks_begin, piece_some, block-start
 use Rattle.strides.proofs.blocks.Goals as goal
 
 pub loop-p-init : goal.loop-p-init
-loop-p-init c = blocks_begin _ _ _ _ _ c.requires.1.0 c.requires.1.1
+loop-p-init c = blocks_begin _ _ _ _ _ c.requires.in_blocks.0 c.requires.in_blocks.1
 
 pub overflow_mul-r : goal.overflow_mul-r
 overflow_mul-r c =
@@ -19,10 +19,12 @@ overflow_add-start c =
     omega (arith, block-starts _ _ _ _ _ c.loop-p-test.true c.smaller-m.ensures inv, inv.small)
 
 pub run-requires : goal.run-requires
-run-requires c = (
-  c.requires.0,
-  (block_within _ _ _ _ _ c.loop-p-test.true c.smaller-m.ensures c.loop-p.invariant c.requires.0, search rules),
-)
+run-requires c =
+    record {
+      wide = c.requires.wide;
+      in_file = block_within _ _ _ _ _ c.loop-p-test.true c.smaller-m.ensures c.loop-p.invariant c.requires.wide;
+      n_in_bounds = search rules;
+    }
 
 pub loop-p-smaller : goal.loop-p-smaller
 loop-p-smaller c =
@@ -31,7 +33,7 @@ loop-p-smaller c =
 pub loop-p-preserved : goal.loop-p-preserved
 loop-p-preserved c =
     blocks_turn _ _ _ _ _ c.loop-p-test.true c.smaller-m.ensures c.loop-p.invariant c.run.ensures
-    c.requires.0
+    c.requires.wide
 
 pub shape_of-out : goal.shape_of-out
 shape_of-out c = c.loop-p.invariant.long

@@ -8,9 +8,13 @@ use Rattle.strides.proofs.fill.Goals as goal
 pub run-requires : goal.run-requires
 run-requires c =
     let e = even_there _ _ _ c.even-step.ensures c.if-step-gt0.true in
-    (c.requires.0, (even_within _ _ _ _ _ _ _ c.requires.1.0 e c.requires.0, c.requires.1.1))
+    record {
+      wide = c.requires.wide;
+      in_file = even_within _ _ _ _ _ _ _ c.requires.in_blocks.0 e c.requires.wide;
+      n_in_bounds = c.requires.in_blocks.1;
+    }
 
 pub returns-then-step-gt0 : goal.returns-then-step-gt0
 returns-then-step-gt0 c =
     let e = even_there _ _ _ c.even-step.ensures c.if-step-gt0.true in
-    c.run.ensures ∙ ap (sets _ _) (even_is _ _ _ _ _ _ _ c.requires.1.0 e _ _)
+    c.run.ensures ∙ ap (sets _ _) (even_is _ _ _ _ _ _ _ c.requires.in_blocks.0 e _ _)

@@ -7,16 +7,16 @@ use Rattle.strides.proofs.Walks.{Running, run_begins, run_within, run_long, four
 use Rattle.strides.proofs.fours4.Goals as goal
 
 pub overflow_mul-twice : goal.overflow_mul-twice
-overflow_mul-twice c = omega (arith, c.requires.0.apart)
+overflow_mul-twice c = omega (arith, c.requires.in_file.apart)
 
 pub overflow_mul-thrice : goal.overflow_mul-thrice
-overflow_mul-thrice c = omega (arith, c.requires.0.apart)
+overflow_mul-thrice c = omega (arith, c.requires.in_file.apart)
 
 pub overflow_mul-turn : goal.overflow_mul-turn
-overflow_mul-turn c = omega (arith, c.requires.0.apart)
+overflow_mul-turn c = omega (arith, c.requires.in_file.apart)
 
 pub loop-left-init : goal.loop-left-init
-loop-left-init c = run_begins _ _ _ _ c.requires.0 c.requires.1
+loop-left-init c = run_begins _ _ _ _ c.requires.in_file c.requires.n_in_bounds
 
 pub four-requires : goal.four-requires
 four-requires c = omega (arith, four_there _ _ _ _ c.loop-left-test.true c.loop-left.invariant)
@@ -55,7 +55,11 @@ pub loop-left-preserved : goal.loop-left-preserved
 loop-left-preserved c = run_four _ _ _ _ c.loop-left-test.true c.four.ensures c.four-in-loop-left.ensures c.four-in-loop-left-2.ensures c.four-in-loop-left-3.ensures c.loop-left.invariant
 
 pub run4-requires : goal.run4-requires
-run4-requires c = (run_within _ _ _ _ c.loop-left.invariant, c.loop-left.invariant.room)
+run4-requires c =
+    record {
+      in_file = run_within _ _ _ _ c.loop-left.invariant;
+      n_in_bounds = c.loop-left.invariant.room;
+    }
 
 pub shape_of-out : goal.shape_of-out
 shape_of-out c = run_long _ _ _ _ c.run4.ensures c.loop-left.invariant

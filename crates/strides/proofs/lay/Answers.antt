@@ -5,7 +5,11 @@ use borrow.Author.Rules.{rules}
 use Rattle.strides.proofs.lay.Goals as goal
 
 pub lay_blocks-requires : goal.lay_blocks-requires
-lay_blocks-requires c = (c.if-n-gt0.true, lays_in_lem _ _ _ _ _ _ (sym c.lays.ensures ∙ c.if-lays.true))
+lay_blocks-requires c =
+    record {
+      n_nonzero = c.if-n-gt0.true;
+      layable = lays_in_lem _ _ _ _ _ _ (sym c.lays.ensures ∙ c.if-lays.true);
+    }
 
 pub returns-then-n-gt0 : goal.returns-then-n-gt0
 returns-then-n-gt0 c = rw (sym c.lays.ensures ∙ c.if-lays.true) c.lay_blocks.ensures

@@ -15,10 +15,16 @@ returns-then-all_lie c =
     let a = c.args in
     let xs = spreads_from a.t.now a.q 0 a.channels in
     let e = sym c.all_lie.ensures ∙ c.if-all_lie.true in
-    (swept_count a.s.now a.out.now xs e c.lay_all.ensures.0, swept_left a.s.now a.out.now xs e c.lay_all.ensures.1)
+    record {
+      result_value = swept_count a.s.now a.out.now xs e c.lay_all.ensures.value;
+      out_after = swept_left a.s.now a.out.now xs e c.lay_all.ensures.out_after;
+    }
 
 pub returns : goal.returns
 returns c =
     let a = c.args in
     let e = swept_refused a.s.now a.out.now (spreads_from a.t.now a.q 0 a.channels) (sym c.all_lie.ensures ∙ c.if-all_lie.false) in
-    (ap (map_answer length) e, kept _ e)
+    record {
+      result_value = ap (map_answer length) e;
+      out_after = kept _ e;
+    }

@@ -5,7 +5,7 @@ use Rattle.strides.proofs.Walks.{Running, run_begins, run_there, run_turns, run_
 use Rattle.strides.proofs.run2.Goals as goal
 
 pub loop-left-init : goal.loop-left-init
-loop-left-init c = run_begins _ _ _ _ c.requires.0 c.requires.1
+loop-left-init c = run_begins _ _ _ _ c.requires.in_file c.requires.n_in_bounds
 
 pub two-requires : goal.two-requires
 two-requires c = run_there _ _ _ _ c.loop-left-test.true c.loop-left.invariant

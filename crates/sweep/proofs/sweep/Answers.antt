@@ -29,9 +29,15 @@ returns-then-holds_frame c =
     let told = c.waveform_at-v.ensures in
     let same : ◌≡◌ {A = List Spread} _ (spreads_in w) = λ i. spreads_from (rest i) (sequences_by (told i)) 0 (told i).channels in
     let e = ap (swept_of s room) same ∙ sweep_held s w room (sym c.holds_frame.ensures ∙ c.if-holds_frame.true) in
-    (c.lay_channels.ensures.0 ∙ ap (map_answer length) e, c.lay_channels.ensures.1 ∙ ap (λ (a : Answer (List _)). left_by a c.args.out.now) e)
+    record {
+      result_value = c.lay_channels.ensures.result_value ∙ ap (map_answer length) e;
+      out_after = c.lay_channels.ensures.out_after ∙ ap (λ (a : Answer (List _)). left_by a c.args.out.now) e;
+    }
 
 pub returns : goal.returns
 returns c =
     let e = sweep_none c.args.s.now c.args.w.now (length c.args.out.now) (sym c.holds_frame.ensures ∙ c.if-holds_frame.false) in
-    (ap (map_answer length) e, kept _ e)
+    record {
+      result_value = ap (map_answer length) e;
+      out_after = kept _ e;
+    }

@@ -57,16 +57,16 @@ pub returns-in_default : goal.returns-in_default
 unfolding value_says
 returns-in_default c =
     let no_type : 9 ≤ c.args.datatype =
-    let signed = c.in_default.rest.0.0.0.0.1 in
-    let unsigned = c.in_default.rest.0.0.0.1 in
+    let signed = c.in_default.in_default-own.rest.0.0.0.0.1 in
+    let unsigned = c.in_default.in_default-own.rest.0.0.0.1 in
     past (past (past (past (past (past (past (past (past zero-le
     (λ e. signed (inl e)))
     (λ e. unsigned (inl e)))
     (λ e. signed (inr (inl e))))
     (λ e. unsigned (inr (inl e))))
-    c.in_default.rest.0.0.1)
+    c.in_default.in_default-own.rest.0.0.1)
     (λ e. signed (inr (inr e))))
     (λ e. unsigned (inr (inr e))))
-    c.in_default.rest.0.1)
-    c.in_default.rest.1 in
+    c.in_default.in_default-own.rest.0.1)
+    c.in_default.in_default-own.rest.1 in
     plain_other _ _ (no_type)

@@ -46,4 +46,4 @@ unfolding width_of
 returns-in-8 c = ap width_of (sym c.in-8.is)
 
 pub returns-in_default : goal.returns-in_default
-returns-in_default c = width_other c.args.datatype (one_more _ 8 (one_more _ 7 (one_more _ 6 (one_more _ 5 (one_more _ 4 (one_more _ 3 (one_more _ 2 (one_more _ 1 (one_more _ 0 (omega arith) c.in_default.rest.0.0.0.0.0.0.0.0.1) c.in_default.rest.0.0.0.0.0.0.0.1) c.in_default.rest.0.0.0.0.0.0.1) c.in_default.rest.0.0.0.0.0.1) c.in_default.rest.0.0.0.0.1) c.in_default.rest.0.0.0.1) c.in_default.rest.0.0.1) c.in_default.rest.0.1) c.in_default.rest.1)
+returns-in_default c = width_other c.args.datatype (one_more _ 8 (one_more _ 7 (one_more _ 6 (one_more _ 5 (one_more _ 4 (one_more _ 3 (one_more _ 2 (one_more _ 1 (one_more _ 0 (omega arith) c.in_default.in_default-own.rest.0.0.0.0.0.0.0.0.1) c.in_default.in_default-own.rest.0.0.0.0.0.0.0.1) c.in_default.in_default-own.rest.0.0.0.0.0.0.1) c.in_default.in_default-own.rest.0.0.0.0.0.1) c.in_default.in_default-own.rest.0.0.0.0.1) c.in_default.in_default-own.rest.0.0.0.1) c.in_default.in_default-own.rest.0.0.1) c.in_default.in_default-own.rest.0.1) c.in_default.in_default-own.rest.1)

@@ -5,4 +5,8 @@ use borrow.Author.Rules.{rules}
 use Rattle.mfer.proofs.walks.mfer_walk_open.Goals as goal
 
 pub returns : goal.returns
-returns c = (c.checked_out.ensures ∙ ap count_out c.before.before.before.«open».ensures.answers, c.before.before.before.«open».ensures.words)
+returns c =
+    record {
+      frames_after = c.checked_out.ensures ∙ ap count_out c.before.before.before.«open».ensures.answers;
+      opened = c.before.before.before.«open».ensures.words;
+    }

@@ -5,4 +5,8 @@ use borrow.Author.Rules.{rules}
 use Rattle.mfer.proofs.walks.mfer_walk_samples.Goals as goal
 
 pub returns : goal.returns
-returns c = (c.read_out.ensures ∙ ap count_out c.samples.ensures.0, c.samples.ensures.1)
+returns c =
+    record {
+      count_after = c.read_out.ensures ∙ ap count_out c.samples.ensures.result_value;
+      out_after = c.samples.ensures.out_after;
+    }

@@ -32,5 +32,5 @@ returns-in-8 c = c.other_meaning-in-8.ensures ∙ ap (λ (k : ℕ). meaning_of k
 
 pub returns-in_default : goal.returns-in_default
 returns-in_default c =
-    let rest = c.in_default.rest in
+    let rest = c.in_default.in_default-own.rest in
     c.whole_meaning-in_default.ensures ∙ meaning_other _ _ rest.0.0.0.0.0.1 rest.0.0.0.0.1 rest.0.0.0.1 rest.0.0.1 rest.0.1 rest.1
