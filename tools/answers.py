@@ -21,12 +21,16 @@ LEAVES = {"args", "requires", "ranges", "lifetimes", "auto", "well_formed", "typ
 
 def labelled(fields, rest):
     """A way into clauses that now have names: the clause by its place."""
-    if len(fields) < 2 or not rest or not rest[0].isdigit():
+    if len(fields) < 2 or not rest or rest[0] not in ("0", "1"):
         return rest
-    k = int(rest[0])
-    if k < len(fields):
-        return [fields[k]] + rest[1:]
-    return rest
+    k = 0
+    while rest and rest[0] == "1" and k < len(fields) - 1:
+        k, rest = k + 1, rest[1:]
+    if k < len(fields) - 1:
+        if rest[:1] != ["0"]:
+            return ["1"] * k + rest
+        rest = rest[1:]
+    return [fields[k]] + rest
 
 
 def parts_of(text):
@@ -80,6 +84,9 @@ class Names:
             if alike(form) in self.needs:
                 return self.needs[alike(form)]
         return None
+
+    def labels(self, step):
+        return any(alike(p[2][0]) == alike(step) and len((c or {}).get("fields", [])) > 1 for p, c in zip(self.places, self.x["clauses"]))
 
     def above(self, place):
         while place is not None and place in self.at:
@@ -168,6 +175,8 @@ def inline(body, arg, names, place, said):
             plain = [x for x in path if x != "before"]
             got = names.resolve(plain, place) if plain else None
             whole = got is not None and not (got[0].startswith("in-") and len(got) == 1)
+            if got and (got == ["requires"] or got[1:] == ["ensures"]) and (len(names.pre) > 1 if got == ["requires"] else names.labels(plain[0])):
+                whole = False
             if not plain or not whole or plain == path[-1:] and plain[0] not in LEAVES and len(got) == 1 and any(
                 alike(old) == alike(plain[0]) for i in names.above(place) if names.x["arms"][i] for _, old, _ in names.x["arms"][i][2]
             ):
@@ -290,7 +299,7 @@ def turn(crate, function, names, path, said):
                 answers.append(part)
                 continue
             term = body[m.end() + d.end():].strip()
-            if term == "search rules":
+            if term == "search rules" and not m.group(3):
                 continue
             if got is None:
                 said.append("no goal " + m.group(2))
@@ -299,6 +308,8 @@ def turn(crate, function, names, path, said):
             unfolding = m.group(3).split()[1:]
             term = expanded(d.group(3) + body[m.end() + d.end():], unfolding, d.group(2), helpers)
             term = inline(term, d.group(2), names, place, said)
+            # A test of `!x` says what `x` is.
+            term = re.sub(r"not-(true|false) _ (%s\.if-not-%s\.(?:true|false))(?![^\s(){};,])" % (V, N), lambda k: k.group(2), term)
             fields = names.asked.get(names.old[new], [])
             if len(fields) > 1 and "record {" not in term:
                 as_record = named(term, fields)

@@ -10,9 +10,9 @@ pub along_ignored-requires : goal.along_ignored-requires
 along_ignored-requires c =
     record {
       u_bound = c.requires.u_bound;
-      fits = c.requires.fits.0;
-      within_value = c.requires.fits.1.0;
-      within_value_2 = group_inside c.args.within c.args.channel c.requires.fits.1.1;
+      fits = c.requires.fits;
+      within_value = c.requires.within_value;
+      within_value_2 = group_inside c.args.within c.args.channel c.requires.in_group;
       counted_value = c.if-st-eq0.true;
     }
 
@@ -27,13 +27,13 @@ returns-then-k-eq0 c = goes_none _ _ _ _ c.none-then-k-eq0.ensures
 
 pub returns-then-passed : goal.returns-then-passed
 returns-then-passed c =
-    group_put _ c.args.h _ _ _ c.if-dates.false (omega (arith, c.if-st-eq0.false)) c.requires.fits.1.0 c.requires.fits.1.1
-    c.requires.u_bound c.requires.fits.0 c.settled-stood.ensures c.along-ahead.ensures c.if-k-eq0.false
+    group_put _ c.args.h _ _ _ c.if-dates.false (omega (arith, c.if-st-eq0.false)) c.requires.within_value c.requires.in_group
+    c.requires.u_bound c.requires.fits c.settled-stood.ensures c.along-ahead.ensures c.if-k-eq0.false
     c.part.ensures c.over-passed.ensures c.around_at-mark.ensures c.if-passed.true c.note.ensures
     c.put.ensures
 
 pub returns-else-passed : goal.returns-else-passed
 returns-else-passed c =
-    group_kept _ c.args.h _ _ _ c.if-dates.false (omega (arith, c.if-st-eq0.false)) c.requires.fits.1.0
-    c.requires.fits.1.1 c.requires.u_bound c.requires.fits.0 c.settled-stood.ensures c.along-ahead.ensures
+    group_kept _ c.args.h _ _ _ c.if-dates.false (omega (arith, c.if-st-eq0.false)) c.requires.within_value
+    c.requires.in_group c.requires.u_bound c.requires.fits c.settled-stood.ensures c.along-ahead.ensures
     c.if-k-eq0.false c.part.ensures c.over-passed.ensures c.around_at-mark.ensures c.if-passed.false

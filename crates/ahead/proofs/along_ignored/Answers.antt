@@ -11,6 +11,6 @@ returns-then-k-eq0 c = λ t. goes_none _ _ _ t c.none.ensures
 
 pub returns : goal.returns
 returns c =
-    λ t. ignored_goes _ c.args.h c.args.around t c.requires.fits.1.0 c.requires.fits.1.1.0 c.requires.fits.1.1.1
-    c.requires.u_bound c.requires.fits.0 c.along-ahead.ensures c.if-k-eq0.false c.part.ensures c.over-passed.ensures
+    λ t. ignored_goes _ c.args.h c.args.around t c.requires.within_value c.requires.within_value_2 c.requires.counted_value
+    c.requires.u_bound c.requires.fits c.along-ahead.ensures c.if-k-eq0.false c.part.ensures c.over-passed.ensures
     c.around_at-mark.ensures

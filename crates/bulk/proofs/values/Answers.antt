@@ -29,6 +29,6 @@ returns-in-Channel c =
     let e = values_located l a.first (min (length a.kinds.now) (length a.wholes.now)) in
     record {
       result_value = c.values_seen.ensures.result_value ∙ ap (map_answer length) e;
-      kinds_after = c.values_seen.ensures.kinds_after.0 ∙ ap (λ (b : Answer (List Said)). left_by (kinds_in b) a.kinds.now) e;
-      wholes_after = c.values_seen.ensures.kinds_after.1 ∙ ap (λ (b : Answer (List Said)). left_by (wholes_in b) a.wholes.now) e;
+      kinds_after = c.values_seen.ensures.kinds_after ∙ ap (λ (b : Answer (List Said)). left_by (kinds_in b) a.kinds.now) e;
+      wholes_after = c.values_seen.ensures.wholes_after ∙ ap (λ (b : Answer (List Said)). left_by (wholes_in b) a.wholes.now) e;
     }

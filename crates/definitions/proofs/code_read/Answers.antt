@@ -7,10 +7,10 @@ use borrow.Author.Rules.{rules}
 use Rattle.definitions.proofs.code_read.Goals as goal
 
 pub returns-then-not-length_fits : goal.returns-then-not-length_fits
-returns-then-not-length_fits c = read_length CodeRead.Value CodeRead.Refused _ _ _ _ _ (sym c.length_fits.ensures ∙ not-true _ c.if-not-length_fits.true)
+returns-then-not-length_fits c = read_length CodeRead.Value CodeRead.Refused _ _ _ _ _ (sym c.length_fits.ensures ∙ c.if-not-length_fits.true)
 
 pub returns-then-v-eq0 : goal.returns-then-v-eq0
-returns-then-v-eq0 c = read_back CodeRead.Value CodeRead.Refused _ _ _ _ _ (sym c.length_fits.ensures ∙ not-false _ c.if-not-length_fits.false) c.if-v-eq0.true
+returns-then-v-eq0 c = read_back CodeRead.Value CodeRead.Refused _ _ _ _ _ (sym c.length_fits.ensures ∙ c.if-not-length_fits.false) c.if-v-eq0.true
 
 pub returns : goal.returns
-returns c = ap CodeRead.Value c.two.ensures ∙ read_value CodeRead.Value CodeRead.Refused _ _ _ _ _ (sym c.length_fits.ensures ∙ not-false _ c.if-not-length_fits.false) c.if-v-eq0.false refl
+returns c = ap CodeRead.Value c.two.ensures ∙ read_value CodeRead.Value CodeRead.Refused _ _ _ _ _ (sym c.length_fits.ensures ∙ c.if-not-length_fits.false) c.if-v-eq0.false refl

@@ -8,13 +8,13 @@ use borrow.Author.Rules.{rules}
 use Rattle.definitions.proofs.scale_read.Goals as goal
 
 pub returns-then-not-scale_length : goal.returns-then-not-scale_length
-returns-then-not-scale_length c = read_length ScaleRead.Value ScaleRead.Refused _ _ _ _ _ (sym c.scale_length.ensures ∙ not-true _ c.if-not-scale_length.true)
+returns-then-not-scale_length c = read_length ScaleRead.Value ScaleRead.Refused _ _ _ _ _ (sym c.scale_length.ensures ∙ c.if-not-scale_length.true)
 
 pub returns-then-v-eq0 : goal.returns-then-v-eq0
-returns-then-v-eq0 c = read_back ScaleRead.Value ScaleRead.Refused _ _ _ _ _ (sym c.scale_length.ensures ∙ not-false _ c.if-not-scale_length.false) c.if-v-eq0.true
+returns-then-v-eq0 c = read_back ScaleRead.Value ScaleRead.Refused _ _ _ _ _ (sym c.scale_length.ensures ∙ c.if-not-scale_length.false) c.if-v-eq0.true
 
 pub returns-then-scale_fits : goal.returns-then-scale_fits
-returns-then-scale_fits c = ap ScaleRead.Value c.scale_of-x.ensures ∙ read_value ScaleRead.Value ScaleRead.Refused _ _ _ _ _ (sym c.scale_length.ensures ∙ not-false _ c.if-not-scale_length.false) c.if-v-eq0.false (ap (scale_fits _) (sym c.scale_of-x.ensures) ∙ sym c.scale_fits.ensures ∙ c.if-scale_fits.true)
+returns-then-scale_fits c = ap ScaleRead.Value c.scale_of-x.ensures ∙ read_value ScaleRead.Value ScaleRead.Refused _ _ _ _ _ (sym c.scale_length.ensures ∙ c.if-not-scale_length.false) c.if-v-eq0.false (ap (scale_fits _) (sym c.scale_of-x.ensures) ∙ sym c.scale_fits.ensures ∙ c.if-scale_fits.true)
 
 pub returns-else-scale_fits : goal.returns-else-scale_fits
-returns-else-scale_fits c = read_unfit ScaleRead.Value ScaleRead.Refused _ _ _ _ _ (sym c.scale_length.ensures ∙ not-false _ c.if-not-scale_length.false) c.if-v-eq0.false (ap (scale_fits _) (sym c.scale_of-x.ensures) ∙ sym c.scale_fits.ensures ∙ c.if-scale_fits.false)
+returns-else-scale_fits c = read_unfit ScaleRead.Value ScaleRead.Refused _ _ _ _ _ (sym c.scale_length.ensures ∙ c.if-not-scale_length.false) c.if-v-eq0.false (ap (scale_fits _) (sym c.scale_of-x.ensures) ∙ sym c.scale_fits.ensures ∙ c.if-scale_fits.false)

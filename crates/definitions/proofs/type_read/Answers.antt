@@ -10,13 +10,13 @@ use borrow.Author.Rules.{rules}
 use Rattle.definitions.proofs.type_read.Goals as goal
 
 pub returns-then-not-length_fits : goal.returns-then-not-length_fits
-returns-then-not-length_fits c = read_length TypeRead.Value TypeRead.Refused _ _ _ _ _ (sym c.length_fits.ensures ∙ not-true _ c.if-not-length_fits.true)
+returns-then-not-length_fits c = read_length TypeRead.Value TypeRead.Refused _ _ _ _ _ (sym c.length_fits.ensures ∙ c.if-not-length_fits.true)
 
 pub returns-then-v-eq0 : goal.returns-then-v-eq0
-returns-then-v-eq0 c = read_back TypeRead.Value TypeRead.Refused _ _ _ _ _ (sym c.length_fits.ensures ∙ not-false _ c.if-not-length_fits.false) c.if-v-eq0.true
+returns-then-v-eq0 c = read_back TypeRead.Value TypeRead.Refused _ _ _ _ _ (sym c.length_fits.ensures ∙ c.if-not-length_fits.false) c.if-v-eq0.true
 
 pub returns-then-n-le-LAST_DATA_TYPE : goal.returns-then-n-le-LAST_DATA_TYPE
-returns-then-n-le-LAST_DATA_TYPE c = ap TypeRead.Value c.octet-n.ensures ∙ read_value TypeRead.Value TypeRead.Refused _ _ _ _ _ (sym c.length_fits.ensures ∙ not-false _ c.if-not-length_fits.false) c.if-v-eq0.false (ap (λ (n : ℕ). leb n last_data_type) (sym c.octet-n.ensures) ∙ le-leb _ last_data_type c.if-n-le-LAST_DATA_TYPE.true)
+returns-then-n-le-LAST_DATA_TYPE c = ap TypeRead.Value c.octet-n.ensures ∙ read_value TypeRead.Value TypeRead.Refused _ _ _ _ _ (sym c.length_fits.ensures ∙ c.if-not-length_fits.false) c.if-v-eq0.false (ap (λ (n : ℕ). leb n last_data_type) (sym c.octet-n.ensures) ∙ le-leb _ last_data_type c.if-n-le-LAST_DATA_TYPE.true)
 
 pub returns-else-n-le-LAST_DATA_TYPE : goal.returns-else-n-le-LAST_DATA_TYPE
-returns-else-n-le-LAST_DATA_TYPE c = read_unfit TypeRead.Value TypeRead.Refused _ _ _ _ _ (sym c.length_fits.ensures ∙ not-false _ c.if-not-length_fits.false) c.if-v-eq0.false (ap (λ (n : ℕ). leb n last_data_type) (sym c.octet-n.ensures) ∙ lt-leb _ last_data_type c.if-n-le-LAST_DATA_TYPE.false)
+returns-else-n-le-LAST_DATA_TYPE c = read_unfit TypeRead.Value TypeRead.Refused _ _ _ _ _ (sym c.length_fits.ensures ∙ c.if-not-length_fits.false) c.if-v-eq0.false (ap (λ (n : ℕ). leb n last_data_type) (sym c.octet-n.ensures) ∙ lt-leb _ last_data_type c.if-n-le-LAST_DATA_TYPE.false)

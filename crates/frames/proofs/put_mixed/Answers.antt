@@ -10,17 +10,15 @@ use Rattle.frames.proofs.put_mixed.Goals as goal
 pub returns-then-sequence-eq0 : goal.returns-then-sequence-eq0
 returns-then-sequence-eq0 c =
     let a = c.args in
-    let pre = c.requires in
-    mixed_none (take a.count (held_in a.t.now)) a.octets a.w.now pre.0.1 pre.1.1 c.if-sequence-eq0.true _ _
+    mixed_none (take a.count (held_in a.t.now)) a.octets a.w.now c.requires.few.1 c.requires.octets_in_bounds.1 c.if-sequence-eq0.true _ _
 
 pub put_blocks-next-requires : goal.put_blocks-next-requires
 put_blocks-next-requires c =
     let a = c.args in
-    let pre = c.requires in
-    let whole = mixed_whole (take a.count (held_in a.t.now)) a.octets a.w.now pre.0.1 pre.1.1 in
+    let whole = mixed_whole (take a.count (held_in a.t.now)) a.octets a.w.now c.requires.few.1 c.requires.octets_in_bounds.1 in
     record {
-      few = (pre.0.0, omega (arith, whole, pre.1.0));
-      sequences_in_bounds = omega (arith, whole, pre.1.2);
+      few = (c.requires.few.0, omega (arith, whole, c.requires.octets_in_bounds.0));
+      sequences_in_bounds = omega (arith, whole, c.requires.octets_in_bounds.2);
     }
 
 pub overflow_mul-whole : goal.overflow_mul-whole
@@ -31,16 +29,14 @@ overflow_mul-whole c =
 pub put_part-requires : goal.put_part-requires
 put_part-requires c =
     let a = c.args in
-    let pre = c.requires in
     let cs = take a.count (held_in a.t.now) in
-    let room = mixed_room cs a.octets a.w.now pre.0.1 pre.1.1 pre.1.0 pre.1.2 c.put_blocks-next.ensures in
+    let room = mixed_room cs a.octets a.w.now c.requires.few.1 c.requires.octets_in_bounds.1 c.requires.octets_in_bounds.0 c.requires.octets_in_bounds.2 c.put_blocks-next.ensures in
     record {
-      few = (pre.0.0, omega (arith, div-add-mod' a.octets a.sequence, pre.1.0));
+      few = (c.requires.few.0, omega (arith, div-add-mod' a.octets a.sequence, c.requires.octets_in_bounds.0));
       rest_in_bounds = room;
     }
 
 pub returns : goal.returns
 returns c =
     let a = c.args in
-    let pre = c.requires in
-    mixed_put (take a.count (held_in a.t.now)) a.octets a.w.now pre.0.1 pre.1.1 c.put_blocks-next.ensures c.put_part.ensures
+    mixed_put (take a.count (held_in a.t.now)) a.octets a.w.now c.requires.few.1 c.requires.octets_in_bounds.1 c.put_blocks-next.ensures c.put_part.ensures

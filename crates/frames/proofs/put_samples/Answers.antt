@@ -21,7 +21,7 @@ pub returns-then-not-little : goal.returns-then-not-little
 returns-then-not-little c =
     let a = c.args in
     let cs = take a.count (held_in a.t.now) in
-    put_as (samples_big {little = a.little} cs _ _ (not-true _ c.if-not-little.true))
+    put_as (samples_big {little = a.little} cs _ _ (c.if-not-little.true))
     (put_fits (taken-room a.octets a.at a.w.now a.out.now c.requires.octets_in_bounds.2) c.copy.ensures)
 
 pub returns-then-v-eq1 : goal.returns-then-v-eq1
@@ -29,14 +29,14 @@ returns-then-v-eq1 c =
     let a = c.args in
     let cs = take a.count (held_in a.t.now) in
     let one = one_wide cs _ c.even_width-v.ensures c.if-v-eq1.true in
-    let little = not-false _ c.if-not-little.false in
+    let little = c.if-not-little.false in
     put_as (samples_narrow cs a.octets a.w.now c.requires.few.1 c.requires.octets_in_bounds.1 one ∙ samples-little {little = a.little} cs _ _ little)
     (put_fits (taken-room a.octets a.at a.w.now a.out.now c.requires.octets_in_bounds.2) c.copy-then-v-eq1.ensures)
 
 pub returns-then-v-eq0 : goal.returns-then-v-eq0
 returns-then-v-eq0 c =
     let a = c.args in
-    put_as (samples-little {little = a.little} (take a.count (held_in a.t.now)) _ _ (not-false _ c.if-not-little.false)) c.put_mixed.ensures
+    put_as (samples-little {little = a.little} (take a.count (held_in a.t.now)) _ _ (c.if-not-little.false)) c.put_mixed.ensures
 
 pub returns : goal.returns
 returns c =
@@ -44,8 +44,7 @@ returns c =
     let cs = take a.count (held_in a.t.now) in
     let v = c.even_width-v in
     let p : 0 < v.result = omega arith in
-    let pre = c.requires in
-    let long = even_room cs a.octets a.w.now pre.0.1 pre.1.1 pre.1.0 v.result p (v.ensures p) in
-    let little = not-false _ c.if-not-little.false in
-    put_as (samples_even cs a.octets a.w.now pre.0.1 pre.1.1 pre.1.0 _ p (v.ensures p) ∙ samples-little {little = a.little} cs _ _ little)
-    (put_fits (omega (arith, pre.1.2)) c.turn.ensures)
+    let long = even_room cs a.octets a.w.now c.requires.few.1 c.requires.octets_in_bounds.1 c.requires.octets_in_bounds.0 v.result p (v.ensures p) in
+    let little = c.if-not-little.false in
+    put_as (samples_even cs a.octets a.w.now c.requires.few.1 c.requires.octets_in_bounds.1 c.requires.octets_in_bounds.0 _ p (v.ensures p) ∙ samples-little {little = a.little} cs _ _ little)
+    (put_fits (omega (arith, c.requires.octets_in_bounds.2)) c.turn.ensures)

@@ -14,23 +14,21 @@ put_groups-b-requires c =
     let tabled : let a = c.args in length (take a.count (held_in a.t.now)) ≡ a.count =
         λ = let a. c.args in taken-long a.t.now c.requires.few.0 in
             let a = c.args in
-    let pre = c.requires in
-    let start = to_z-of_z c.ranges.start in
-    (pre.0.0, groups-room (take a.count (held_in a.t.now)) a.sequences a.octets (tabled) start pre.1.1 c.put_head-a.ensures)
+        let start = to_z-of_z c.ranges.start in
+    (c.requires.few.0, groups-room (take a.count (held_in a.t.now)) a.sequences a.octets (tabled) start c.requires.octets_in_bounds c.put_head-a.ensures)
 
 pub put_samples-requires : goal.put_samples-requires
 put_samples-requires c =
     let tabled : let a = c.args in length (take a.count (held_in a.t.now)) ≡ a.count =
         λ = let a. c.args in taken-long a.t.now c.requires.few.0 in
                     let a = c.args in
-    let pre = c.requires in
-    let start = to_z-of_z c.ranges.start in
+        let start = to_z-of_z c.ranges.start in
     let room =
-    samples-room (take a.count (held_in a.t.now)) a.sequences a.octets (tabled) start pre.1.1 c.put_head-a.ensures
+    samples-room (take a.count (held_in a.t.now)) a.sequences a.octets (tabled) start c.requires.octets_in_bounds c.put_head-a.ensures
     c.put_groups-b.ensures c.open_waveform-c.ensures in
-    let samples = asked-samples (take a.count (held_in a.t.now)) a.sequences a.w.now pre.1.0.0 pre.0.1 in
+    let samples = asked-samples (take a.count (held_in a.t.now)) a.sequences a.w.now c.requires.octets_value.0 c.requires.few.1 in
     record {
-      few = pre.0;
+      few = c.requires.few;
       octets_in_bounds = (samples.0, samples.1, room);
     }
 
@@ -39,8 +37,7 @@ returns c =
     let tabled : let a = c.args in length (take a.count (held_in a.t.now)) ≡ a.count =
         λ = let a. c.args in taken-long a.t.now c.requires.few.0 in
                         let a = c.args in
-    let pre = c.requires in
-    let start = to_z-of_z c.ranges.start in
-    frame-stored (take a.count (held_in a.t.now)) a.sequences a.octets (tabled) start pre.1.1 c.put_head-a.ensures
+        let start = to_z-of_z c.ranges.start in
+    frame-stored (take a.count (held_in a.t.now)) a.sequences a.octets (tabled) start c.requires.octets_in_bounds c.put_head-a.ensures
     c.put_groups-b.ensures c.open_waveform-c.ensures
-    (asked-long a.little (take a.count (held_in a.t.now)) a.sequences a.w.now pre.1.0.0) c.put_samples.ensures
+    (asked-long a.little (take a.count (held_in a.t.now)) a.sequences a.w.now c.requires.octets_value.0) c.put_samples.ensures

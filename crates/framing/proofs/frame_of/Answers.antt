@@ -50,14 +50,14 @@ returns-then-not-pointer_fits c =
     search rules in
     let looked : pointer_fits c.args.st.start ≡ c.pointer_fits.result =
     ap pointer_fits (sym (to_z-of_z (in64))) ∙ sym c.pointer_fits.ensures in
-    framed_pointer _ _ _ _ _ c.if-frames-ge-FRAMES.false c.if-not-agree.false (looked ∙ not-true _ c.if-not-pointer_fits.true) ∙ same
+    framed_pointer _ _ _ _ _ c.if-frames-ge-FRAMES.false c.if-not-agree.false (looked ∙ c.if-not-pointer_fits.true) ∙ same
 
 pub pointer_after-z-requires : goal.pointer_after-z-requires
 pointer_after-z-requires c =
     let small : c.sequences_of-sequences.result < range 4 =
     let a = c.args in
     rw c.sequences_of-sequences.ensures (sequences-small a.st.sequences a.long a.octets (omega arith) (omega arith)) in
-    (sym c.pointer_fits.ensures ∙ not-false _ c.if-not-pointer_fits.false, c.if-st-gt-BLOCK_LIMIT.false, small)
+    (sym c.pointer_fits.ensures ∙ c.if-not-pointer_fits.false, c.if-st-gt-BLOCK_LIMIT.false, small)
 
 pub overflow_cast-result : goal.overflow_cast-result
 overflow_cast-result c =
@@ -76,7 +76,7 @@ returns c =
     let looked : pointer_fits c.args.st.start ≡ c.pointer_fits.result =
     ap pointer_fits (sym (to_z-of_z (in64))) ∙ sym c.pointer_fits.ensures in
     let fits : pointer_fits c.args.st.start ≡ true =
-    looked ∙ not-false _ c.if-not-pointer_fits.false in
+    looked ∙ c.if-not-pointer_fits.false in
     let in64_after : SFits w64 c.pointer_after-z.result =
     search rules in
     let after : c.pointer_after-z.result ≡ pointer_after c.args.st c.sequences_of-sequences.result =

@@ -12,7 +12,7 @@ pub returns-then-not-pointer_fits : goal.returns-then-not-pointer_fits
 returns-then-not-pointer_fits c =
     let looked : pointer_fits c.args.start ≡ c.pointer_fits.result =
     ap pointer_fits (sym (to_z-of_z c.ranges.start)) ∙ sym c.pointer_fits.ensures in
-    pointer_outside _ _ _ _ _ (looked ∙ not-true _ c.if-not-pointer_fits.true)
+    pointer_outside _ _ _ _ _ (looked ∙ c.if-not-pointer_fits.true)
 
 pub returns-then-sequences-ge-FOUR_OCTETS : goal.returns-then-sequences-ge-FOUR_OCTETS
 returns-then-sequences-ge-FOUR_OCTETS c = sequences-outside _ _ _ _ _ c.if-sequences-ge-FOUR_OCTETS.true
@@ -30,4 +30,4 @@ pub returns : goal.returns
 returns c =
     let looked : pointer_fits c.args.start ≡ c.pointer_fits.result =
     ap pointer_fits (sym (to_z-of_z c.ranges.start)) ∙ sym c.pointer_fits.ensures in
-    frame_by_bits _ _ _ _ _ (looked ∙ not-false _ c.if-not-pointer_fits.false) (omega (arith, c.if-sequences-ge-FOUR_OCTETS.false)) c.if-channels-lt1.false c.if-channels.false c.if-numbers-channels.false
+    frame_by_bits _ _ _ _ _ (looked ∙ c.if-not-pointer_fits.false) (omega (arith, c.if-sequences-ge-FOUR_OCTETS.false)) c.if-channels-lt1.false c.if-channels.false c.if-numbers-channels.false

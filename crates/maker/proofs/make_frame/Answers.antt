@@ -26,7 +26,7 @@ returns-then-not-frame_fits c =
     let samples-octets : Octets (given).samples =
     λ i. (c.type_inv.samples i).fits in
     let m = given in
-    made-refused (samples-octets) c.refused.ensures (setting-refused m _ (own-outside m (own_is ∙ not-true _ c.if-not-frame_fits.true)))
+    made-refused (samples-octets) c.refused.ensures (setting-refused m _ (own-outside m (own_is ∙ c.if-not-frame_fits.true)))
 
 pub measure-m-requires : goal.measure-m-requires
 measure-m-requires c =
@@ -35,7 +35,7 @@ measure-m-requires c =
     let own_is : own_fit (given) ≡ c.frame_fits.result =
     let m = given in
     ap (λ (z : ℤ). frame_in_table z m.sequences m.channels (length m.numbers) (length m.bits)) (sym (to_z-of_z c.ranges.start)) ∙ sym c.frame_fits.ensures in
-    rows_are (frame_split _ _ _ _ _ (own_is ∙ not-false _ c.if-not-frame_fits.false))
+    rows_are (frame_split _ _ _ _ _ (own_is ∙ c.if-not-frame_fits.false))
 
 pub returns-in_default : goal.returns-in_default
 returns-in_default c =
@@ -59,7 +59,7 @@ overflow_mul-sequences c =
     let layout : Layout =
     c.in-Channels.l in
     let laid_out : Found (asked) (layout) =
-    found (asked) (layout) (own_is ∙ not-false _ c.if-not-frame_fits.false) (sym c.in-Channels.is ∙ c.measure-m.ensures) in
+    found (asked) (layout) (own_is ∙ c.if-not-frame_fits.false) (sym c.in-Channels.is ∙ c.measure-m.ensures) in
     record { fits = product_small (laid_out) }
 
 pub returns-then-samples-sequences : goal.returns-then-samples-sequences
@@ -76,7 +76,7 @@ returns-then-samples-sequences c =
     let layout : Layout =
     c.in-Channels.l in
     let laid_out : Found (asked) (layout) =
-    found (asked) (layout) (own_is ∙ not-false _ c.if-not-frame_fits.false) (sym c.in-Channels.is ∙ c.measure-m.ensures) in
+    found (asked) (layout) (own_is ∙ c.if-not-frame_fits.false) (sym c.in-Channels.is ∙ c.measure-m.ensures) in
     let p = laid_out in
     made-refused (samples-octets) c.refused-then-samples-sequences.ensures (samples-refused (asked) _ p.fit (samples_other p c.if-samples-sequences.true))
 
@@ -94,7 +94,7 @@ returns-then-samples-gt-OCTETS c =
     let layout : Layout =
     c.in-Channels.l in
     let laid_out : Found (asked) (layout) =
-    found (asked) (layout) (own_is ∙ not-false _ c.if-not-frame_fits.false) (sym c.in-Channels.is ∙ c.measure-m.ensures) in
+    found (asked) (layout) (own_is ∙ c.if-not-frame_fits.false) (sym c.in-Channels.is ∙ c.measure-m.ensures) in
     let p = laid_out in
     let e = c.if-samples-sequences.false in
     made-refused (samples-octets) c.refused-then-samples-gt-OCTETS.ensures
@@ -112,7 +112,7 @@ overflow_cast-sequences c =
     let layout : Layout =
     c.in-Channels.l in
     let laid_out : Found (asked) (layout) =
-    found (asked) (layout) (own_is ∙ not-false _ c.if-not-frame_fits.false) (sym c.in-Channels.is ∙ c.measure-m.ensures) in
+    found (asked) (layout) (own_is ∙ c.if-not-frame_fits.false) (sym c.in-Channels.is ∙ c.measure-m.ensures) in
     record { fits = omega (arith, (laid_out).own.most) }
 
 pub overflow_cast-l : goal.overflow_cast-l
@@ -127,7 +127,7 @@ overflow_cast-l c =
     let layout : Layout =
     c.in-Channels.l in
     let laid_out : Found (asked) (layout) =
-    found (asked) (layout) (own_is ∙ not-false _ c.if-not-frame_fits.false) (sym c.in-Channels.is ∙ c.measure-m.ensures) in
+    found (asked) (layout) (own_is ∙ c.if-not-frame_fits.false) (sym c.in-Channels.is ∙ c.measure-m.ensures) in
     record { fits = groups-small (laid_out) }
 
 pub returns-then-size : goal.returns-then-size
@@ -144,7 +144,7 @@ returns-then-size c =
     let layout : Layout =
     c.in-Channels.l in
     let laid_out : Found (asked) (layout) =
-    found (asked) (layout) (own_is ∙ not-false _ c.if-not-frame_fits.false) (sym c.in-Channels.is ∙ c.measure-m.ensures) in
+    found (asked) (layout) (own_is ∙ c.if-not-frame_fits.false) (sym c.in-Channels.is ∙ c.measure-m.ensures) in
     let p = laid_out in
     let e = c.if-samples-sequences.false in
     made-refused (samples-octets) c.refused-then-size.ensures
@@ -164,7 +164,7 @@ returns-then-out-size c =
     let layout : Layout =
     c.in-Channels.l in
     let laid_out : Found (asked) (layout) =
-    found (asked) (layout) (own_is ∙ not-false _ c.if-not-frame_fits.false) (sym c.in-Channels.is ∙ c.measure-m.ensures) in
+    found (asked) (layout) (own_is ∙ c.if-not-frame_fits.false) (sym c.in-Channels.is ∙ c.measure-m.ensures) in
     let p = laid_out in
     let e = c.if-samples-sequences.false in
     made-refused (samples-octets) c.refused-then-out-size.ensures
@@ -182,7 +182,7 @@ overflow_cast-start c =
     let layout : Layout =
     c.in-Channels.l in
     let laid_out : Found (asked) (layout) =
-    found (asked) (layout) (own_is ∙ not-false _ c.if-not-frame_fits.false) (sym c.in-Channels.is ∙ c.measure-m.ensures) in
+    found (asked) (layout) (own_is ∙ c.if-not-frame_fits.false) (sym c.in-Channels.is ∙ c.measure-m.ensures) in
     let start_small : mag (asked).start < 2 ^ 31 =
     pointer_small (asked).start (laid_out).own.pointer in
     narrow_fits (asked).start (start_small)
@@ -199,7 +199,7 @@ overflow_cast-sequences-2 c =
     let layout : Layout =
     c.in-Channels.l in
     let laid_out : Found (asked) (layout) =
-    found (asked) (layout) (own_is ∙ not-false _ c.if-not-frame_fits.false) (sym c.in-Channels.is ∙ c.measure-m.ensures) in
+    found (asked) (layout) (own_is ∙ c.if-not-frame_fits.false) (sym c.in-Channels.is ∙ c.measure-m.ensures) in
     record { fits = omega (arith, (laid_out).own.most) }
 
 pub store_frame-stored-requires : goal.store_frame-stored-requires
@@ -214,7 +214,7 @@ store_frame-stored-requires c =
     let layout : Layout =
     c.in-Channels.l in
     let laid_out : Found (asked) (layout) =
-    found (asked) (layout) (own_is ∙ not-false _ c.if-not-frame_fits.false) (sym c.in-Channels.is ∙ c.measure-m.ensures) in
+    found (asked) (layout) (own_is ∙ c.if-not-frame_fits.false) (sym c.in-Channels.is ∙ c.measure-m.ensures) in
     store_asked (laid_out) c.if-samples-gt-OCTETS.false c.frame_size-size.ensures.0 _ c.if-out-size.false
 
 pub returns : goal.returns
@@ -231,7 +231,7 @@ returns c =
     let layout : Layout =
     c.in-Channels.l in
     let laid_out : Found (asked) (layout) =
-    found (asked) (layout) (own_is ∙ not-false _ c.if-not-frame_fits.false) (sym c.in-Channels.is ∙ c.measure-m.ensures) in
+    found (asked) (layout) (own_is ∙ c.if-not-frame_fits.false) (sym c.in-Channels.is ∙ c.measure-m.ensures) in
     let start_small : mag (asked).start < 2 ^ 31 =
     pointer_small (asked).start (laid_out).own.pointer in
     let m = asked in

@@ -26,8 +26,7 @@ put_rows-b-requires c =
     let room : let a = c.args in 0 + frame_size a.sequences (groups_size 0 (channels)) (length a.samples.now) ≤ length a.out.now =
         omega (arith, c.requires.samples_len_bound.1) in
             let a = c.args in
-    let pre = c.requires in
-    (pre.0, groups-room (channels) a.sequences (length a.samples.now) (counted) (to_z-of_z c.ranges.start) (room) c.put_head-a.ensures)
+        (c.requires.rows_fit, groups-room (channels) a.sequences (length a.samples.now) (counted) (to_z-of_z c.ranges.start) (room) c.put_head-a.ensures)
 
 pub returns : goal.returns
 returns c =

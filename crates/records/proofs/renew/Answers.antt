@@ -16,5 +16,5 @@ pub returns : goal.returns
 returns c =
     let a = c.args in
     renew_stores a.t.now a.k (settings_by a.w.now) a.dates (omega arith) c.time-at.ensures
-    c.overtake.ensures c.requires.time_word_value.1 c.requires.time_word_value.0 refl c.behind_from.ensures (search rules)
+    c.overtake.ensures c.requires.since_value c.requires.time_word_value refl c.behind_from.ensures (search rules)
     (λ late now. ⊎_elim {C = ⊥} (λ p. p.2.left now) (λ p. omega (arith, p.left, late)) c.if-dates-at.branch)

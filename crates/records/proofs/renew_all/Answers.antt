@@ -13,7 +13,7 @@ loop-i-init c =
 
 pub renew-requires : goal.renew-requires
 renew-requires c =
-    (refreshing_room c.loop-i.invariant c.loop-i-test.true, c.requires.time_word_value)
+    (refreshing_room c.loop-i.invariant c.loop-i-test.true, c.requires.1)
 
 pub lay_next-l-requires : goal.lay_next-l-requires
 lay_next-l-requires c =
@@ -28,8 +28,7 @@ loop-i-smaller c = omega (arith, c.loop-i-test.true)
 
 pub loop-i-preserved : goal.loop-i-preserved
 loop-i-preserved c =
-    let laid = c.lay_next-l.ensures in
-    refreshing_more c.loop-i.invariant c.loop-i-test.true c.renew.ensures laid.0 _ laid.1
+    refreshing_more c.loop-i.invariant c.loop-i-test.true c.renew.ensures c.lay_next-l.ensures.t_after _ c.lay_next-l.ensures.more
 
 pub shape_of-t : goal.shape_of-t
 shape_of-t c = c.loop-i.invariant.long

@@ -6,7 +6,7 @@ use Rattle.runs.proofs.turn_two.Goals as goal
 
 pub overflow_add-p : goal.overflow_add-p
 overflow_add-p c =
-    omega (arith, c.requires.p_in_bounds.0, c.well_formed)
+    omega (arith, c.requires.p_in_bounds, c.well_formed)
 
 pub returns : goal.returns
 returns c =

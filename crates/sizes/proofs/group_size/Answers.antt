@@ -12,3 +12,7 @@ overflow_add-result c =
 pub overflow_add-result-2 : goal.overflow_add-result-2
 overflow_add-result-2 c =
     omega (arith, c.channel_size.ensures, channel-few c.args.k, c.content_size.ensures, null-le c.args.w c.args.null)
+
+pub returns : goal.returns
+unfolding group_size
+returns c = search rules

@@ -67,7 +67,7 @@ pub loop-at-preserved : goal.loop-at-preserved
 loop-at-preserved c =
     running_goes c.loop-at.invariant refl c.loop-at-test.true c.if-u-at.false
     (step-here _ _ _ _ _ refl c.loop-at-test.true c.if-n-gt127.false c.if-u-at.false
-    ∙ leaves-same _ _ _ _ _ c.attribute_of.ensures c.in-Other.is (sym c.stepped_over.ensures ∙ not-false _ c.if-not-stepped_over.false))
+    ∙ leaves-same _ _ _ _ _ c.attribute_of.ensures c.in-Other.is (sym c.stepped_over.ensures ∙ c.if-not-stepped_over.false))
 
 pub returns-after-loop-at : goal.returns-after-loop-at
 returns-after-loop-at c = (running_ends c.loop-at.invariant c.renewed-settings.ensures (step-none _ _ _ _ _ c.loop-at-test.false), c.loop-at.invariant.low)
@@ -146,6 +146,6 @@ pub returns-then-not-stepped_over : goal.returns-then-not-stepped_over
 returns-then-not-stepped_over c = (
   running_ends c.loop-at.invariant c.renewed-settings.ensures
       (step-here _ _ _ _ _ refl c.loop-at-test.true c.if-n-gt127.false c.if-u-at.false
-      ∙ leaves_nothing _ _ _ _ _ c.attribute_of.ensures c.in-Other.is (sym c.stepped_over.ensures ∙ not-true _ c.if-not-stepped_over.true)),
+      ∙ leaves_nothing _ _ _ _ _ c.attribute_of.ensures c.in-Other.is (sym c.stepped_over.ensures ∙ c.if-not-stepped_over.true)),
   c.loop-at.invariant.low,
 )

@@ -6,7 +6,7 @@ use Rattle.strides.proofs.Walks.{Blocking, blocks_begin, piece_some, block-start
 use Rattle.strides.proofs.blocks.Goals as goal
 
 pub loop-p-init : goal.loop-p-init
-loop-p-init c = blocks_begin _ _ _ _ _ c.requires.in_blocks.0 c.requires.in_blocks.1
+loop-p-init c = blocks_begin _ _ _ _ _ c.requires.in_blocks c.requires.n_in_bounds
 
 pub overflow_mul-r : goal.overflow_mul-r
 overflow_mul-r c =

@@ -10,11 +10,11 @@ run-requires c =
     let e = even_there _ _ _ c.even-step.ensures c.if-step-gt0.true in
     record {
       wide = c.requires.wide;
-      in_file = even_within _ _ _ _ _ _ _ c.requires.in_blocks.0 e c.requires.wide;
-      n_in_bounds = c.requires.in_blocks.1;
+      in_file = even_within _ _ _ _ _ _ _ c.requires.in_blocks e c.requires.wide;
+      n_in_bounds = c.requires.n_in_bounds;
     }
 
 pub returns-then-step-gt0 : goal.returns-then-step-gt0
 returns-then-step-gt0 c =
     let e = even_there _ _ _ c.even-step.ensures c.if-step-gt0.true in
-    c.run.ensures ∙ ap (sets _ _) (even_is _ _ _ _ _ _ _ c.requires.in_blocks.0 e _ _)
+    c.run.ensures ∙ ap (sets _ _) (even_is _ _ _ _ _ _ _ c.requires.in_blocks e _ _)

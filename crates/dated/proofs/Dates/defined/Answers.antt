@@ -3,4 +3,4 @@ use Rattle.std.proofs.Common.{rules}
 use Rattle.dated.proofs.Dates.defined.Goals as goal
 
 pub returns : goal.returns
-returns c = rw (c.timed-times.ensures, c.wrapping_add_u32.ensures)
+returns c = rw (c.timed-times.ensures, c.wrapping_add_u32.ensures.value)

@@ -15,11 +15,11 @@ row_fits-requires c = row-there c.loop-i.invariant.there _ c.loop-i-test.true
 
 pub returns-then-not-row_fits : goal.returns-then-not-row_fits
 returns-then-not-row_fits c =
-    measuring_outside c.loop-i.invariant c.loop-i-test.true (sym c.row_fits.ensures ∙ not-true _ c.if-not-row_fits.true)
+    measuring_outside c.loop-i.invariant c.loop-i-test.true (sym c.row_fits.ensures ∙ c.if-not-row_fits.true)
 
 pub settings_at-requires : goal.settings_at-requires
 settings_at-requires c =
-    (row-there c.loop-i.invariant.there _ c.loop-i-test.true, sym c.row_fits.ensures ∙ not-false _ c.if-not-row_fits.false)
+    (row-there c.loop-i.invariant.there _ c.loop-i-test.true, sym c.row_fits.ensures ∙ c.if-not-row_fits.false)
 
 pub overflow_add-i : goal.overflow_add-i
 overflow_add-i c =
@@ -30,7 +30,7 @@ loop-i-smaller c = omega arith
 
 pub loop-i-preserved : goal.loop-i-preserved
 loop-i-preserved c =
-    measuring_next c.loop-i.invariant c.loop-i-test.true (sym c.row_fits.ensures ∙ not-false _ c.if-not-row_fits.false)
+    measuring_next c.loop-i.invariant c.loop-i-test.true (sym c.row_fits.ensures ∙ c.if-not-row_fits.false)
     c.settings_at.ensures c.more-l.ensures
 
 pub returns : goal.returns

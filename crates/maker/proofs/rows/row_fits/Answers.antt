@@ -8,14 +8,14 @@ use Rattle.maker.proofs.rows.row_fits.Goals as goal
 
 pub returns-then-not-numbers_fit : goal.returns-then-not-numbers_fit
 unfolding in_table
-returns-then-not-numbers_fit c = sym (rw (sym c.numbers_fit.ensures ∙ not-true _ c.if-not-numbers_fit.true))
+returns-then-not-numbers_fit c = sym (rw (sym c.numbers_fit.ensures ∙ c.if-not-numbers_fit.true))
 
 pub bits_within-within-requires : goal.bits_within-within-requires
 bits_within-within-requires c =
-    (c.requires, sym c.numbers_fit.ensures ∙ not-false _ c.if-not-numbers_fit.false)
+    (c.requires, sym c.numbers_fit.ensures ∙ c.if-not-numbers_fit.false)
 
 pub returns : goal.returns
 unfolding in_table
 returns c =
-    let numbers = sym c.numbers_fit.ensures ∙ not-false _ c.if-not-numbers_fit.false in
+    let numbers = sym c.numbers_fit.ensures ∙ c.if-not-numbers_fit.false in
     c.all.ensures ∙ rw numbers (ap₂ both c.scales_fit-scales.ensures c.bits_within-within.ensures)

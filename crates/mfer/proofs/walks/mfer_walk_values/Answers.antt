@@ -5,4 +5,4 @@ use borrow.Author.Rules.{rules}
 use Rattle.mfer.proofs.walks.mfer_walk_values.Goals as goal
 
 pub returns : goal.returns
-returns c = (c.read_out.ensures ∙ ap count_out c.values.ensures.result_value, c.values.ensures.kinds_after)
+returns c = (c.read_out.ensures ∙ ap count_out c.values.ensures.result_value, c.values.ensures.1)
