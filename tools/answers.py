@@ -110,7 +110,7 @@ class Names:
                     best = (len(way), [arm[0], field] + rest[len(way):])
         if best:
             return best[1]
-        if step == "match" and rest[:1] == ["rest"]:
+        if step == "match" and rest and re.match("rest$|keys", rest[0]):
             for i in line:
                 if self.places[i][2][0] == "match" or alike(self.places[i][2][0]).startswith("match"):
                     return [self.places[i][2][1], self.places[i][2][1] + "-own"] + rest
@@ -127,6 +127,8 @@ class Names:
                 fields = (self.x["clauses"][i] or {}).get("fields", [])
                 if rest[:1] == ["ensures"]:
                     rest = ["ensures"] + labelled(fields, rest[1:])
+                    if new.startswith("wrapping_") and len(rest) == 1:
+                        rest.append("value")
                 return [new] + rest
         return None
 
@@ -196,7 +198,7 @@ class Helper:
         m = re.match(r"(abbrev )?(?:pub )?(%s) :\s" % N, body)
         self.name = m.group(2)
         rest = body[m.end():]
-        d = re.search(r"\n(?:unfolding ([^\n]*)\n)?%s (%s)((?: %s)*) =(?=\s)" % (re.escape(self.name), N, N), rest)
+        d = re.search(r"\n(?:unfolding ([^\n]*)\n)?%s (%s)((?: (?!=)%s)*) =(?=\s)" % (re.escape(self.name), N, N), rest)
         self.type, self.term = rest[: d.start()].strip(), rest[d.end():].strip()
         self.unfolding, self.arg, self.more = (d.group(1) or "").split(), d.group(2), d.group(3).split()
         self.at = None

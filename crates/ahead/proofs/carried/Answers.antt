@@ -11,4 +11,4 @@ returns-in-Refused c = goes_none _ _ _ _ c.none-in-Refused.ensures
 
 pub returns-in_default : goal.returns-in_default
 returns-in_default c =
-    item-goes c.requires c.in_default.keys3 c.take-taken.ensures c.stands_in.ensures c.around_at.ensures
+    item-goes c.requires c.in_default.in_default-own.keys3 c.take-taken.ensures c.stands_in.ensures c.around_at.ensures

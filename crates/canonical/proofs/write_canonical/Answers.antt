@@ -5,7 +5,7 @@ use Rattle.canonical.proofs.write_canonical.Goals as goal
 
 pub returns-in_default : goal.returns-in_default
 returns-in_default c =
-    written_refused (λ i. (c.type_inv.s i).fits) c.canonical_length-answer.result c.in_default.keys2 c.canonical_length-answer.ensures
+    written_refused (λ i. (c.type_inv.s i).fits) c.canonical_length-answer.result c.in_default.in_default-own.keys2 c.canonical_length-answer.ensures
 
 pub returns-then-octets-eq0 : goal.returns-then-octets-eq0
 returns-then-octets-eq0 c =

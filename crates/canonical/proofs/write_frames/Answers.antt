@@ -56,4 +56,4 @@ shape_of-out-in_default c =
 
 pub returns-in_default : goal.returns-in_default
 returns-in_default c =
-    written_done c.loop-v.invariant.0 c.advance-m.result.step c.in_default.keys2 c.advance-m.ensures.same c.put_order-at.ensures
+    written_done c.loop-v.invariant.0 c.advance-m.result.step c.in_default.in_default-own.keys2 c.advance-m.ensures.same c.put_order-at.ensures

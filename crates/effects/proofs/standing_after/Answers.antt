@@ -46,4 +46,4 @@ pub returns-in-All : goal.returns-in-All
 returns-in-All c = ap (λ (r : Settings). with_root r c.args.st) c.apply-root.ensures ∙ sym (ap (standing_after c.args.st) c.in-All.is)
 
 pub returns-in_default : goal.returns-in_default
-returns-in_default c = same-stands c.args.st c.args.e c.in_default.keys6
+returns-in_default c = same-stands c.args.st c.args.e c.in_default.in_default-own.keys6

@@ -32,4 +32,4 @@ unfolding start_effect
 returns c =
     let in32 : SFits w32 c.signed-z.result =
     search rules in
-    ap Start (rw (to_z-of_z (in32)) (to_z-of_z (sfits_widen tt (in32))) ∙ c.signed-z.ensures) ∙ simp (le-ltb 4 _ c.if-v-gt4.false, ne_eqb _ 0 c.if-v-eq0.false)
+    ap Start (rw (to_z-of_z in32) (to_z-of_z {w = w64} (sfits_widen tt in32)) ∙ c.signed-z.ensures) ∙ simp (le-ltb 4 _ c.if-v-gt4.false, ne_eqb _ 0 c.if-v-eq0.false)

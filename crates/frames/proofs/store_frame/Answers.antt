@@ -12,17 +12,17 @@ use Rattle.frames.proofs.store_frame.Goals as goal
 pub put_groups-b-requires : goal.put_groups-b-requires
 put_groups-b-requires c =
     let tabled : let a = c.args in length (take a.count (held_in a.t.now)) ≡ a.count =
-        λ = let a. c.args in taken-long a.t.now c.requires.few.0 in
-            let a = c.args in
-        let start = to_z-of_z c.ranges.start in
+    let a = c.args in taken-long a.t.now c.requires.few.0 in
+    let a = c.args in
+    let start = to_z-of_z c.ranges.start in
     (c.requires.few.0, groups-room (take a.count (held_in a.t.now)) a.sequences a.octets (tabled) start c.requires.octets_in_bounds c.put_head-a.ensures)
 
 pub put_samples-requires : goal.put_samples-requires
 put_samples-requires c =
     let tabled : let a = c.args in length (take a.count (held_in a.t.now)) ≡ a.count =
-        λ = let a. c.args in taken-long a.t.now c.requires.few.0 in
-                    let a = c.args in
-        let start = to_z-of_z c.ranges.start in
+    let a = c.args in taken-long a.t.now c.requires.few.0 in
+    let a = c.args in
+    let start = to_z-of_z c.ranges.start in
     let room =
     samples-room (take a.count (held_in a.t.now)) a.sequences a.octets (tabled) start c.requires.octets_in_bounds c.put_head-a.ensures
     c.put_groups-b.ensures c.open_waveform-c.ensures in
@@ -35,9 +35,9 @@ put_samples-requires c =
 pub returns : goal.returns
 returns c =
     let tabled : let a = c.args in length (take a.count (held_in a.t.now)) ≡ a.count =
-        λ = let a. c.args in taken-long a.t.now c.requires.few.0 in
-                        let a = c.args in
-        let start = to_z-of_z c.ranges.start in
+    let a = c.args in taken-long a.t.now c.requires.few.0 in
+    let a = c.args in
+    let start = to_z-of_z c.ranges.start in
     frame-stored (take a.count (held_in a.t.now)) a.sequences a.octets (tabled) start c.requires.octets_in_bounds c.put_head-a.ensures
     c.put_groups-b.ensures c.open_waveform-c.ensures
     (asked-long a.little (take a.count (held_in a.t.now)) a.sequences a.w.now c.requires.octets_value.0) c.put_samples.ensures

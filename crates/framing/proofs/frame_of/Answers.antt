@@ -4,7 +4,7 @@ use Prim.Native.Nat.{◌*◌, ◌<◌}
 use mir.Syntax.{w64}
 use mir.Val.{SFits}
 use mir.Facts.{to_z-of_z}
-use mathlib.Core.Bool.{true}
+use mathlib.Core.Bool.{true, not}
 use mathlib.Core.Path.{◌≡◌, ap, sym, ◌∙◌}
 use native.Mathlib.Omega.{arith}
 use borrow.Author.Rules.{rules}
@@ -40,7 +40,7 @@ pub returns-then-not-agree : goal.returns-then-not-agree
 returns-then-not-agree c =
     let same : let a = c.args in framed_as a.frames a.st a.agree a.octets a.long ≡ framed_by a.frames a.st a.agree a.octets a.long =
     sym (framed_same _ _ _ _ _ (omega arith) c.if-long-gt-OCTETS.false c.if-st-gt-BLOCK_LIMIT.false) in
-    framed_width _ _ _ _ _ c.if-frames-ge-FRAMES.false c.if-not-agree.true ∙ same
+    framed_width _ _ _ _ _ c.if-frames-ge-FRAMES.false (ap not c.if-not-agree.true) ∙ same
 
 pub returns-then-not-pointer_fits : goal.returns-then-not-pointer_fits
 returns-then-not-pointer_fits c =
@@ -50,7 +50,7 @@ returns-then-not-pointer_fits c =
     search rules in
     let looked : pointer_fits c.args.st.start ≡ c.pointer_fits.result =
     ap pointer_fits (sym (to_z-of_z (in64))) ∙ sym c.pointer_fits.ensures in
-    framed_pointer _ _ _ _ _ c.if-frames-ge-FRAMES.false c.if-not-agree.false (looked ∙ c.if-not-pointer_fits.true) ∙ same
+    framed_pointer _ _ _ _ _ c.if-frames-ge-FRAMES.false (ap not c.if-not-agree.false) (looked ∙ c.if-not-pointer_fits.true) ∙ same
 
 pub pointer_after-z-requires : goal.pointer_after-z-requires
 pointer_after-z-requires c =
@@ -83,5 +83,5 @@ returns c =
     c.pointer_after-z.ensures ∙ ap (λ (z : ℤ). z +ℤ pos (c.args.st.root.block * c.sequences_of-sequences.result)) (to_z-of_z (in64)) in
     let n = c.sequences_of-sequences.result in
     ap (Taken n) (c.with_continued.ensures ∙ ap (λ (z : ℤ). with_continued z c.args.st) (to_z-of_z (in64_after) ∙ after))
-    ∙ framed_taken _ _ _ _ _ c.if-frames-ge-FRAMES.false c.if-not-agree.false (fits) n c.sequences_of-sequences.ensures
+    ∙ framed_taken _ _ _ _ _ c.if-frames-ge-FRAMES.false (ap not c.if-not-agree.false) (fits) n c.sequences_of-sequences.ensures
     ∙ same

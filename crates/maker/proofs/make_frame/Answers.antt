@@ -44,7 +44,7 @@ returns-in_default c =
     let samples-octets : Octets (given).samples =
     λ i. (c.type_inv.samples i).fits in
     let m = given in
-    let outside = measured_out m.channels m.numbers m.bits c.measure-m.result c.in_default.keys2 c.measure-m.ensures in
+    let outside = measured_out m.channels m.numbers m.bits c.measure-m.result c.in_default.in_default-own.keys2 c.measure-m.ensures in
     made-refused (samples-octets) c.refused-in_default.ensures (setting-refused m _ (row-outside m outside))
 
 pub overflow_mul-sequences : goal.overflow_mul-sequences

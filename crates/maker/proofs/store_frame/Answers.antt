@@ -20,23 +20,23 @@ use Rattle.maker.proofs.store_frame.Goals as goal
 pub put_rows-b-requires : goal.put_rows-b-requires
 put_rows-b-requires c =
     let channels : List Settings =
-        λ = let a. c.args in channels_made a.n a.numbers.now a.bits.now in
+    let a = c.args in channels_made a.n a.numbers.now a.bits.now in
     let counted : length (channels) ≡ c.args.n =
-        λ = let a. c.args in made-long a.n a.numbers.now a.bits.now in
+    let a = c.args in made-long a.n a.numbers.now a.bits.now in
     let room : let a = c.args in 0 + frame_size a.sequences (groups_size 0 (channels)) (length a.samples.now) ≤ length a.out.now =
-        omega (arith, c.requires.samples_len_bound.1) in
-            let a = c.args in
-        (c.requires.rows_fit, groups-room (channels) a.sequences (length a.samples.now) (counted) (to_z-of_z c.ranges.start) (room) c.put_head-a.ensures)
+    omega (arith, c.requires.samples_len_bound.1) in
+    let a = c.args in
+    (c.requires.rows_fit, groups-room (channels) a.sequences (length a.samples.now) (counted) (to_z-of_z c.ranges.start) (room) c.put_head-a.ensures)
 
 pub returns : goal.returns
 returns c =
     let channels : List Settings =
-        λ = let a. c.args in channels_made a.n a.numbers.now a.bits.now in
+    let a = c.args in channels_made a.n a.numbers.now a.bits.now in
     let counted : length (channels) ≡ c.args.n =
-        λ = let a. c.args in made-long a.n a.numbers.now a.bits.now in
+    let a = c.args in made-long a.n a.numbers.now a.bits.now in
     let room : let a = c.args in 0 + frame_size a.sequences (groups_size 0 (channels)) (length a.samples.now) ≤ length a.out.now =
-        omega (arith, c.requires.samples_len_bound.1) in
-                        let a = c.args in
+    omega (arith, c.requires.samples_len_bound.1) in
+    let a = c.args in
     let start = to_z-of_z c.ranges.start in
     let all = take_all (length a.samples.now) a.samples.now (omega arith) in
     let fits = samples-room (channels) a.sequences (length a.samples.now) (counted) start (room) c.put_head-a.ensures

@@ -38,8 +38,8 @@ loop-at-preserved c =
     let u = c.args.u.now in
     let e = c.attribute_of.ensures in
     ⊎_elim
-    (λ w. item_defines (get_or u c.loop-at.at 0) (here) e c.wrapping_add_u64-items.ensures w.1.given.1 (w.5 ∙ w.3.ensures) (w.6 ∙ w.4.ensures) w.7)
-    (λ w. item_other (get_or u c.loop-at.at 0) (here) e c.wrapping_add_u64-items.ensures w.1.given.1 w.2 w.3 w.4)
+    (λ w. item_defines (get_or u c.loop-at.at 0) (here) e c.wrapping_add_u64-items.ensures.value w.1.given.1 (w.5 ∙ w.3.ensures) (w.6 ∙ w.4.ensures) w.7)
+    (λ w. item_other (get_or u c.loop-at.at 0) (here) e c.wrapping_add_u64-items.ensures.value w.1.given.1 w.2 w.3 w.4)
     c.match-attribute_of.branch in
     let u = c.args.u.now in
     (sym (passed_item_lem u c.loop-at.at (here) (search rules) refl (item)) ∙ c.loop-at.invariant.0, search rules)
@@ -62,8 +62,8 @@ returns-then-u-at c =
     let u = c.args.u.now in
     let e = c.attribute_of.ensures in
     ⊎_elim
-    (λ w. item_defines (get_or u c.loop-at.at 0) (here) e c.wrapping_add_u64-items.ensures w.1.given.1 (w.5 ∙ w.3.ensures) (w.6 ∙ w.4.ensures) w.7)
-    (λ w. item_other (get_or u c.loop-at.at 0) (here) e c.wrapping_add_u64-items.ensures w.1.given.1 w.2 w.3 w.4)
+    (λ w. item_defines (get_or u c.loop-at.at 0) (here) e c.wrapping_add_u64-items.ensures.value w.1.given.1 (w.5 ∙ w.3.ensures) (w.6 ∙ w.4.ensures) w.7)
+    (λ w. item_other (get_or u c.loop-at.at 0) (here) e c.wrapping_add_u64-items.ensures.value w.1.given.1 w.2 w.3 w.4)
     c.match-attribute_of.branch in
     let u = c.args.u.now in
     sym (passed_short u c.loop-at.at (here) (search rules) refl c.if-u-at.true (item)) ∙ c.loop-at.invariant.0

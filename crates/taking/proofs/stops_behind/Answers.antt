@@ -11,4 +11,4 @@ returns c =
       went = Went.Stops (Step.Frame c.args.frame);
       head = record { cursor = c.args.cursor; standing = c.args.after; dates = c.args.h.dates; items = k; frames = c.args.h.frames + 1 };
     })
-    c.wrapping_add_u64.ensures
+    c.wrapping_add_u64.ensures.value

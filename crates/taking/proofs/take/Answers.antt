@@ -19,4 +19,4 @@ pub returns-in-Refused : goal.returns-in-Refused
 returns-in-Refused c = refused_takes c.stops_at.ensures c.in-Refused.is
 
 pub returns-in_default : goal.returns-in_default
-returns-in_default c = plain_takes c.leads_on-in_default.ensures c.standing_after-after-in_default.ensures refl c.in_default.keys6
+returns-in_default c = plain_takes c.leads_on-in_default.ensures c.standing_after-after-in_default.ensures refl c.in_default.in_default-own.keys6

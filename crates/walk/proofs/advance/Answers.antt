@@ -103,7 +103,7 @@ loop-x-smaller-in-Count c =
 pub loop-x-preserved-in-Count : goal.loop-x-preserved-in-Count
 loop-x-preserved-in-Count c =
     let inv = (at_loop c).loop.invariant in
-    (turning_count (turn c) c.in-Count.is c.standing_after-st.ensures c.cleared-dates.ensures c.wrapping_add_u64-read.ensures ∙ inv.0, inv.1, inv.2)
+    (turning_count (turn c) c.in-Count.is c.standing_after-st.ensures c.cleared-dates.ensures c.wrapping_add_u64-read.ensures.value ∙ inv.0, inv.1, inv.2)
 
 pub loop-x-smaller-in-All : goal.loop-x-smaller-in-All
 loop-x-smaller-in-All c =
@@ -112,7 +112,7 @@ loop-x-smaller-in-All c =
 pub loop-x-preserved-in-All : goal.loop-x-preserved-in-All
 loop-x-preserved-in-All c =
     let inv = (at_loop c).loop.invariant in
-    (turning_all (turn c) c.in-All.is c.standing_after-st-in-All.ensures c.defined-dates.ensures c.wrapping_add_u64-read.ensures ∙ inv.0, inv.1, inv.2)
+    (turning_all (turn c) c.in-All.is c.standing_after-st-in-All.ensures c.defined-dates.ensures c.wrapping_add_u64-read.ensures.value ∙ inv.0, inv.1, inv.2)
 
 pub loop-x-smaller-in-One : goal.loop-x-smaller-in-One
 loop-x-smaller-in-One c =
@@ -122,7 +122,7 @@ pub loop-x-preserved-in-One : goal.loop-x-preserved-in-One
 loop-x-preserved-in-One c =
     let inv = (at_loop c).loop.invariant in
     let stored = c.put.ensures in (
-      turning_one (turn c) c.in-One.is c.settled-stood.ensures c.apply.ensures c.note.ensures stored.records c.wrapping_add_u64-read.ensures ∙ inv.0,
+      turning_one (turn c) c.in-One.is c.settled-stood.ensures c.apply.ensures c.note.ensures stored.records c.wrapping_add_u64-read.ensures.value ∙ inv.0,
       stored.long ∙ inv.1,
       past_then inv.1 inv.2 (past_put stored),
     )
@@ -169,4 +169,4 @@ loop-x-smaller c = omega (arith, turning_later (turn c))
 pub loop-x-preserved : goal.loop-x-preserved
 loop-x-preserved c =
     let inv = (at_loop c).loop.invariant in
-    (turning_stands (turn c) c.in_default.keys6 c.standing_after-st-in_default.ensures c.wrapping_add_u64-read.ensures ∙ inv.0, inv.1, inv.2)
+    (turning_stands (turn c) c.in_default.keys6 c.standing_after-st-in_default.ensures c.wrapping_add_u64-read.ensures.value ∙ inv.0, inv.1, inv.2)

@@ -12,26 +12,26 @@ narrow c w e = mul-le-mul_left c.block (rw e (width_le c.datatype))
 
 pub overflow_cast-w : goal.overflow_cast-w
 overflow_cast-w c =
-        omega (arith, c.width-w.ensures, width_le c.args.c.datatype)
+    omega (arith, c.width-w.ensures, width_le c.args.c.datatype)
 
 pub overflow_mul-octets : goal.overflow_mul-octets
 overflow_mul-octets c =
-            omega (arith, narrow c.args.c _ c.width-w.ensures)
+    omega (arith, narrow c.args.c _ c.width-w.ensures)
 
 pub returns : goal.returns
 unfolding block_octets channel_agrees
 returns c =
     let few : block_octets c.args.c < 2 ^ 36 =
-        λ = let x. c.args.c in omega (arith, narrow x (width_in x) refl) in
-                                    let x = c.args.c in
+    let x = c.args.c in omega (arith, narrow x (width_in x) refl) in
+    let x = c.args.c in
     let l = c.args.self in
     let w = c.width-w.ensures in
     record {
       value = λ k. record {
         agree = (c.agree_both.ensures ∙ ap (both l.agree) (c.widths_agree.ensures ∙ ap (λ (n : ℕ). both (width_agrees n x.offset) (width_agrees n x.null)) w)) k;
-        octets = (c.wrapping_add_u64.ensures ∙ ap (λ (n : ℕ). (l.octets + x.block * n) % 2 ^ 64) w) k;
+        octets = (c.wrapping_add_u64.ensures.value ∙ ap (λ (n : ℕ). (l.octets + x.block * n) % 2 ^ 64) w) k;
         below = (c.added_below.ensures ∙ ap (λ (n : ℕ). pick (ltb c.args.i c.args.channel) ((l.below + x.block * n) % 2 ^ 64) l.below) w) k;
-        groups = (c.wrapping_add_u64-2.ensures ∙ ap (λ (n : ℕ). (l.groups + n) % 2 ^ 64) (c.group_size.ensures ∙ ap (λ (n : ℕ). group_size c.args.i n x.null) w)) k;
+        groups = (c.wrapping_add_u64-2.ensures.value ∙ ap (λ (n : ℕ). (l.groups + n) % 2 ^ 64) (c.group_size.ensures ∙ ap (λ (n : ℕ). group_size c.args.i n x.null) w)) k;
       };
       octets = few;
     }
