@@ -53,16 +53,34 @@ def parts_of(text):
     return out + ([last] if last else [])
 
 
-def named(term, fields):
+def named(term, fields, pre):
     """A tuple of clauses as a record of them."""
-    at = max(term.rfind(" in\n"), term.rfind(" in ("))
-    lets, body = (term[: at + 3], term[at + 3:]) if at >= 0 and parts_of(term) is None else ("", term)
-    parts = parts_of(body)
-    while parts and 1 < len(parts) < len(fields) and parts_of(parts[-1]) and len(parts_of(parts[-1])) > 1:
-        parts = parts[:-1] + parts_of(parts[-1])
-    if not parts or len(parts) != len(fields):
+    lets, parts = "", parts_of(term)
+    for m in re.finditer(r" in(?=\s)|(?<=\s)rw (?:%s|\([^()]*(?:\([^()]*(?:\([^()]*\)[^()]*)*\)[^()]*)*\))(?=\s)" % N, term):
+        if not parts:
+            lets, parts = term[: m.end()], parts_of(term[m.end():])
+    whole = parts is None
+
+    def more(parts):
+        if parts and 1 < len(parts) < len(fields):
+            last = parts_of(parts[-1])
+            if last and len(last) > 1:
+                return parts[:-1] + last
+            m = re.fullmatch(r"(%s\.requires)((?:\.1)+)" % V, parts[-1])
+            if m and len(pre) > 1:
+                rest = pre[len(m.group(2)) // 2:]
+                return parts[:-1] + [m.group(1) + "." + f for f in rest]
         return None
-    return lets + "\n    record {\n" + "".join("      %s = %s;\n" % x for x in zip(fields, parts)) + "    }"
+
+    while more(parts):
+        parts = more(parts)
+    if whole or not parts or len(parts) != len(fields):
+        lets = "\n    let told = %s in" % term.strip()
+        parts = ["told" + ".1" * i + ("" if i == len(fields) - 1 else ".0") for i in range(len(fields))]
+    record = "record {\n" + "".join("      %s = %s;\n" % x for x in zip(fields, parts)) + "    }"
+    if lets.rstrip().endswith(" in") or not lets.strip():
+        return lets + "\n    " + record
+    return lets + " (" + record + ")"
 
 
 class Names:
@@ -84,6 +102,13 @@ class Names:
             if alike(form) in self.needs:
                 return self.needs[alike(form)]
         return None
+
+    def partial(self, path, place):
+        """Whether more has to follow for the path to have a name."""
+        return any(
+            alike(old) == alike(path[0]) and len(way) > len(path) - 1 and way[: len(path) - 1] == path[1:]
+            for i in self.above(place) if self.x["arms"][i] for _, old, way in self.x["arms"][i][2]
+        )
 
     def labels(self, step):
         return any(alike(p[2][0]) == alike(step) and len((c or {}).get("fields", [])) > 1 for p, c in zip(self.places, self.x["clauses"]))
@@ -110,9 +135,9 @@ class Names:
                     best = (len(way), [arm[0], field] + rest[len(way):])
         if best:
             return best[1]
-        if step == "match" and rest and re.match("rest$|keys", rest[0]):
+        if step.startswith("match") and rest and re.match("rest$|keys", rest[0]):
             for i in line:
-                if self.places[i][2][0] == "match" or alike(self.places[i][2][0]).startswith("match"):
+                if alike(self.places[i][2][0]).startswith("match") and "default" in self.places[i][2][1]:
                     return [self.places[i][2][1], self.places[i][2][1] + "-own"] + rest
         if rest[:1] == ["given"]:
             for i in [*line, *range(len(self.places))]:
@@ -177,11 +202,9 @@ def inline(body, arg, names, place, said):
             plain = [x for x in path if x != "before"]
             got = names.resolve(plain, place) if plain else None
             whole = got is not None and not (got[0].startswith("in-") and len(got) == 1)
-            if got and (got == ["requires"] or got[1:] == ["ensures"]) and (len(names.pre) > 1 if got == ["requires"] else names.labels(plain[0])):
+            if got and (re.fullmatch("requires(.1)*", ".".join(got)) or re.fullmatch("ensures(.1)*", ".".join(got[1:]))) and (len(names.pre) > 1 if got[0] == "requires" else names.labels(plain[0])):
                 whole = False
-            if not plain or not whole or plain == path[-1:] and plain[0] not in LEAVES and len(got) == 1 and any(
-                alike(old) == alike(plain[0]) for i in names.above(place) if names.x["arms"][i] for _, old, _ in names.x["arms"][i][2]
-            ):
+            if not plain or not whole or names.partial(plain, place):
                 env[m.group(1)] = path
             else:
                 env.pop(m.group(1), None)
@@ -314,7 +337,7 @@ def turn(crate, function, names, path, said):
             term = re.sub(r"not-(true|false) _ (%s\.if-not-%s\.(?:true|false))(?![^\s(){};,])" % (V, N), lambda k: k.group(2), term)
             fields = names.asked.get(names.old[new], [])
             if len(fields) > 1 and "record {" not in term:
-                as_record = named(term, fields)
+                as_record = named(term, fields, names.pre)
                 if as_record:
                     term = as_record
             answers.append("\n".join(notes + [f"pub {new} : goal.{new}"] + (["unfolding " + " ".join(unfolding)] if unfolding else []) + [f"{new} {d.group(2)} ={term}"]))

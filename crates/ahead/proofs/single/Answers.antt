@@ -5,7 +5,11 @@ use Rattle.ahead.proofs.single.Goals as goal
 
 pub item_in-requires : goal.item_in-requires
 item_in-requires c =
-    reach_in _ c.args.h c.requires c.stands_in.ensures c.reach.ensures
+    let told = reach_in _ c.args.h c.requires c.stands_in.ensures c.reach.ensures in
+    record {
+      u_bound = told.0;
+      fits = told.1;
+    }
 
 pub returns : goal.returns
 returns c =

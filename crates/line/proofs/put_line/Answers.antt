@@ -6,12 +6,10 @@ use Rattle.line.proofs.put_line.Goals as goal
 
 pub returns-in-Frames : goal.returns-in-Frames
 returns-in-Frames c =
-    let told = c.checked-1.given in
-    rw told.1 (frames_line told.0.0 (omega arith) c.put_text-a.ensures c.put_decimal-b.ensures c.put_text.ensures)
+    rw c.in-Frames.is (frames_line c.in-Frames.n (omega arith) c.put_text-a.ensures c.put_decimal-b.ensures c.put_text.ensures)
 
 pub returns-in-Refused : goal.returns-in-Refused
 returns-in-Refused c =
-    let told = c.checked-in-Refused-1.given in
-    rw told.1
-    (refused_line told.0.0 (omega arith) c.put_text-a-in-Refused.ensures c.put_decimal-b-in-Refused.ensures
+    rw c.in-Refused.is
+    (refused_line c.in-Refused.x (omega arith) c.put_text-a-in-Refused.ensures c.put_decimal-b-in-Refused.ensures
     c.put_text-c.ensures c.put_decimal-d.ensures c.put_text-in-Refused.ensures)

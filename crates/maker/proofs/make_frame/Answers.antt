@@ -204,7 +204,7 @@ overflow_cast-sequences-2 c =
 
 pub store_frame-stored-requires : goal.store_frame-stored-requires
 store_frame-stored-requires c =
-    let given : Making =
+    let told = let given : Making =
     let a = c.args in making a.start a.sequences a.channels a.numbers.now a.bits.now a.samples.now in
     let own_is : own_fit (given) ≡ c.frame_fits.result =
     let m = given in
@@ -215,7 +215,11 @@ store_frame-stored-requires c =
     c.in-Channels.l in
     let laid_out : Found (asked) (layout) =
     found (asked) (layout) (own_is ∙ c.if-not-frame_fits.false) (sym c.in-Channels.is ∙ c.measure-m.ensures) in
-    store_asked (laid_out) c.if-samples-gt-OCTETS.false c.frame_size-size.ensures.0 _ c.if-out-size.false
+    store_asked (laid_out) c.if-samples-gt-OCTETS.false c.frame_size-size.ensures.0 _ c.if-out-size.false in
+    record {
+      rows_fit = told.0;
+      samples_len_bound = told.1;
+    }
 
 pub returns : goal.returns
 returns c =

@@ -14,8 +14,7 @@ unfolding handed_out
 returns-in-Sample c =
     let in64 : SFits w64 c.whole_of.result =
     search rules in
-    let told = c.r-1.given.0 in
-    (λ i. outputs 0 told.0 (sample_values (c.kind_of.ensures i) ((to_z-of_z (in64) ∙ c.whole_of.ensures) i) told.1.0)) ∙ ap (λ (x : Sampled). sample_out (sampled_says x)) (sym c.in-Sample.is)
+    (λ i. outputs 0 c.in-Sample.at (sample_values (c.kind_of.ensures i) ((to_z-of_z (in64) ∙ c.whole_of.ensures) i) c.in-Sample.b)) ∙ ap (λ (x : Sampled). sample_out (sampled_says x)) (sym c.in-Sample.is)
 
 pub returns-in-Refused : goal.returns-in-Refused
 unfolding handed_out

@@ -30,7 +30,7 @@ block_of s w e = ap (λ (v : ℕ). s.block * v) e
 pub nonzero_rem-left : goal.nonzero_rem-left
 nonzero_rem-left c =
     let channels : List Settings =
-    take c.args.n (settled_in c.args.root c.args.dates c.args.t3) in
+    take c.args.n (settled_in c.args.root c.args.dates c.args.table) in
     let cut : c.args.len < c.args.sequences * sequence_octets (channels) =
     rw c.requires.n_le_channel_limit.1 at c.requires.len_bound in
     rw c.requires.n_le_channel_limit.1 (cut_some (channels) c.args.sequences c.args.len (cut))
@@ -59,17 +59,17 @@ overflow_sub-result c = omega (arith, mod-le c.loop-i.left c.width-w.result, c.l
 pub returns-then-left-block : goal.returns-then-left-block
 returns-then-left-block c =
     let channels : List Settings =
-    take c.args.n (settled_in c.args.root c.args.dates c.args.t3) in
+    take c.args.n (settled_in c.args.root c.args.dates c.args.table) in
     let cut : c.args.len < c.args.sequences * sequence_octets (channels) =
     rw c.requires.n_le_channel_limit.1 at c.requires.len_bound in
-    let full : length c.args.t3 ≡ channel_limit =
+    let full : length c.args.table ≡ channel_limit =
     search rules in
     let answer : {left : ℕ} → left ≡ partial_octets (channels) (c.args.len % c.args.octets)
     → c.args.len - left ≡ there_octets (channels) c.args.sequences c.args.len =
     λ e. let a = c.args in
     sym (there_cut (channels) a.sequences a.len (cut) ∙ ap (λ (t : ℕ). a.len - t) (sym (rw c.requires.n_le_channel_limit.1 at e))) in
     let a = c.args in
-    let left = settled_last a.root a.dates a.t3 (full) a.n c.requires.n_le_channel_limit.0 _ c.loop-i.i c.loop-i.left c.loop-i.invariant c.loop-i-test.true c.settle-c.ensures (block_of _ _ c.width-w.ensures) c.if-left-block.true in
+    let left = settled_last a.root a.dates a.table (full) a.n c.requires.n_le_channel_limit.0 _ c.loop-i.i c.loop-i.left c.loop-i.invariant c.loop-i-test.true c.settle-c.ensures (block_of _ _ c.width-w.ensures) c.if-left-block.true in
     answer (rw c.width-w.ensures left)
 
 pub overflow_add-i : goal.overflow_add-i
@@ -80,10 +80,10 @@ loop-i-smaller c = omega arith
 
 pub loop-i-preserved : goal.loop-i-preserved
 loop-i-preserved c =
-    let full : length c.args.t3 ≡ channel_limit =
+    let full : length c.args.table ≡ channel_limit =
     search rules in
     let a = c.args in
-    settled_block a.root a.dates a.t3 (full) a.n c.requires.n_le_channel_limit.0 _ c.loop-i.i c.loop-i.left c.loop-i.invariant c.loop-i-test.true c.settle-c.ensures (block_of _ _ c.width-w.ensures) c.if-left-block.false
+    settled_block a.root a.dates a.table (full) a.n c.requires.n_le_channel_limit.0 _ c.loop-i.i c.loop-i.left c.loop-i.invariant c.loop-i-test.true c.settle-c.ensures (block_of _ _ c.width-w.ensures) c.if-left-block.false
 
 pub overflow_sub-result-2 : goal.overflow_sub-result-2
 overflow_sub-result-2 c = omega (arith, c.loop-i.invariant.small, mod-le c.args.len c.args.octets)
@@ -91,14 +91,14 @@ overflow_sub-result-2 c = omega (arith, c.loop-i.invariant.small, mod-le c.args.
 pub returns : goal.returns
 returns c =
     let channels : List Settings =
-    take c.args.n (settled_in c.args.root c.args.dates c.args.t3) in
+    take c.args.n (settled_in c.args.root c.args.dates c.args.table) in
     let cut : c.args.len < c.args.sequences * sequence_octets (channels) =
     rw c.requires.n_le_channel_limit.1 at c.requires.len_bound in
-    let full : length c.args.t3 ≡ channel_limit =
+    let full : length c.args.table ≡ channel_limit =
     search rules in
     let answer : {left : ℕ} → left ≡ partial_octets (channels) (c.args.len % c.args.octets)
     → c.args.len - left ≡ there_octets (channels) c.args.sequences c.args.len =
     λ e. let a = c.args in
     sym (there_cut (channels) a.sequences a.len (cut) ∙ ap (λ (t : ℕ). a.len - t) (sym (rw c.requires.n_le_channel_limit.1 at e))) in
     let a = c.args in
-    answer (settled_past a.root a.dates a.t3 (full) a.n c.requires.n_le_channel_limit.0 _ c.loop-i.i c.loop-i.left c.loop-i.invariant c.loop-i-test.false)
+    answer (settled_past a.root a.dates a.table (full) a.n c.requires.n_le_channel_limit.0 _ c.loop-i.i c.loop-i.left c.loop-i.invariant c.loop-i-test.false)

@@ -229,4 +229,4 @@ loop-x-smaller c = omega (arith, facing_later (turn c))
 
 pub loop-x-preserved : goal.loop-x-preserved
 loop-x-preserved c =
-    passing_on (passing c) (turn c) (facing_stands (turn c) (0 ∷ 1 ∷ 3 ∷ 4 ∷ []) (tt, tt, tt, tt) (inl tt) c.in_default.keys6 c.standing_after-st-in_default.ensures)
+    passing_on (passing c) (turn c) (facing_stands (turn c) (0 ∷ 1 ∷ 3 ∷ 4 ∷ []) (tt, tt, tt, tt) (inl tt) c.in_default.in_default-own.keys6 c.standing_after-st-in_default.ensures)

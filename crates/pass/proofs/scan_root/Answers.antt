@@ -14,6 +14,7 @@ use Rattle.pass.proofs.Scans.{scanning_counted, scanned_end, scanned_fault}
 use Rattle.pass.proofs.Turns.{Facing, facing_later, facing_stands, facing_refused, Framing, facing_framing, framing_refused, framing_octets, framing_room}
 use Rattle.pass.proofs.Stretches.{begins_root}
 use Rattle.pass.proofs.Bare.{Bare, bare_first, bare_on, bare_at, bare_all, bare_root, bare_taken}
+use borrow.Enum.Refused.{opened}
 use Rattle.pass.proofs.scan_root.Goals as goal
 
 -- ---- what is known at the places on the way
@@ -125,4 +126,4 @@ pub loop-ahead-preserved : goal.loop-ahead-preserved
 loop-ahead-preserved c =
     let turn : Facing c.args.s.now c.args.asked (replicate channel_limit c.loop-ahead.st.root) c.loop-ahead.c c.loop-ahead.st c.loop-ahead.met c.in-Found.item c.in-Found.next c.item_effect-effect.result =
     record { before = c.loop-ahead.invariant; found = sym c.next_item.ensures ∙ c.in-Found.is; asks = c.item_effect-effect.ensures } in
-    bare_at c.renewed-c-in_default.ensures (bare_on (facing_stands (turn) (0 ∷ 1 ∷ 2 ∷ 3 ∷ 4 ∷ []) (tt, tt, tt, tt) (inr refl) c.in_default.keys5 c.standing_after-st-in_default.ensures))
+    bare_at c.renewed-c-in_default.ensures (bare_on (facing_stands (turn) (0 ∷ 1 ∷ 2 ∷ 3 ∷ 4 ∷ []) (tt, tt, tt, tt) (inr refl) (opened c.in_default.in_default-own.keys5) c.standing_after-st-in_default.ensures))

@@ -13,7 +13,11 @@ loop-i-init c =
 
 pub renew-requires : goal.renew-requires
 renew-requires c =
-    (refreshing_room c.loop-i.invariant c.loop-i-test.true, c.requires.1)
+    record {
+      k_bound = refreshing_room c.loop-i.invariant c.loop-i-test.true;
+      time_word_value = c.requires.time_word_value;
+      since_value = c.requires.since_value;
+    }
 
 pub lay_next-l-requires : goal.lay_next-l-requires
 lay_next-l-requires c =

@@ -36,4 +36,9 @@ pub shape_of-out : goal.shape_of-out
 shape_of-out c = c.loop-channel.invariant.long
 
 pub returns : goal.returns
-returns c = laying-ends _ _ _ _ _ c.loop-channel.invariant c.loop-channel-test.false
+returns c =
+    let told = laying-ends _ _ _ _ _ c.loop-channel.invariant c.loop-channel-test.false in
+    record {
+      value = told.0;
+      out_after = told.1;
+    }

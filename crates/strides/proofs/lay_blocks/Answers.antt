@@ -33,7 +33,11 @@ pub fill-requires : goal.fill-requires
 fill-requires c =
     let h = c.requires.n_nonzero in
     let k = c.requires.layable in
-    rw (c.width.ensures, c.apart.ensures, c.block_of-block.ensures, (block-rest h k).1) (width_wide _ k.lies.wide, (in_blocks h k, k.fits))
+    rw (c.width.ensures, c.apart.ensures, c.block_of-block.ensures, (block-rest h k).1) (record {
+      wide = width_wide _ k.lies.wide;
+      in_blocks = in_blocks h k;
+      n_in_bounds = k.fits;
+    })
 
 pub returns : goal.returns
 returns c =

@@ -12,7 +12,10 @@ overflow_add-start c = omega (arith, whole-small c.if-n-gt0.true c.requires)
 pub column2-requires : goal.column2-requires
 column2-requires c =
     let pre = c.requires in
-    rw c.apart-g.ensures (single_inside c.if-n-gt0.true pre c.if-x-eq1.true (sym c.if-width-eq2.true ∙ c.width.ensures), pre.fits)
+    rw c.apart-g.ensures (record {
+      in_file = single_inside c.if-n-gt0.true pre c.if-x-eq1.true (sym c.if-width-eq2.true ∙ c.width.ensures);
+      n_in_bounds = pre.fits;
+    })
 
 pub returns-then-width-eq2 : goal.returns-then-width-eq2
 returns-then-width-eq2 c =
@@ -22,7 +25,11 @@ returns-then-width-eq2 c =
 pub fill-requires : goal.fill-requires
 fill-requires c =
     let pre = c.requires in
-    rw (c.width-then-n-gt0.ensures, c.apart-g.ensures) (width_wide _ pre.lies.wide, (whole_blocks c.if-n-gt0.true pre, pre.fits))
+    rw (c.width-then-n-gt0.ensures, c.apart-g.ensures) (record {
+      wide = width_wide _ pre.lies.wide;
+      in_blocks = whole_blocks c.if-n-gt0.true pre;
+      n_in_bounds = pre.fits;
+    })
 
 pub returns-after-x-eq1 : goal.returns-after-x-eq1
 returns-after-x-eq1 c =

@@ -9,9 +9,16 @@ pub returns-in-Refused : goal.returns-in-Refused
 unfolding left_by
 returns-in-Refused c =
     let is = ap looked_up_says (sym c.in-Refused.is) ∙ c.view_at.ensures in
-    rw (← is) (refl, refl)
+    rw (← is) (record {
+      result_value = refl;
+      out_after = refl;
+    })
 
 pub returns-in-Channel : goal.returns-in-Channel
 returns-in-Channel c =
-    let is = ap looked_up_says (sym c.in-Channel.is) ∙ c.view_at.ensures in
-    rw (← is) c.seen.ensures
+    let told = let is = ap looked_up_says (sym c.in-Channel.is) ∙ c.view_at.ensures in
+    rw (← is) c.seen.ensures in
+    record {
+      result_value = told.0;
+      out_after = told.1;
+    }

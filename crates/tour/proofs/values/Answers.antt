@@ -9,9 +9,18 @@ pub returns-in-Refused : goal.returns-in-Refused
 unfolding left_by
 returns-in-Refused c =
     let is = ap looked_up_says (sym c.in-Refused.is) ∙ c.view_at.ensures in
-    rw (← is) (refl, (refl, refl))
+    rw (← is) (record {
+      result_value = refl;
+      kinds_after = refl;
+      wholes_after = refl;
+    })
 
 pub returns-in-Channel : goal.returns-in-Channel
 returns-in-Channel c =
-    let is = ap looked_up_says (sym c.in-Channel.is) ∙ c.view_at.ensures in
-    rw (← is) c.values_seen.ensures
+    let told = let is = ap looked_up_says (sym c.in-Channel.is) ∙ c.view_at.ensures in
+    rw (← is) c.values_seen.ensures in
+    record {
+      result_value = told.0;
+      kinds_after = told.1.0;
+      wholes_after = told.1.1;
+    }

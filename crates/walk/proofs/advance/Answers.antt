@@ -169,4 +169,4 @@ loop-x-smaller c = omega (arith, turning_later (turn c))
 pub loop-x-preserved : goal.loop-x-preserved
 loop-x-preserved c =
     let inv = (at_loop c).loop.invariant in
-    (turning_stands (turn c) c.in_default.keys6 c.standing_after-st-in_default.ensures c.wrapping_add_u64-read.ensures.value ∙ inv.0, inv.1, inv.2)
+    (turning_stands (turn c) c.in_default.in_default-own.keys6 c.standing_after-st-in_default.ensures c.wrapping_add_u64-read.ensures.value ∙ inv.0, inv.1, inv.2)

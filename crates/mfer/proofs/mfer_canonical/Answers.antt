@@ -1,0 +1,10 @@
+-- By the answer of the writer.
+use mathlib.Core.Path.{ap, ◌∙◌}
+use Rattle.outputs.specs.Outputs.{count_out}
+use borrow.Author.Rules.{rules}
+use Rattle.mfer.proofs.mfer_canonical.Goals as goal
+
+pub returns : goal.returns
+returns c =
+    let w = c.write_canonical.ensures in
+    record { octets = w.octets; answers = c.written_out.ensures ∙ ap count_out w.answers; leaves = w.leaves }

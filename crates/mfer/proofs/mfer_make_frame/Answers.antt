@@ -1,0 +1,9 @@
+-- By the answer of the maker.
+use borrow.Author.Rules.{rules}
+use mir.Facts.{to_z-of_z}
+use Rattle.mfer.proofs.Handed.{made_handed}
+use Rattle.mfer.proofs.mfer_make_frame.Goals as goal
+
+pub returns : goal.returns
+returns c =
+    made_handed (to_z-of_z c.ranges.start) c.make_frame.ensures c.written_out.ensures

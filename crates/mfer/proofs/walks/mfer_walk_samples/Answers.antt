@@ -1,0 +1,12 @@
+-- By the answer of the reading.
+use mathlib.Core.Path.{ap, ◌∙◌}
+use Rattle.outputs.specs.Outputs.{count_out}
+use borrow.Author.Rules.{rules}
+use Rattle.mfer.proofs.walks.mfer_walk_samples.Goals as goal
+
+pub returns : goal.returns
+returns c =
+    record {
+      count_after = c.read_out.ensures ∙ ap count_out c.samples.ensures.result_value;
+      out_after = c.samples.ensures.out_after;
+    }
