@@ -150,6 +150,11 @@ class Names:
                 if new.startswith("if-") or new.endswith("-test"):
                     rest = [{"left": "false", "taken": "true"}.get(r, r) for r in rest[:1]] + rest[1:]
                 fields = (self.x["clauses"][i] or {}).get("fields", [])
+                if new.startswith("loop") and rest[:1] == ["inv"]:
+                    rest = ["invariant"] + rest[1:]
+                given = self.x["params"].get(self.places[i][3] or "", [])
+                if rest[:1] == ["new"] and len(rest) > 1 and rest[1].isdigit() and int(rest[1]) < len(given):
+                    rest = ["new", given[int(rest[1])]] + rest[2:]
                 if rest[:1] == ["ensures"]:
                     rest = ["ensures"] + labelled(fields, rest[1:])
                     if new.startswith("wrapping_") and len(rest) == 1:
@@ -260,13 +265,24 @@ def expanded(term, unfolding, arg, helpers):
         if h.more:
             term_of = "λ " + " ".join(h.more) + ". " + term_of
         lets += "let %s : %s =\n        %s in\n    " % (h.name, as_arg(h.type, h.typed), term_of)
+    before = None
+    while before != (lets, term):
+        before = lets, term
+        for h in helpers:
+            if h.place:
+                lets, term = h.bare(lets), h.bare(term)
     for h in helpers:
-        lets, term = h.bare(lets), h.bare(term)
+        if not h.place:
+            lets, term = h.bare(lets), h.bare(term)
     return "\n    " + lets + term.lstrip() if lets else term
 
 
 def turn(crate, function, names, path, said):
     text = open(path, encoding="utf-8").read()
+    # Names for the types of places.
+    for m in list(re.finditer(r"(?m)^abbrev (%s) : Type 0\n(%s) = (tie\.%s)[^\n]*\n" % (N, N, N), text)):
+        text = text.replace(m.group(0), "")
+        text = re.sub(r"(?<![^\s(){}])%s(?=[\s)])" % re.escape(m.group(1)), m.group(3), text)
     module = "Rattle.%s.proofs.%s" % (crate, function)
     uses, comment, invariants, answers = [], [], [], []
     first = True
@@ -353,7 +369,7 @@ def turn(crate, function, names, path, said):
     shared, text = [], "\n".join(invariants)
     for part in reversed(answers):
         m = re.match(r"(?:--[^\n]*\n)*((?:abbrev |unfoldable |pub |record |data )*)(%s)(?= :|\n| \(| \{)" % N, part)
-        if m and not m.group(2).startswith("module") and " : goal." not in part and re.search(r"(?<![^\s(){};,.\[\]])%s(?![^\s(){}.;,\[\]])" % re.escape(m.group(2)), text):
+        if m and not m.group(2).startswith("module") and " : goal." not in part and re.search(r"(?<![^\s(){};,\[\]])%s(?![^\s(){}.;,\[\]])" % re.escape(m.group(2)), text):
             shared.insert(0, (m.group(2), part))
             text += "\n" + part
     answers = [a for a in answers if a not in [s for _, s in shared]]

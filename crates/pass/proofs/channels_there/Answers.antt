@@ -64,13 +64,13 @@ returns-then-left-block c =
     rw c.requires.n_le_channel_limit.1 at c.requires.len_bound in
     let full : length c.args.table ≡ channel_limit =
     search rules in
-    let answer : {left : ℕ} → left ≡ partial_octets (channels) (c.args.len % c.args.octets)
+    let answer : (left : ℕ) → left ≡ partial_octets (channels) (c.args.len % c.args.octets)
     → c.args.len - left ≡ there_octets (channels) c.args.sequences c.args.len =
-    λ e. let a = c.args in
+    λ left e. let a = c.args in
     sym (there_cut (channels) a.sequences a.len (cut) ∙ ap (λ (t : ℕ). a.len - t) (sym (rw c.requires.n_le_channel_limit.1 at e))) in
     let a = c.args in
     let left = settled_last a.root a.dates a.table (full) a.n c.requires.n_le_channel_limit.0 _ c.loop-i.i c.loop-i.left c.loop-i.invariant c.loop-i-test.true c.settle-c.ensures (block_of _ _ c.width-w.ensures) c.if-left-block.true in
-    answer (rw c.width-w.ensures left)
+    answer _ (rw c.width-w.ensures left)
 
 pub overflow_add-i : goal.overflow_add-i
 overflow_add-i c = omega (arith, c.requires.n_le_channel_limit.0, c.loop-i-test.true)
@@ -96,9 +96,9 @@ returns c =
     rw c.requires.n_le_channel_limit.1 at c.requires.len_bound in
     let full : length c.args.table ≡ channel_limit =
     search rules in
-    let answer : {left : ℕ} → left ≡ partial_octets (channels) (c.args.len % c.args.octets)
+    let answer : (left : ℕ) → left ≡ partial_octets (channels) (c.args.len % c.args.octets)
     → c.args.len - left ≡ there_octets (channels) c.args.sequences c.args.len =
-    λ e. let a = c.args in
+    λ left e. let a = c.args in
     sym (there_cut (channels) a.sequences a.len (cut) ∙ ap (λ (t : ℕ). a.len - t) (sym (rw c.requires.n_le_channel_limit.1 at e))) in
     let a = c.args in
-    answer (settled_past a.root a.dates a.table (full) a.n c.requires.n_le_channel_limit.0 _ c.loop-i.i c.loop-i.left c.loop-i.invariant c.loop-i-test.false)
+    answer _ (settled_past a.root a.dates a.table (full) a.n c.requires.n_le_channel_limit.0 _ c.loop-i.i c.loop-i.left c.loop-i.invariant c.loop-i-test.false)

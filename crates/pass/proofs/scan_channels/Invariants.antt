@@ -27,30 +27,6 @@ use Rattle.pass.proofs.Records.{Passing, passing_from, passing_at, passing_on, p
 use Rattle.pass.proofs.Cut.{held-there, held_cut, held_small}
 use Rattle.pass.proofs.scan_channels.Given as goal
 
--- An item is met, and the cursor stands behind it.
-abbrev pub Behind : Type 0
-Behind = tie.After-renewed invariant-loop2 decreases-loop2 invariant-loop decreases-loop
-
-abbrev pub at_item : Behind → tie.After-item invariant-loop2 decreases-loop2 invariant-loop decreases-loop
-at_item c = c.before.before
-
-abbrev pub at_loop : Behind → tie.At-loop invariant-loop2 decreases-loop2 invariant-loop decreases-loop
-at_loop c = (at_item c).before.before.before
-
-abbrev pub item_of : Behind → Item
-item_of c = (at_item c).item.given.0.0
-
-abbrev pub file_of : Behind → List ℕ
-file_of c = (at_loop c).before.before.before.before.args.s.now
-
-abbrev pub asked_of : Behind → Asked
-asked_of c = (at_loop c).before.before.before.before.args.asked
-
-pub met : (c : Behind) → let l = (at_loop c).loop in Facing (file_of c) (asked_of c) (settled_in l.st.root l.dates l.table) l.c l.st l.met (item_of c) c.renewed.result (effect_of (file_of c) l.st (item_of c))
-met c =
-    let at_next = (at_item c).before.before in
-    record { before = (at_loop c).loop.invariant.pass; found = sym at_next.next-item.ensures ∙ found_as (at_item c).item.given.1 c.renewed.ensures; asks = refl }
-
 abbrev pub invariant-loop-i : goal.invariant-loop-i
 invariant-loop-i l = Summing l.asked.channel (settled_in l.root l.dates l.table) l.n l.i l.l
 
