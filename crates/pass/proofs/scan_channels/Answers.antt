@@ -26,6 +26,7 @@ use Rattle.pass.proofs.Stretches.{GroupOpened, opened_group, opened_nothing, ope
 use Rattle.pass.proofs.Records.{Passing, passing_from, passing_at, passing_on, passing_count, passing_all, passing_one, passing_outside, passing_group, settled_more, settled_seen, stands-full}
 use Rattle.pass.proofs.Cut.{held-there, held_cut, held_small}
 use Rattle.pass.proofs.scan_channels.Goals as goal
+use Rattle.pass.proofs.scan_channels.Goals.{then-holds, else-holds}
 
 -- ---- what is known at the places on the way
 
@@ -314,7 +315,10 @@ channels_there-there-requires c =
     Framing (file_of) (asked_of) (settled_in l.st.root l.dates l.table) l.c l.st l.met (item_of) c.renewed-c.result c.in-Frame.start c.in-Frame.len c.loop-i.l c.frame_of.result =
     facing_framing (turn) c.in-Frame.is (summed_up c.loop-i.invariant _ c.channels_of-n.ensures c.loop-i-test.false) c.frame_of.ensures in
     let octets = framing_octets (framing) in
-    ((c.loop-i.invariant.few, rw c.channels_of-n.ensures octets), rw octets (held_cut _ _ _ octets c.holds.ensures c.if-holds.false))
+    record {
+      n_le_channel_limit = (c.loop-i.invariant.few, rw c.channels_of-n.ensures octets);
+      len_bound = rw octets (held_cut _ _ _ octets c.holds.ensures c.if-holds.false);
+    }
 
 pub with_frame-met-requires : goal.with_frame-met-requires
 with_frame-met-requires c =
@@ -339,16 +343,17 @@ with_frame-met-requires c =
     → octets ≡ there_octets (take (channels_of l.st.counted) (settled_in l.st.root l.dates l.table)) sequences long =
     λ octets sequences long e. let l = c.loop-x in
     e ∙ ap (λ (n : ℕ). there_octets (take n (settled_in l.st.root l.dates l.table)) sequences long) c.channels_of-n.ensures in
-    let whole : (sequences long : ℕ) {t : Bool}
+    let whole : (sequences long : ℕ) (t : Bool)
     → let l = c.loop-x in
     let octets = c.loop-i.l.octets in
     t ≡ leb (sequences * octets) long → t ≡ true → sequences * octets ≡ there_octets (take (channels_of l.st.counted) (settled_in l.st.root l.dates l.table)) sequences long =
-    λ sequences long h k. held-there _ sequences long (framing_octets (framing)) h k in
+    λ sequences long t h k. held-there _ sequences long (framing_octets (framing)) h k in
     let counted : let l = c.loop-x in
     c.if-holds.there ≡ there_octets (take (channels_of l.st.counted) (settled_in l.st.root l.dates l.table)) c.in-Taken.sequences c.in-Frame.len =
-    ⊎_elim (λ p. p.2 ∙ whole _ _ c.holds.ensures p.0.taken)
-    (λ p. p.2 ∙ there _ _ _ p.1.ensures)
-    c.if-holds.branch in
+    elim c.if-holds.branch [
+      then-holds w ↦ w.there-is ∙ whole _ _ _ c.holds.ensures w.if-holds.true
+      | else-holds w ↦ w.there-is ∙ there _ _ _ w.channels_there-there.ensures
+    ] in
     framing_room (framing) c.in-Taken.is (counted)
 
 pub loop-x-smaller-in-Taken : goal.loop-x-smaller-in-Taken
@@ -395,16 +400,17 @@ loop-x-preserved-in-Taken c =
     → octets ≡ there_octets (take (channels_of l.st.counted) (settled_in l.st.root l.dates l.table)) sequences long =
     λ octets sequences long e. let l = c.loop-x in
     e ∙ ap (λ (n : ℕ). there_octets (take n (settled_in l.st.root l.dates l.table)) sequences long) c.channels_of-n.ensures in
-    let whole : (sequences long : ℕ) {t : Bool}
+    let whole : (sequences long : ℕ) (t : Bool)
     → let l = c.loop-x in
     let octets = c.loop-i.l.octets in
     t ≡ leb (sequences * octets) long → t ≡ true → sequences * octets ≡ there_octets (take (channels_of l.st.counted) (settled_in l.st.root l.dates l.table)) sequences long =
-    λ sequences long h k. held-there _ sequences long (framing_octets (framing)) h k in
+    λ sequences long t h k. held-there _ sequences long (framing_octets (framing)) h k in
     let counted : let l = c.loop-x in
     c.if-holds.there ≡ there_octets (take (channels_of l.st.counted) (settled_in l.st.root l.dates l.table)) c.in-Taken.sequences c.in-Frame.len =
-    ⊎_elim (λ p. p.2 ∙ whole _ _ c.holds.ensures p.0.taken)
-    (λ p. p.2 ∙ there _ _ _ p.1.ensures)
-    c.if-holds.branch in
+    elim c.if-holds.branch [
+      then-holds w ↦ w.there-is ∙ whole _ _ _ c.holds.ensures w.if-holds.true
+      | else-holds w ↦ w.there-is ∙ there _ _ _ w.channels_there-there.ensures
+    ] in
     let p = passing in
     let seen = settled_seen p c.index-k.ensures c.settle-seen.ensures in
     passing_on p (turn) (framing_taken (framing) c.in-Taken.is (counted) seen c.with_frame-met.ensures)
