@@ -186,8 +186,8 @@ pub located : (s : List ℕ) (frame channel : ℕ) (w : View) {r : LookedUp} →
 unfolding seen_of
 located s frame channel w e f =
     asked-both (λ (a b : Answer View). answered w ≡ a → Located s frame channel w)
-    (λ number place q. let z : ◌≡◌ {A = ℕ} 0 1 = cc in let a : ⊥ = omega arith in absurd a) frame channel _ (λ g. answered (view_of channel g)) (verdict s)
-    (λ fs v i c q. record { frames = fs; verdict_is = v; frame_in = i; channel_is = c; view = (cc) }) (ap looked_up_says (sym f) ∙ e)
+    (λ number place q. let z : ◌≡◌ {A = ℕ} 0 1 = cc in let a : ⊥ = omega arith in absurd a) frame channel (λ (g : Frame). answered (view_of channel g)) (λ (g : Frame). answered (view_of channel g)) (verdict s)
+    (λ fs v i c q. record { frames = fs; verdict_is = v; frame_in = i; channel_is = c; view = cc q }) (ap looked_up_says (sym f) ∙ e)
 
 view_attributes : (channel : ℕ) (f : Frame) → channel < length f.channels → attributes_seen (view_of channel f) ≡ attributes_in channel f
 unfolding view_of attributes_in
@@ -197,7 +197,8 @@ view_attributes channel f h = simp (lt-ltb channel (length f.channels) h)
 pub described_is : (s : List ℕ) (frame channel : ℕ) → map_answer attributes_seen (seen_of s frame channel) ≡ attributes_of s frame channel
 unfolding attributes_of seen_of
 described_is s frame channel =
-    asked-both (λ (a : Answer View) (b : Answer Attributes). map_answer attributes_seen a ≡ b) (λ number place. refl) frame channel _ _ (verdict s)
+    asked-both (λ (a : Answer View) (b : Answer Attributes). map_answer attributes_seen a ≡ b) (λ number place. refl) frame channel (λ (g : Frame). answered (view_of channel g))
+    (λ (g : Frame). answered (attributes_in channel g)) (verdict s)
     (λ fs v i c. ap answered (view_attributes channel (get_or fs frame zero_frame) c))
 
 -- ---- the place of a sample
@@ -271,7 +272,7 @@ module _ {s : List ℕ} {frame channel : ℕ} {w : View} (p : Located s frame ch
   -- A question for a sample of the channel, over what is seen of it.
   pub asked_seen_lem : {A : Type 0} (g : Frame → A) (n : ℕ) → asked_sample g frame channel n (verdict s) ≡ asked_seen (length s) w n (g frame_in)
   asked_seen_lem g n =
-      asked_found frame channel p.verdict_is p.frame_in p.channel_is _
+      asked_found frame channel p.verdict_is p.frame_in p.channel_is (λ (f : Frame). pick (ltb n (samples_of channel f)) (answered (g f)) (refused_as no_sample 0))
       ∙ simp (located_lies, count_seen_lem)
 
   -- A declared sample, of which the frame says whether it is there.
@@ -324,8 +325,9 @@ module _ {s : List ℕ} {frame channel : ℕ} {w : View} (p : Located s frame ch
 pub unseen : {A : Type 0} (g : Frame → A) (s : List ℕ) (frame channel n : ℕ) (x : Refusal) {r : LookedUp} → looked_up_says r ≡ seen_of s frame channel → r ≡ LookedUp.Refused x → refused_by x ≡ asked_sample g frame channel n (verdict s)
 unfolding seen_of
 unseen {A} g s frame channel n x e f =
-    asked-both (λ (a : Answer View) (b : Answer A). refused_by x ≡ a → refused_by x ≡ b) (λ m p q. cc) frame channel _ _ (verdict s)
-    (λ fs v i c q. let z : ◌≡◌ {A = ℕ} 0 1 = cc in let a : ⊥ = omega arith in absurd a) (ap looked_up_says (sym f) ∙ e)
+    asked-both (λ (a : Answer View) (b : Answer A). refused_by x ≡ a → refused_by x ≡ b) (λ m p q. cc) frame channel (λ (f : Frame). answered (view_of channel f))
+    (λ (f : Frame). pick (ltb n (samples_of channel f)) (answered (g f)) (refused_as no_sample 0)) (verdict s)
+    (λ fs v i c q. let z : ◌≡◌ {A = ℕ} 0 1 = cc q in let a : ⊥ = omega arith in absurd a) (ap looked_up_says (sym f) ∙ e)
 
 -- ---- a sample, over its place
 
@@ -343,6 +345,10 @@ pub record LackingAt (s : List ℕ) (frame channel n : ℕ) : Type 0 where
   pub past : is_there (frame_in channel_at).channels (length (frame_in channel_at).waveform) channel n ≡ false
 
 module _ (s : List ℕ) (frame channel n : ℕ) where
+  -- What is told of the place in a frame.
+  abbrev place_told : Frame → Option FoundPlace
+  place_told f = if_there channel n f (some (found_place (place_of channel n f) (view_of channel f))) none
+
   -- What the answer for a place says, by whether the sample is there.
   abbrev Says : Option FoundPlace → Type 0
   Says (some x) = PlacedAt s frame channel n x.place x.channel
@@ -363,8 +369,8 @@ module _ (s : List ℕ) (frame channel n : ℕ) where
   unfolding placed_of
   answer_says {o} =
       sample-both (λ (a b : Answer (Option FoundPlace)). answered o ≡ a → Says o)
-      (λ number place q. let z : ◌≡◌ {A = ℕ} 0 1 = cc in let a : ⊥ = omega arith in absurd a) frame channel _ (λ f. if_there channel n f (some (found_place (place_of channel n f) (view_of channel f))) none) n (verdict s)
-      (λ fs a i c h q. let e : o ≡ if_there channel n (get_or fs frame zero_frame) (some (found_place (place_of channel n (get_or fs frame zero_frame)) (view_of channel (get_or fs frame zero_frame)))) none = cc in subst Says (sym e) (says fs a i c h _ refl))
+      (λ number place q. let z : ◌≡◌ {A = ℕ} 0 1 = cc in let a : ⊥ = omega arith in absurd a) frame channel place_told place_told n (verdict s)
+      (λ fs a i c h q. let e : o ≡ place_told (get_or fs frame zero_frame) = cc q in subst Says (sym e) (says fs a i c h _ refl))
 
   pub placed_at : {p : ℕ} {v : View} {r : Placed} → placed_says r ≡ placed_of s frame channel n → r ≡ At p v → PlacedAt s frame channel n p v
   placed_at e f = answer_says (ap placed_says (sym f) ∙ e)
@@ -401,4 +407,6 @@ sample-lacking s frame channel n e f =
 
 pub sample-none : (s : List ℕ) (frame channel n : ℕ) (x : Refusal) {r : Placed} → placed_says r ≡ placed_of s frame channel n → r ≡ Placed.Refused x → refused_by x ≡ sample_of s frame channel n
 unfolding placed_of sample_of
-sample-none s frame channel n x e f = sample-refused _ _ frame channel n (verdict s) (ap placed_says (sym f) ∙ e)
+sample-none s frame channel n x e f =
+    sample-refused (λ (f : Frame). if_there channel n f (some (found_place (place_of channel n f) (view_of channel f))) none) (sample_in channel n)
+    frame channel n (verdict s) (ap placed_says (sym f) ∙ e)

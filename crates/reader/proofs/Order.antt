@@ -29,7 +29,8 @@ module _ {A : Type 0} (frame channel : ℕ) {v : Verdict} where
     asked_found g = ap (asked g frame channel) e ∙ simp (lt-ltb frame (length fs) i, lt-ltb channel _ c)
 
     pub sample_found : (g : Frame → A) {n : ℕ} → n < samples_of channel (get_or fs frame zero_frame) → asked_sample g frame channel n v ≡ answered (g (get_or fs frame zero_frame))
-    sample_found g h = asked_found _ ∙ simp (lt-ltb _ (samples_of channel (get_or fs frame zero_frame)) h)
+    sample_found g {n} h =
+        asked_found (λ (f : Frame). pick (ltb n (samples_of channel f)) (answered (g f)) (refused_as no_sample 0)) ∙ simp (lt-ltb _ (samples_of channel (get_or fs frame zero_frame)) h)
 
 module _ {A B : Type 0} (P : Answer A → Answer B → Type 0) (o : (number place : ℕ) → P (refused_as number place) (refused_as number place)) (frame channel : ℕ) where
   pub asked-both : (yesA : Frame → Answer A) (yesB : Frame → Answer B) (v : Verdict)
@@ -49,7 +50,9 @@ module _ {A B : Type 0} (P : Answer A → Answer B → Type 0) (o : (number plac
       → ((fs : List Frame) → v ≡ accepted fs → frame < length fs → channel < length (get_or fs frame zero_frame).channels → n < samples_of channel (get_or fs frame zero_frame) → P (answered (yesA (get_or fs frame zero_frame))) (answered (yesB (get_or fs frame zero_frame))))
       → P (asked_sample yesA frame channel n v) (asked_sample yesB frame channel n v)
   sample-both yesA yesB n v h =
-      asked-both _ _ v (λ fs e i c. by fs e i c (ltb n (samples_of channel (get_or fs frame zero_frame))) refl)
+      asked-both (λ (f : Frame). pick (ltb n (samples_of channel f)) (answered (yesA f)) (refused_as no_sample 0))
+      (λ (f : Frame). pick (ltb n (samples_of channel f)) (answered (yesB f)) (refused_as no_sample 0)) v
+      (λ fs e i c. by fs e i c (ltb n (samples_of channel (get_or fs frame zero_frame))) refl)
     where
       by : (fs : List Frame) → v ≡ accepted fs → frame < length fs → channel < length (get_or fs frame zero_frame).channels → (a : Bool) → ltb n (samples_of channel (get_or fs frame zero_frame)) ≡ a
           → P (pick a (answered (yesA (get_or fs frame zero_frame))) (refused_as no_sample 0)) (pick a (answered (yesB (get_or fs frame zero_frame))) (refused_as no_sample 0))

@@ -1,5 +1,6 @@
 -- Where the samples there are no more octets than a file may have and the frame fits it is stored, and else nothing is.
 use Rattle.frames.proofs.Given.{FirstRecords, few-there, octets_are, told_groups, not-given, parts_given, given-long, frame-asked}
+use lib.ListN.{length}
 use mathlib.Core.Path.{sym, ◌∙◌}
 use native.Mathlib.Omega.{arith}
 use mir.Facts.{to_z-of_z}
@@ -48,7 +49,9 @@ store_frame-requires c =
     record { few = c.at_most-k.ensures; layout = c.layout_in-l.ensures } in
     let a = c.args in
     let h = sym c.overruns.ensures ∙ c.if-overruns.false in
-    frame-asked (told) a.sequences a.w.now c.there_octets-octets.ensures c.if-octets-gt-OCTETS.false _ _ (omega (arith, ltb-false, c.frame_size-size.ensures.0))
+    let all = frame-asked told a.sequences a.w.now c.there_octets-octets.ensures c.if-octets-gt-OCTETS.false a.at (length a.out.now)
+        (omega (arith, ltb-false, c.frame_size-size.ensures.0)) in
+    record { few = all.0; octets_value = all.1.0; octets_in_bounds = all.1.1 }
 
 pub returns : goal.returns
 returns c =

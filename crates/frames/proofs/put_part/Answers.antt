@@ -26,7 +26,7 @@ returns-then-left-block c =
     parts_last inv.1 (nth c.args.t.now inv.0 c.loop-i-test.true c.held-c.ensures) c.width-v.ensures c.if-left-block.true c.turn.ensures
 
 pub shape_of-out-then-left-block : goal.shape_of-out-then-left-block
-shape_of-out-then-left-block c = put_long (returns c)
+shape_of-out-then-left-block c = put_long (returns-then-left-block c)
 
 pub overflow_add-place : goal.overflow_add-place
 overflow_add-place c =
