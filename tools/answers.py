@@ -153,8 +153,12 @@ class Names:
                 if new.startswith("loop") and rest[:1] == ["inv"]:
                     rest = ["invariant"] + rest[1:]
                 given = self.x["params"].get(self.places[i][3] or "", [])
-                if rest[:1] == ["new"] and len(rest) > 1 and rest[1].isdigit() and int(rest[1]) < len(given):
-                    rest = ["new", given[int(rest[1])]] + rest[2:]
+                if rest[:1] == ["new"]:
+                    k = 0
+                    while rest[1 + k:2 + k] == ["1"]:
+                        k += 1
+                    if rest[1 + k:2 + k] == ["0"] and k < len(given):
+                        rest = ["new", given[k]] + rest[2 + k:]
                 if rest[:1] == ["ensures"]:
                     rest = ["ensures"] + labelled(fields, rest[1:])
                     if new.startswith("wrapping_") and len(rest) == 1:
@@ -326,7 +330,7 @@ def turn(crate, function, names, path, said):
             if len(ways) != len(args):
                 said.append("loop %s: %d names for %d" % (loop, len(args), len(ways)))
             to = dict(zip(args, ways))
-            rest = re.sub(N, lambda k: to.get(k.group(0), k.group(0)), body[m.end() + d.end():])
+            rest = re.sub(r"(?<!\.)(?<![^\s(){}.;,@\"«»\[\]\\])" + N, lambda k: to.get(k.group(0), k.group(0)), body[m.end() + d.end():])
             # A field of what is renamed is left as it is.
             label = f"{kind}-{new}"
             invariants.append("\n".join(notes + [f"abbrev pub {label} : goal.{label}", f"{label} l ={rest}"]))

@@ -19,7 +19,7 @@ use Rattle.octets.proofs.Pick.{pick_cases}
 use Rattle.heads.specs.declared.Refusal.{Refusal}
 use Rattle.heads.specs.Refusals.{no_frame, no_sample}
 use Rattle.heads.specs.Answer.{Answer, answered, refused_as, refused_by, map_answer, left_by}
-use Rattle.layout.specs.Frame.{channel_in}
+use Rattle.layout.specs.Frame.{Frame, channel_in}
 use Rattle.laid.specs.Laid.{sample_bits}
 use Rattle.there.specs.There.{there_in}
 use Rattle.spread.specs.Spread.{bits_spread}
@@ -32,7 +32,7 @@ use Rattle.strides.proofs.Walks.{length-bits, bits-same}
 use Rattle.strides.proofs.Laying.{in_lays, no_bits}
 use Rattle.strides.proofs.Channels.{filled}
 use Rattle.view.specs.declared.View.{View}
-use Rattle.view.specs.View.{spread_of, count_seen, there_seen, place_seen, lies_in, asked_seen}
+use Rattle.view.specs.View.{view_of, spread_of, count_seen, there_seen, place_seen, lies_in, asked_seen}
 use Rattle.view.proofs.Lying.{AskedIn, seen_lies, map_seen}
 use Rattle.verdict.specs.Verdict.{verdict}
 use Rattle.pass.specs.Scan.{zero_frame}
@@ -46,7 +46,8 @@ use Rattle.bulk.specs.Samples.{there_at, bits_seen, read_of, read_seen, values_b
 pub there-is : (s : List ℕ) (frame channel : ℕ) → map_answer there_seen (seen_of s frame channel) ≡ there_at s frame channel
 unfolding there_at seen_of
 there-is s frame channel =
-    asked-both (λ (a : Answer View) (b : Answer ℕ). map_answer there_seen a ≡ b) (λ number place. refl) frame channel _ _ (verdict s)
+    asked-both (λ (a : Answer View) (b : Answer ℕ). map_answer there_seen a ≡ b) (λ number place. refl) frame channel (λ (f : Frame). answered (view_of channel f))
+    (λ (f : Frame). answered (there_in channel f)) (verdict s)
     (λ fs v i c. ap answered (view_there channel (get_or fs frame zero_frame) c))
 
 -- ---- a question for a sample

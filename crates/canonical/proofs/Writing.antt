@@ -91,7 +91,7 @@ abbrev pub narrowed : ℤ → ℤ
 narrowed z = to_z w32 (of_z w32 (read_wide z))
 
 wide_is : (z : ℤ) → mag z < 2 ^ 31 → read_wide z ≡ z
-wide_is z h = let wide : mag z < 2 ^ 63 = omega arith in to_z-of_z (record { sfits = wide })
+wide_is z h = let wide : mag z < 2 ^ 63 = omega arith in to_z-of_z {w = w64} (record { sfits = wide })
 
 pub narrow_fits : (z : ℤ) → mag z < 2 ^ 31 → SFits w32 (read_wide z)
 narrow_fits z h = subst (SFits w32) (sym (wide_is z h)) (record { sfits = h })

@@ -1,9 +1,13 @@
 -- By the channel that is found: what is seen of a frame of the file are its samples.
 use mathlib.Core.Path.{ap, ◌∙◌}
 use mathlib.Core.List.{List}
-use Prim.Native.Nat.{ℕ}
+use Prim.Native.Nat.{ℕ, ◌-◌, min}
 use lib.ListN.{length}
 use Rattle.heads.specs.Answer.{Answer, map_answer, left_by}
+use Rattle.strides.specs.Laying.{bits_from}
+use Rattle.laid.specs.Laid.{sample_bits}
+use Rattle.there.specs.There.{there_in}
+use Rattle.layout.specs.Frame.{Frame}
 use Rattle.reader.proofs.Answers.{located, unseen}
 use Rattle.bulk.specs.Samples.{read_of, count_read}
 use Rattle.strides.proofs.Channels.{kept}
@@ -14,7 +18,9 @@ use Rattle.bulk.proofs.samples.Goals as goal
 pub returns-in-Refused : goal.returns-in-Refused
 unfolding count_read read_of
 returns-in-Refused c =
-    let e = unseen _ _ _ _ _ _ c.look_up.ensures c.in-Refused.is in
+    let a = c.args in
+    let asks = λ (f : Frame). bits_from (sample_bits f a.channel) a.first (min (length a.out.now) (there_in a.channel f - a.first)) in
+    let e = unseen asks _ _ _ _ _ c.look_up.ensures c.in-Refused.is in
     record {
       result_value = ap (map_answer length) e;
       out_after = kept _ e;

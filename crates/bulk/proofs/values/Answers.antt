@@ -1,12 +1,16 @@
 -- By the channel that is found: what is seen of a frame of the file are its samples.
 use mathlib.Core.Path.{ap, ◌∙◌}
 use mathlib.Core.List.{List}
-use Prim.Native.Nat.{min}
+use Prim.Native.Nat.{◌-◌, min}
 use lib.ListN.{length}
 use Rattle.heads.specs.Answer.{Answer, map_answer, left_by}
 use Rattle.values.specs.Sample.{Said}
+use Rattle.strides.specs.Laying.{bits_from}
+use Rattle.laid.specs.Laid.{sample_bits}
+use Rattle.there.specs.There.{there_in}
+use Rattle.layout.specs.Frame.{Frame, channel_in}
 use Rattle.reader.proofs.Answers.{located, unseen}
-use Rattle.bulk.specs.Samples.{values_of, kinds_in, wholes_in}
+use Rattle.bulk.specs.Samples.{values_by, values_of, kinds_in, wholes_in}
 use Rattle.strides.proofs.Channels.{kept}
 use Rattle.bulk.proofs.Reading.{values_located}
 use borrow.Author.Rules.{rules}
@@ -15,7 +19,10 @@ use Rattle.bulk.proofs.values.Goals as goal
 pub returns-in-Refused : goal.returns-in-Refused
 unfolding values_of
 returns-in-Refused c =
-    let e = unseen _ _ _ _ _ _ c.look_up.ensures c.in-Refused.is in
+    let a = c.args in
+    let room = min (length a.kinds.now) (length a.wholes.now) in
+    let asks = λ (f : Frame). values_by (channel_in a.channel f.channels) (bits_from (sample_bits f a.channel) a.first (min room (there_in a.channel f - a.first))) in
+    let e = unseen asks _ _ _ _ _ c.look_up.ensures c.in-Refused.is in
     record {
       result_value = ap (map_answer length) e;
       kinds_after = kept _ (ap kinds_in e);

@@ -20,4 +20,4 @@ abbrev pub invariant-loop-v : goal.invariant-loop-v
 invariant-loop-v l = Writing l.s l.initial.out (stand_of l.h l.t) l.at l.out × (length l.t ≡ table_words)
 
 abbrev pub decreases-loop-v : goal.decreases-loop-v
-decreases-loop-v l = length l.s - l.h.cursor.l.at
+decreases-loop-v l = length l.s - l.h.cursor.at

@@ -10,4 +10,4 @@ unfolding decimal_of
 returns c =
     let d = c.decimal-k in
     let n = c.args.n in
-    rw (d.ensures.1.1, fewest_digits 19 d.result n (omega arith) d.ensures.1.0) at c.put_text.ensures
+    rw (d.ensures.digits, fewest_digits 19 d.result n (omega arith) d.ensures.len) at c.put_text.ensures

@@ -12,6 +12,6 @@ returns-then-w-lt-HEAD c =
 pub returns : goal.returns
 returns c =
     let a = c.args in
-    let x = c.advance-m.new.h.1.0 in
+    let x = c.advance-m.new.t in
     let went = c.advance-m.ensures in
     goes_on a.w.now x (omega arith) went.long c.keep.ensures went c.head_at-h.ensures c.frame_told.ensures
