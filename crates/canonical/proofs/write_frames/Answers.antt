@@ -14,6 +14,7 @@ use Rattle.walk.specs.declared.Head.{Head}
 use Rattle.walk.specs.Advance.{first_head, stand_of}
 use Rattle.walk.proofs.Joins.{Reaches, reaches_cleared}
 use Rattle.canonical.proofs.Writing.{Writing, ready_small, writing_first, writing_later, frame-start, writing_frame, written_done}
+use borrow.Enum.Refused.{opened}
 use Rattle.canonical.proofs.write_frames.Goals as goal
 
 -- The walk begins with records that are all of the time before the first item.
@@ -56,4 +57,4 @@ shape_of-out-in_default c =
 
 pub returns-in_default : goal.returns-in_default
 returns-in_default c =
-    written_done c.loop-v.invariant.0 c.advance-m.result.step c.in_default.in_default-own.keys2 c.advance-m.ensures.same c.put_order-at.ensures
+    written_done c.loop-v.invariant.0 c.advance-m.result.step (opened c.in_default.in_default-own.keys2) c.advance-m.ensures.same c.put_order-at.ensures

@@ -12,34 +12,24 @@ use Rattle.held.proofs.stage_at.Goals as goal
 
 pub returns-in-0 : goal.returns-in-0
 returns-in-0 c =
-    let kind : {n : ℕ} → c.word-kind.result ≡ n → get_or c.args.w.now 3 0 ≡ n =
-    λ e. sym c.word-kind.ensures ∙ e in
-    simp (kind c.in-0.is)
+    simp (sym c.word-kind.ensures ∙ c.in-0.is)
 
 pub returns-in-1 : goal.returns-in-1
 returns-in-1 c =
-    let kind : {n : ℕ} → c.word-kind.result ≡ n → get_or c.args.w.now 3 0 ≡ n =
-    λ e. sym c.word-kind.ensures ∙ e in
-    simp (kind c.in-1.is) (λ i. Stage.Value (c.one_at.ensures i) (c.word-left.ensures i))
+    simp (sym c.word-kind.ensures ∙ c.in-1.is) (λ i. Stage.Value (c.one_at.ensures i) (c.word-left.ensures i))
 
 pub returns-in-2 : goal.returns-in-2
 returns-in-2 c =
-    let kind : {n : ℕ} → c.word-kind.result ≡ n → get_or c.args.w.now 3 0 ≡ n =
-    λ e. sym c.word-kind.ensures ∙ e in
-    simp (kind c.in-2.is)
+    simp (sym c.word-kind.ensures ∙ c.in-2.is)
     (λ i. Stage.Waveform (c.word-left.ensures i) (c.four_at.ensures i) (c.four_at-in-2.ensures i) (c.four_at-in-2-2.ensures i))
 
 pub returns-in-3 : goal.returns-in-3
 returns-in-3 c =
-    let kind : {n : ℕ} → c.word-kind.result ≡ n → get_or c.args.w.now 3 0 ≡ n =
-    λ e. sym c.word-kind.ensures ∙ e in
-    simp (kind c.in-3.is) (λ i. Stage.Waits (c.word-left.ensures i) (c.refusal_at.ensures i))
+    simp (sym c.word-kind.ensures ∙ c.in-3.is) (λ i. Stage.Waits (c.word-left.ensures i) (c.refusal_at.ensures i))
 
 pub returns-in-4 : goal.returns-in-4
 returns-in-4 c =
-    let kind : {n : ℕ} → c.word-kind.result ≡ n → get_or c.args.w.now 3 0 ≡ n =
-    λ e. sym c.word-kind.ensures ∙ e in
-    simp (kind c.in-4.is) (λ i. Stage.Decided (Checked.Frames (c.four_at-in-4.ensures i)))
+    simp (sym c.word-kind.ensures ∙ c.in-4.is) (λ i. Stage.Decided (Checked.Frames (c.four_at-in-4.ensures i)))
 
 pub returns-in_default : goal.returns-in_default
 returns-in_default c =

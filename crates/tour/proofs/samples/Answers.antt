@@ -16,9 +16,8 @@ returns-in-Refused c =
 
 pub returns-in-Channel : goal.returns-in-Channel
 returns-in-Channel c =
-    let told = let is = ap looked_up_says (sym c.in-Channel.is) ∙ c.view_at.ensures in
-    rw (← is) c.seen.ensures in
-    record {
-      result_value = told.0;
-      out_after = told.1;
-    }
+    let is = ap looked_up_says (sym c.in-Channel.is) ∙ c.view_at.ensures in
+    rw (← is) (record {
+      result_value = c.seen.ensures.result_value;
+      out_after = c.seen.ensures.out_after;
+    })

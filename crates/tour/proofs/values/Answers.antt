@@ -17,10 +17,9 @@ returns-in-Refused c =
 
 pub returns-in-Channel : goal.returns-in-Channel
 returns-in-Channel c =
-    let told = let is = ap looked_up_says (sym c.in-Channel.is) ∙ c.view_at.ensures in
-    rw (← is) c.values_seen.ensures in
-    record {
-      result_value = told.0;
-      kinds_after = told.1.0;
-      wholes_after = told.1.1;
-    }
+    let is = ap looked_up_says (sym c.in-Channel.is) ∙ c.view_at.ensures in
+    rw (← is) (record {
+      result_value = c.values_seen.ensures.result_value;
+      kinds_after = c.values_seen.ensures.kinds_after;
+      wholes_after = c.values_seen.ensures.wholes_after;
+    })
