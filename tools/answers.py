@@ -14,7 +14,7 @@ import re
 import sys
 
 N = r"[^\s(){}.;,@\"«»\[\]\\]+"
-V = r"[^\W\d][^\s(){}.:;,@\"«»\[\]\\]*"
+V = r"(?!in(?![^\s(){}.;,]))[^\W\d][^\s(){}.:;,@\"«»\[\]\\]*"
 alike = lambda s: re.sub(r"[-_]", "", s).lower()
 LEAVES = {"args", "requires", "ranges", "lifetimes", "auto", "well_formed", "type_inv", "utf8"}
 

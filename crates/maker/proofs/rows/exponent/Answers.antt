@@ -24,4 +24,4 @@ returns c =
     number_at c.args.numbers.now c.args.at in
     let in64 : SFits w64 (number) =
     search rules in
-    to_z-of_z (cast-result c) ∙ to_z-of_z (in64)
+    to_z-of_z (overflow_cast-result c) ∙ to_z-of_z (in64)
