@@ -6,9 +6,8 @@ use Rattle.mfer.proofs.mfer_values.Goals as goal
 
 pub returns : goal.returns
 returns c =
-    let told = (c.read_out.ensures ∙ ap count_out c.values.ensures.result_value, c.values.ensures.1) in
     record {
-      count_after = told.0;
-      kinds_after = told.1.0;
-      wholes_after = told.1.1;
+      count_after = c.read_out.ensures ∙ ap count_out c.values.ensures.result_value;
+      kinds_after = c.values.ensures.kinds_after;
+      wholes_after = c.values.ensures.wholes_after;
     }

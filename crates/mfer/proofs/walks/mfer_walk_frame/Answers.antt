@@ -5,8 +5,8 @@ use borrow.Author.Rules.{rules}
 use Rattle.mfer.proofs.walks.mfer_walk_frame.Goals as goal
 
 pub returns : goal.returns
-returns c = let at-sweep = c.sweep in
+returns c =
     record {
-      count_after = c.read_out.ensures ∙ ap count_out at-sweep.ensures.0;
-      out_after = at-sweep.ensures.1;
+      count_after = c.read_out.ensures ∙ ap count_out c.sweep.ensures.result_value;
+      out_after = c.sweep.ensures.out_after;
     }
