@@ -18,7 +18,6 @@ use Rattle.heads.specs.Answer.{Answer, answered, refused_as, refused_by, map_ans
 use Rattle.standing.specs.Standing.{octets_limit}
 use Rattle.verdict.specs.Verdict.{Verdict, refused, verdict, checked_as, check_of}
 use Rattle.reader.specs.Answer.{attributes_of, sample_of, seen_of, placed_of}
-use Rattle.reader.proofs.Order.{asked-refused}
 use Rattle.canonical.specs.Write.{output_in, written_of, canonical_length_of, left_of, Wrote}
 use Rattle.bulk.specs.Samples.{there_at, read_of, values_of, kinds_in, wholes_in, count_read}
 use Rattle.walk.specs.Says.{step_says}
@@ -51,13 +50,13 @@ unfolding check_of checked_as attributes_of seen_of there_at sample_of placed_of
 refused-answers s r e =
     record {
       check = ap checked_as e;
-      attributes = λ i c. asked-refused i c _ e;
-      channel = λ i c. asked-refused i c _ e;
-      there = λ i c. asked-refused i c _ e;
-      sample = λ i c n. asked-refused i c _ e;
-      place = λ i c n. asked-refused i c _ e;
-      samples = λ i c n room. asked-refused i c _ e;
-      values = λ i c n room. asked-refused i c _ e;
+      attributes = λ i c. rw e;
+      channel = λ i c. rw e;
+      there = λ i c. rw e;
+      sample = λ i c n. rw e;
+      place = λ i c n. rw e;
+      samples = λ i c n room. rw e;
+      values = λ i c n room. rw e;
       measured = ap (λ (v : Verdict). map_answer length (output_in octets_limit v)) e;
       written = λ d. ap (λ (v : Verdict). map_answer length (output_in (length d) v)) e;
     }

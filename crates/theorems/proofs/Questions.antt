@@ -254,7 +254,7 @@ place_told none = 0
 pub same_place_lem : (s : List ℕ) (i c n : ℕ) → map_answer place_told (placed_of s i c n) ≡ map_answer (λ x. x.place) (sample_of s i c n)
 unfolding placed_of sample_of sample_in
 same_place_lem s i c n =
-    sample-both (λ x y. map_answer place_told x ≡ map_answer (λ (z : FoundSample). z.place) y) (λ number place. refl) i c _ _ n (verdict s)
+    sample-both (λ x y. map_answer place_told x ≡ map_answer (λ (z : FoundSample). z.place) y) (λ number place. refl) i c (place_read c n) (sample_in c n) n (verdict s)
     (λ fs e h k l.
     let f = frame_number fs i in
     let x = channel_in c f.channels in

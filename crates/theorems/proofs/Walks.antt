@@ -34,6 +34,7 @@ use Rattle.numbers.specs.Numbers.{flag_number, frame_numbers_of}
 use Rattle.outputs.specs.Outputs.{Outputs, outputs, handed_out}
 use Rattle.outputs.specs.Walks.{FrameOut, frame_out, no_frame_values, frame_values}
 use Rattle.mfer.specs.Walks.{WalkNext}
+use Rattle.theorems.proofs.Questions.{bits_read, values_read}
 use Rattle.sweep.specs.Sweep.{holds_frame}
 use Rattle.theorems.specs.Walks.{Walks, opened, stepped, frame_shown, Tells}
 use Rattle.theorems.proofs.Sweeps.{same-frames, held-there, swept_whole}
@@ -63,8 +64,8 @@ tells s i w there same =
       channel = same;
       attributes = λ c. ap (map_answer attributes_seen) (same c) ∙ described_is s i c;
       there = λ c. ap (map_answer there_seen) (same c) ∙ there-is s i c;
-      samples = λ c first room. seen_asked s i c first (λ v. read_seen s v first room) _ (λ v l. read_located l first room) (view_in w c) (same c);
-      values = λ c first room. seen_asked s i c first (λ v. values_seen s v first room) _ (λ v l. values_located l first room) (view_in w c) (same c);
+      samples = λ c first room. seen_asked s i c first (λ v. read_seen s v first room) (bits_read c first room) (λ v l. read_located l first room) (view_in w c) (same c);
+      values = λ c first room. seen_asked s i c first (λ v. values_seen s v first room) (values_read c first room) (λ v l. values_located l first room) (view_in w c) (same c);
       whole = swept_whole s i w there same;
     }
 
