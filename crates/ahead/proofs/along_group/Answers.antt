@@ -1,9 +1,7 @@
 -- The stretch is the one at the front of the octets; the record of its channel is stored where it has a definition.
 use native.Mathlib.Omega.{arith}
-use Rattle.ahead.proofs.Asks.{stretch-inside}
 use Rattle.ahead.proofs.Laws.{goes_none}
 use Rattle.ahead.proofs.Stretches.{group_inside, group_put, group_kept}
-use borrow.Author.Rules.{rules}
 use Rattle.ahead.proofs.along_group.Goals as goal
 
 pub along_ignored-requires : goal.along_ignored-requires

@@ -1,9 +1,6 @@
 -- The items of the stretch at the front of the octets do nothing; what it counts, its octets count.
-use native.Mathlib.Omega.{arith}
-use Rattle.ahead.proofs.Asks.{stretch-inside}
 use Rattle.ahead.proofs.Laws.{goes_none}
 use Rattle.ahead.proofs.Stretches.{ignored_goes}
-use borrow.Author.Rules.{rules}
 use Rattle.ahead.proofs.along_ignored.Goals as goal
 
 pub returns-then-k-eq0 : goal.returns-then-k-eq0

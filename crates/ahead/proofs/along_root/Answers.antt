@@ -1,9 +1,6 @@
 -- The stretch is the one at the front of the octets; what it counts, its octets count.
-use native.Mathlib.Omega.{arith}
-use Rattle.ahead.proofs.Asks.{stretch-inside}
 use Rattle.ahead.proofs.Laws.{goes_none}
 use Rattle.ahead.proofs.Stretches.{root_goes}
-use borrow.Author.Rules.{rules}
 use Rattle.ahead.proofs.along_root.Goals as goal
 
 pub returns-then-k-eq0 : goal.returns-then-k-eq0

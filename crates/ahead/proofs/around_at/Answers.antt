@@ -1,6 +1,5 @@
 -- By what is around the place behind the item, and around the item.
 use mathlib.Core.Path.{sym, ◌∙◌}
-use borrow.Author.Rules.{rules}
 use Rattle.ahead.proofs.around_at.Goals as goal
 
 pub returns-in-Root : goal.returns-in-Root

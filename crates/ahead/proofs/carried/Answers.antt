@@ -1,6 +1,5 @@
 -- An effect that leads on is carried out; where it does not, nothing is taken.
 use Rattle.ahead.proofs.Laws.{goes_none, item-goes}
-use borrow.Author.Rules.{rules}
 use Rattle.ahead.proofs.carried.Goals as goal
 
 pub returns-in-Frame : goal.returns-in-Frame

@@ -1,7 +1,6 @@
 -- By the arm of the match; in an open group also by the test for its end mark.
 use mathlib.Core.Path.{sym, ◌∙◌}
 use Rattle.ahead.specs.Ahead.{item_here}
-use borrow.Author.Rules.{rules}
 use Rattle.ahead.proofs.item_here.Goals as goal
 
 pub returns-then-ends_open : goal.returns-then-ends_open

@@ -1,7 +1,6 @@
 -- The item goes by its head.
 use native.Mathlib.Omega.{arith}
-use Rattle.ahead.proofs.Laws.{goes_none, head-is, definite_inside, open_inside, definite_here, open_here}
-use borrow.Author.Rules.{rules}
+use Rattle.ahead.proofs.Laws.{goes_none, head-is, definite_inside, definite_here, open_here}
 use Rattle.ahead.proofs.item_in.Goals as goal
 
 pub valued-requires : goal.valued-requires

@@ -2,10 +2,7 @@
 use mathlib.Core.Path.{refl, ◌∙◌}
 use Prim.Native.Nat.{◌-◌}
 use native.Mathlib.Omega.{arith}
-use lib.ListN.{length}
-use borrow.Author.Rules.{rules}
 use Rattle.heads.proofs.Heads.{rest-is}
-use Rattle.ahead.specs.Ahead.{GoesAhead}
 use Rattle.ahead.proofs.Laws.{goes_none, goes-both, goes_near}
 use Rattle.ahead.proofs.items.Goals as goal
 

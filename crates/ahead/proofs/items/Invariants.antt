@@ -1,12 +1,7 @@
 -- The octets taken so far lead where the walk stands; each turn goes on behind them.
-use mathlib.Core.Path.{refl, ◌∙◌}
 use Prim.Native.Nat.{◌-◌}
-use native.Mathlib.Omega.{arith}
 use lib.ListN.{length}
-use borrow.Author.Rules.{rules}
-use Rattle.heads.proofs.Heads.{rest-is}
 use Rattle.ahead.specs.Ahead.{GoesAhead}
-use Rattle.ahead.proofs.Laws.{goes_none, goes-both, goes_near}
 use Rattle.ahead.proofs.items.Given as goal
 
 abbrev pub invariant-loop-taken : goal.invariant-loop-taken

@@ -1,7 +1,6 @@
 -- In a definite group the octets end with the group.
 use mathlib.Core.Path.{◌∙◌}
 use Rattle.ahead.specs.Ahead.{reach_of}
-use borrow.Author.Rules.{rules}
 use Rattle.ahead.proofs.reach.Goals as goal
 
 pub returns-in-Root : goal.returns-in-Root

@@ -1,6 +1,5 @@
 -- The octets at hand end with the definite group around.
 use Rattle.ahead.proofs.Laws.{reach_of_lem, reach_in}
-use borrow.Author.Rules.{rules}
 use Rattle.ahead.proofs.single.Goals as goal
 
 pub item_in-requires : goal.item_in-requires

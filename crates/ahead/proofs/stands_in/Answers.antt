@@ -2,7 +2,6 @@
 use mathlib.Core.Path.{sym, ap}
 use borrow.Author.Tests.{lt-ltb, le-ltb}
 use Rattle.items.specs.Walk.{stands_in}
-use borrow.Author.Rules.{rules}
 use Rattle.ahead.proofs.stands_in.Goals as goal
 
 pub returns-then-c-end : goal.returns-then-c-end

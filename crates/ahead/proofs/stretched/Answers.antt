@@ -1,7 +1,6 @@
 -- What is around the place decides which stretch there may be.
 use mathlib.Core.Path.{refl, sym, ◌∙◌}
 use Rattle.ahead.proofs.Laws.{goes_none, reach_in, reach_of_lem}
-use borrow.Author.Rules.{rules}
 use Rattle.ahead.proofs.stretched.Goals as goal
 
 pub returns-then-u-eq0 : goal.returns-then-u-eq0

@@ -3,7 +3,6 @@ use mathlib.Core.Path.{◌∙◌}
 use native.Mathlib.Omega.{arith}
 use Rattle.heads.proofs.Heads.{rest-is}
 use Rattle.ahead.proofs.Laws.{goes-both, goes_near}
-use borrow.Author.Rules.{rules}
 use Rattle.ahead.proofs.turn.Goals as goal
 
 pub stretched-first-requires : goal.stretched-first-requires

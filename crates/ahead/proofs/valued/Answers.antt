@@ -1,7 +1,6 @@
 -- The item is the one at the front of the octets, with its value all there.
 use native.Mathlib.Omega.{arith}
 use Rattle.ahead.proofs.Laws.{goes_none, primitive_inside, valued-item}
-use borrow.Author.Rules.{rules}
 use Rattle.ahead.proofs.valued.Goals as goal
 
 pub returns-then-tag-eq30 : goal.returns-then-tag-eq30

@@ -1,7 +1,6 @@
 -- By the arm of the match; in an open group also by the test for its end mark.
 use mathlib.Core.Path.{sym, ◌∙◌}
 use Rattle.link.specs.Link.{within_after}
-use borrow.Author.Rules.{rules}
 use Rattle.ahead.proofs.within_after.Goals as goal
 
 pub returns-then-ends_open : goal.returns-then-ends_open

@@ -1,6 +1,6 @@
 -- By what is left.
 use Rattle.arriving.proofs.Laws.{none_left, some_left}
-use Rattle.std.proofs.Common.{◌≡◌, ◌∙◌, arith, rules}
+use Rattle.std.proofs.Common.{◌≡◌, ◌∙◌, arith}
 use Rattle.held.specs.declared.Stage.{Stage}
 use Rattle.arriving.specs.Arriving.{core, link_with, in_stage}
 use Rattle.arriving.proofs.at_sample.Goals as goal

@@ -1,6 +1,5 @@
 -- A refusal that waits for as long as the item lasts.
 use Rattle.arriving.proofs.Laws.{condemned_by}
-use Rattle.std.proofs.Common.{rules}
 use Rattle.arriving.proofs.condemned.Goals as goal
 
 pub returns : goal.returns

@@ -1,6 +1,6 @@
 -- By what the head says.
 use Rattle.arriving.proofs.Laws.{confined-none, confined-more, confined_faulty, confined-past, confined-fits, confined_definite, confined_open}
-use Rattle.std.proofs.Common.{arith, rules}
+use Rattle.std.proofs.Common.{arith}
 use Rattle.arriving.proofs.confined.Goals as goal
 
 pub returns-then-left-eq0 : goal.returns-then-left-eq0

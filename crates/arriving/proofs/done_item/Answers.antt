@@ -1,6 +1,5 @@
 -- The item with its effect.
 use Rattle.arriving.proofs.Laws.{done_turns}
-use Rattle.std.proofs.Common.{rules}
 use Rattle.arriving.proofs.done_item.Goals as goal
 
 pub returns : goal.returns

@@ -1,6 +1,5 @@
 -- The item is carried out where the link is marked.
 use Rattle.arriving.proofs.Laws.{never_ends, effected_turns}
-use Rattle.std.proofs.Common.{rules}
 use Rattle.arriving.proofs.effected.Goals as goal
 
 pub turned-requires : goal.turned-requires

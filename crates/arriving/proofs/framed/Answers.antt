@@ -1,6 +1,6 @@
 -- By whether it ends past the limit.
 use Rattle.arriving.proofs.Laws.{framed_long, framed_told}
-use Rattle.std.proofs.Common.{sym, ◌∙◌, rules}
+use Rattle.std.proofs.Common.{sym, ◌∙◌}
 use Rattle.arriving.proofs.framed.Goals as goal
 
 pub returns-then-passes : goal.returns-then-passes

@@ -1,5 +1,5 @@
 -- The count alone is computed.
-use Rattle.std.proofs.Common.{ℕ, ap, rules}
+use Rattle.std.proofs.Common.{ℕ, ap}
 use Rattle.arriving.specs.Arriving.{core, link_with}
 use Rattle.arriving.proofs.further.Goals as goal
 

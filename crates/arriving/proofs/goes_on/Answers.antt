@@ -1,6 +1,5 @@
 -- Where the walk stands is another, and what is around it.
 use Rattle.arriving.proofs.Laws.{goes_on}
-use Rattle.std.proofs.Common.{rules}
 use Rattle.arriving.proofs.goes_on.Goals as goal
 
 pub returns : goal.returns

@@ -1,6 +1,5 @@
 -- The group with its effect.
 use Rattle.arriving.proofs.Laws.{group_turns}
-use Rattle.std.proofs.Common.{rules}
 use Rattle.arriving.proofs.group_begins.Goals as goal
 
 pub returns : goal.returns

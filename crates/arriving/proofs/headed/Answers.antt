@@ -1,6 +1,6 @@
 -- By what the head says.
 use Rattle.arriving.proofs.Laws.{headed-more, headed_faulty, headed_primitive, headed_definite, headed_open}
-use Rattle.std.proofs.Common.{subst, arith, rules}
+use Rattle.std.proofs.Common.{subst, arith}
 use Rattle.arriving.specs.Arriving.{Bounded}
 use Rattle.arriving.proofs.headed.Goals as goal
 

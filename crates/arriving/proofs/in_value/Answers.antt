@@ -1,6 +1,6 @@
 -- The octet behind those that are kept.
 use Rattle.arriving.proofs.Laws.{value_takes}
-use Rattle.std.proofs.Common.{◌<◌, length, arith, rules}
+use Rattle.std.proofs.Common.{◌<◌, length, rules}
 use Rattle.link.specs.Link.{kept_limit}
 use Rattle.arriving.proofs.in_value.Goals as goal
 

@@ -1,5 +1,5 @@
 -- By the stage.
-use Rattle.std.proofs.Common.{sym, ap, rules}
+use Rattle.std.proofs.Common.{sym, ap}
 use Rattle.held.specs.declared.Stage.{Stage}
 use Rattle.held.specs.Words.{phase_of}
 use Rattle.link.specs.Link.{is_decided}

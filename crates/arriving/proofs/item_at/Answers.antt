@@ -1,6 +1,6 @@
 -- By what is around.
 use Rattle.arriving.proofs.Laws.{item_mark, item_member}
-use Rattle.std.proofs.Common.{sym, ap, rules}
+use Rattle.std.proofs.Common.{sym, ap}
 use Rattle.items.specs.declared.Within.{Within}
 use Rattle.link.specs.Link.{item_at}
 use Rattle.arriving.proofs.item_at.Goals as goal

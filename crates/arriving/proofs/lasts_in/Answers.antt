@@ -1,6 +1,6 @@
 -- By what is around.
 use Rattle.arriving.proofs.Laws.{lasts_definite}
-use Rattle.std.proofs.Common.{◌∙◌, rules}
+use Rattle.std.proofs.Common.{◌∙◌}
 use Rattle.arriving.proofs.lasts_in.Goals as goal
 
 pub returns-in-Definite : goal.returns-in-Definite

@@ -1,6 +1,5 @@
 -- Where an end is 3 alone is another.
 use Rattle.arriving.proofs.Laws.{marked_by_lem}
-use Rattle.std.proofs.Common.{rules}
 use Rattle.arriving.proofs.marked.Goals as goal
 
 pub returns : goal.returns

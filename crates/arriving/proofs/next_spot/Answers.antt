@@ -1,6 +1,6 @@
 -- By the two tests.
 use Rattle.arriving.proofs.Laws.{next-index, next-channel, next-sequence}
-use Rattle.std.proofs.Common.{arith, rules}
+use Rattle.std.proofs.Common.{arith}
 use Rattle.arriving.proofs.next_spot.Goals as goal
 
 pub returns-then-at-block : goal.returns-then-at-block

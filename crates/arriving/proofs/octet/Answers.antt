@@ -1,6 +1,6 @@
 -- After an answer, past the limit, or by its phase.
 use Rattle.arriving.proofs.Laws.{steps-decided, steps-past, steps-taken}
-use Rattle.std.proofs.Common.{◌≤◌, sym, subst, arith, rules}
+use Rattle.std.proofs.Common.{◌≤◌, sym, subst, arith}
 use Rattle.standing.specs.Standing.{octets_limit}
 use Rattle.arriving.specs.declared.Link.{Link}
 use Rattle.arriving.proofs.octet.Goals as goal

@@ -1,6 +1,6 @@
 -- By the tag.
 use Rattle.arriving.proofs.Laws.{begins_frame, begins_value}
-use Rattle.std.proofs.Common.{arith, rules}
+use Rattle.std.proofs.Common.{arith}
 use Rattle.arriving.proofs.primitive_begins.Goals as goal
 
 pub returns-then-tag-eq30 : goal.returns-then-tag-eq30

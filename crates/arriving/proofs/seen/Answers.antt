@@ -1,6 +1,5 @@
 -- The head alone, where it has come to; its octets are octets.
 use Rattle.arriving.proofs.Laws.{seen_by}
-use Rattle.std.proofs.Common.{rules}
 use Rattle.arriving.proofs.seen.Goals as goal
 
 pub returns : goal.returns

@@ -1,6 +1,5 @@
 -- By what is around.
 use Rattle.arriving.proofs.Laws.{seen_root, seen_definite, seen_open}
-use Rattle.std.proofs.Common.{rules}
 use Rattle.arriving.proofs.seen_in.Goals as goal
 
 pub returns-in-Root : goal.returns-in-Root

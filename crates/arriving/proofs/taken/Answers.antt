@@ -1,6 +1,5 @@
 -- By the stage.
 use Rattle.arriving.proofs.Laws.{takes_in, waits_takes, decided_takes}
-use Rattle.std.proofs.Common.{rules}
 use Rattle.arriving.proofs.taken.Goals as goal
 
 pub returns-in-Head : goal.returns-in-Head

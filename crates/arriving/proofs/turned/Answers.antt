@@ -1,6 +1,5 @@
 -- By what became of the item.
 use Rattle.arriving.proofs.Laws.{turned_on, turned-frame, turned-ended, turned-refused}
-use Rattle.std.proofs.Common.{rules}
 use Rattle.arriving.proofs.turned.Goals as goal
 
 pub returns-in-On : goal.returns-in-On

@@ -1,5 +1,5 @@
 -- Its frame alone is another.
-use Rattle.std.proofs.Common.{ap, rules}
+use Rattle.std.proofs.Common.{ap}
 use Rattle.arriving.specs.Arriving.{link_with}
 use Rattle.arriving.proofs.untold.Goals as goal
 

@@ -1,6 +1,6 @@
 -- By what is left.
 use Rattle.arriving.proofs.Laws.{valued_done, valued-on}
-use Rattle.std.proofs.Common.{arith, rules}
+use Rattle.std.proofs.Common.{arith}
 use Rattle.arriving.proofs.valued.Goals as goal
 
 pub returns-then-left-eq0 : goal.returns-then-left-eq0

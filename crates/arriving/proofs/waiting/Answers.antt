@@ -1,6 +1,6 @@
 -- By what is left.
 use Rattle.arriving.proofs.Laws.{waiting_now, waiting-on}
-use Rattle.std.proofs.Common.{arith, rules}
+use Rattle.std.proofs.Common.{arith}
 use Rattle.arriving.proofs.waiting.Goals as goal
 
 pub returns-then-left-eq0 : goal.returns-then-left-eq0

@@ -1,6 +1,6 @@
 -- By what is around.
 use Rattle.arriving.proofs.Laws.{after_mark, after_member}
-use Rattle.std.proofs.Common.{sym, ap, rules}
+use Rattle.std.proofs.Common.{sym, ap}
 use Rattle.items.specs.declared.Within.{Within}
 use Rattle.link.specs.Link.{within_after}
 use Rattle.arriving.proofs.within_after.Goals as goal

@@ -5,7 +5,6 @@ use native.Mathlib.Omega.{arith}
 use Rattle.heads.specs.Answer.{answered}
 use Rattle.view.specs.View.{count_seen, lies_in}
 use Rattle.bulk.proofs.Reading.{none-asked, laid-asked, unlaid_asked}
-use borrow.Author.Rules.{rules}
 use Rattle.bulk.proofs.readable.Goals as goal
 
 pub returns-then-count-first : goal.returns-then-count-first

@@ -12,7 +12,6 @@ use Rattle.reader.proofs.Answers.{located, unseen}
 use Rattle.bulk.specs.Samples.{read_of, count_read}
 use Rattle.strides.proofs.Channels.{kept}
 use Rattle.bulk.proofs.Reading.{read_located}
-use borrow.Author.Rules.{rules}
 use Rattle.bulk.proofs.samples.Goals as goal
 
 pub returns-in-Refused : goal.returns-in-Refused

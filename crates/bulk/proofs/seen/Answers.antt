@@ -4,7 +4,6 @@ use lib.ListN.{length}
 use Rattle.heads.specs.Answer.{map_answer}
 use Rattle.strides.proofs.Channels.{kept}
 use Rattle.bulk.proofs.Reading.{read_refused, read_count, read_left}
-use borrow.Author.Rules.{rules}
 use Rattle.bulk.proofs.seen.Goals as goal
 
 pub returns-in-Refused : goal.returns-in-Refused

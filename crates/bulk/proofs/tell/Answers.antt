@@ -6,8 +6,7 @@ use mir.Syntax.{w64}
 use mir.Val.{SFits}
 use mir.Facts.{to_z-of_z}
 use Rattle.values.specs.declared.Telling.{Telling}
-use Rattle.values.specs.Told.{told_of}
-use Rattle.bulk.proofs.Telling.{Mapping, mapping_begins, mapping_turns, mapping_ends}
+use Rattle.bulk.proofs.Telling.{mapping_begins, mapping_turns, mapping_ends}
 use borrow.Author.Rules.{rules}
 use Rattle.bulk.proofs.tell.Goals as goal
 

@@ -1,14 +1,7 @@
 -- The loop's invariant, for each buffer: what is told of the bits that are left gives the buffer that is wanted.
-use mathlib.Core.Path.{ap, ◌∙◌}
 use Prim.Native.Nat.{◌-◌}
-use native.Mathlib.Omega.{arith}
-use mir.Syntax.{w64}
-use mir.Val.{SFits}
-use mir.Facts.{to_z-of_z}
-use Rattle.values.specs.declared.Telling.{Telling}
 use Rattle.values.specs.Told.{told_of}
-use Rattle.bulk.proofs.Telling.{Mapping, mapping_begins, mapping_turns, mapping_ends}
-use borrow.Author.Rules.{rules}
+use Rattle.bulk.proofs.Telling.{Mapping}
 use Rattle.bulk.proofs.tell.Given as goal
 
 abbrev pub invariant-loop-i : goal.invariant-loop-i

@@ -4,7 +4,6 @@ use Rattle.heads.specs.Answer.{answered, map_answer}
 use Rattle.view.specs.View.{there_seen}
 use Rattle.reader.specs.Answer.{looked_up_says}
 use Rattle.bulk.proofs.Reading.{there-is}
-use borrow.Author.Rules.{rules}
 use Rattle.bulk.proofs.there.Goals as goal
 
 pub returns-in-Refused : goal.returns-in-Refused

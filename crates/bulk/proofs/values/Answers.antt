@@ -13,7 +13,6 @@ use Rattle.reader.proofs.Answers.{located, unseen}
 use Rattle.bulk.specs.Samples.{values_by, values_of, kinds_in, wholes_in}
 use Rattle.strides.proofs.Channels.{kept}
 use Rattle.bulk.proofs.Reading.{values_located}
-use borrow.Author.Rules.{rules}
 use Rattle.bulk.proofs.values.Goals as goal
 
 pub returns-in-Refused : goal.returns-in-Refused

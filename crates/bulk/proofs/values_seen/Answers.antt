@@ -12,7 +12,6 @@ use Rattle.strides.proofs.Channels.{kept, filled}
 use Rattle.bulk.specs.Samples.{bits_seen, values_by, values_seen, kinds_in, wholes_in}
 use Rattle.bulk.proofs.Reading.{read_refused, read_asked, read_bits}
 use Rattle.bulk.proofs.Telling.{there-small, kinds_told, wholes_told}
-use borrow.Author.Rules.{rules}
 use Rattle.bulk.proofs.values_seen.Goals as goal
 
 pub tell_samples-requires : goal.tell_samples-requires

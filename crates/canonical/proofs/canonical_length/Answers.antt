@@ -1,5 +1,4 @@
 -- By what the pass over the file says, and by whether the canonical file is longer than a file may be.
-use borrow.Author.Rules.{rules}
 use mathlib.Core.Path.{◌∙◌}
 use native.Mathlib.Omega.{arith}
 use Rattle.canonical.proofs.Lengths.{sized-refused, sized-none, sized-long, sized-whole}

@@ -1,5 +1,4 @@
 -- Two stores, one behind the other.
-use borrow.Author.Rules.{rules}
 use Rattle.canonical.proofs.Writing.{head_put}
 use Rattle.canonical.proofs.put_order.Goals as goal
 

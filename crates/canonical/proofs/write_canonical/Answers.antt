@@ -1,5 +1,4 @@
 -- By the canonical file's length, and by whether the buffer has as many octets.
-use borrow.Author.Rules.{rules}
 use Rattle.canonical.proofs.Lengths.{written_refused, written_none, written_short, ready, written_whole}
 use Rattle.canonical.proofs.write_canonical.Goals as goal
 

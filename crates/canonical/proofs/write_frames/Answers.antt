@@ -1,7 +1,6 @@
 -- Frame after frame of the walk: what is written so far is the canonical file of the frames met so far.
-use borrow.Author.Rules.{rules}
 use mathlib.Core.Path.{◌≡◌, sym, ◌∙◌}
-use mathlib.Core.List.{List, [], map}
+use mathlib.Core.List.{[], List, map}
 use Prim.Native.Nat.{ℕ, ◌≤◌, ◌-◌}
 use native.Mathlib.Omega.{arith}
 use lib.ListN.{length, length-replicate}
@@ -13,7 +12,7 @@ use Rattle.words.proofs.Laws.{records-full}
 use Rattle.walk.specs.declared.Head.{Head}
 use Rattle.walk.specs.Advance.{first_head, stand_of}
 use Rattle.walk.proofs.Joins.{Reaches, reaches_cleared}
-use Rattle.canonical.proofs.Writing.{Writing, ready_small, writing_first, writing_later, frame-start, writing_frame, written_done}
+use Rattle.canonical.proofs.Writing.{ready_small, writing_first, writing_later, frame-start, writing_frame, written_done}
 use borrow.Enum.Refused.{opened}
 use Rattle.canonical.proofs.write_frames.Goals as goal
 

@@ -1,19 +1,10 @@
 -- Frame after frame of the walk: what is written so far is the canonical file of the frames met so far.
-use borrow.Author.Rules.{rules}
-use mathlib.Core.Path.{◌≡◌, sym, ◌∙◌}
-use mathlib.Core.List.{List, [], map}
-use Prim.Native.Nat.{ℕ, ◌≤◌, ◌-◌}
-use native.Mathlib.Omega.{arith}
-use lib.ListN.{length, length-replicate}
-use Rattle.stores.proofs.Stores.{put_long}
-use Rattle.standing.specs.Standing.{octets_limit}
-use Rattle.words.specs.Words.{table_words, records_in, Holding}
-use Rattle.records.specs.Records.{outdated}
-use Rattle.words.proofs.Laws.{records-full}
-use Rattle.walk.specs.declared.Head.{Head}
-use Rattle.walk.specs.Advance.{first_head, stand_of}
-use Rattle.walk.proofs.Joins.{Reaches, reaches_cleared}
-use Rattle.canonical.proofs.Writing.{Writing, ready_small, writing_first, writing_later, frame-start, writing_frame, written_done}
+use mathlib.Core.Path.{◌≡◌}
+use Prim.Native.Nat.{◌-◌}
+use lib.ListN.{length}
+use Rattle.words.specs.Words.{table_words}
+use Rattle.walk.specs.Advance.{stand_of}
+use Rattle.canonical.proofs.Writing.{Writing}
 use Rattle.canonical.proofs.write_frames.Given as goal
 
 abbrev pub invariant-loop-v : goal.invariant-loop-v

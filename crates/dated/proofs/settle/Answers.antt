@@ -1,5 +1,5 @@
 -- By the two tests: the root settings, the record itself, or each attribute by itself.
-use Rattle.std.proofs.Common.{rules, eq-eqb, ne_eqb, le-leb}
+use Rattle.std.proofs.Common.{eq-eqb, ne_eqb, le-leb}
 use borrow.Author.Tests.{lt-leb}
 use Rattle.dated.specs.Dated.{settled_at}
 use Rattle.dated.proofs.settle.Goals as goal

@@ -1,5 +1,4 @@
 -- Each attribute by itself.
-use Rattle.std.proofs.Common.{rules}
 use Rattle.dated.proofs.settled_from.Goals as goal
 
 pub returns : goal.returns

@@ -1,5 +1,5 @@
 -- By the arm of the match: the times as a function of the change.
-use Rattle.std.proofs.Common.{sym, ap, rules}
+use Rattle.std.proofs.Common.{sym, ap}
 use Rattle.settings.specs.declared.Change.{Change}
 use Rattle.dated.specs.Dated.{timed}
 use Rattle.dated.proofs.timed.Goals as goal

@@ -5,7 +5,6 @@ use native.Mathlib.Omega.{arith}
 use lib.Dec.{lit≤}
 use lib.ListN.{length}
 use Rattle.octets.proofs.Laws.{part_read}
-use borrow.Author.Rules.{rules}
 use Rattle.definitions.proofs.bits_of.Goals as goal
 
 pub overflow_cast-result : goal.overflow_cast-result

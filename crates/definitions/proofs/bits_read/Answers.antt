@@ -1,9 +1,7 @@
 -- Each way out is a law of what a definition gives.
 use mathlib.Core.Path.{ap, sym, refl, ◌∙◌}
-use borrow.Author.Tests.{not-true, not-false}
 use Rattle.definitions.specs.declared.BitsRead.{BitsRead}
 use Rattle.definitions.proofs.Laws.{read_length, read_back, read_value}
-use borrow.Author.Rules.{rules}
 use Rattle.definitions.proofs.bits_read.Goals as goal
 
 pub returns-then-not-bits_length : goal.returns-then-not-bits_length

@@ -1,10 +1,8 @@
 -- Each way out is a law of what a definition gives.
 use mathlib.Core.Path.{ap, sym, ◌∙◌}
-use borrow.Author.Tests.{not-true, not-false}
 use Rattle.definitions.specs.declared.BlockRead.{BlockRead}
 use Rattle.definitions.specs.Define.{block_fits}
 use Rattle.definitions.proofs.Laws.{read_length, read_back, read_value, read_unfit}
-use borrow.Author.Rules.{rules}
 use Rattle.definitions.proofs.block_read.Goals as goal
 
 pub returns-then-not-length_fits : goal.returns-then-not-length_fits

@@ -3,7 +3,6 @@ use mathlib.Core.Path.{ap, sym, ◌∙◌}
 use Rattle.definitions.specs.declared.Attribute.{Attribute}
 use Rattle.settings.specs.declared.Change.{Change}
 use Rattle.definitions.specs.Define.{change_of}
-use borrow.Author.Rules.{rules}
 use Rattle.definitions.proofs.change_of.Goals as goal
 
 pub returns-in-Block : goal.returns-in-Block

@@ -1,9 +1,7 @@
 -- Each way out is a law of what a definition gives.
 use mathlib.Core.Path.{ap, sym, refl, ◌∙◌}
-use borrow.Author.Tests.{not-true, not-false}
 use Rattle.definitions.specs.declared.CodeRead.{CodeRead}
 use Rattle.definitions.proofs.Laws.{read_length, read_back, read_value}
-use borrow.Author.Rules.{rules}
 use Rattle.definitions.proofs.code_read.Goals as goal
 
 pub returns-then-not-length_fits : goal.returns-then-not-length_fits

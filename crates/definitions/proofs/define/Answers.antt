@@ -1,10 +1,8 @@
 -- Each way out is a law of a definition.
-use borrow.Author.Tests.{not-true, not-false}
 use Rattle.definitions.specs.Define.{in_range}
 use mathlib.Core.Path.{ap, sym, ◌∙◌}
 use Rattle.definitions.proofs.Laws.{define_length, define_back, define_changed, define_value}
 use Rattle.definitions.specs.declared.Defined.TheVariants.{Changed}
-use borrow.Author.Rules.{rules}
 use Rattle.definitions.proofs.define.Goals as goal
 
 pub returns-then-not-length_fits : goal.returns-then-not-length_fits

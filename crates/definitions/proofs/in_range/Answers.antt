@@ -1,7 +1,6 @@
 -- By the arm of the match.
 use mathlib.Core.Path.{ap, sym, ◌∙◌}
 use Rattle.definitions.specs.Define.{in_range}
-use borrow.Author.Rules.{rules}
 use Rattle.definitions.proofs.in_range.Goals as goal
 
 pub returns-in-Block : goal.returns-in-Block

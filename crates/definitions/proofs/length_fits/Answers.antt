@@ -2,7 +2,6 @@
 use mathlib.Core.Path.{ap, sym, ◌∙◌}
 use Rattle.definitions.specs.declared.Attribute.{Attribute}
 use Rattle.definitions.specs.Define.{length_fits}
-use borrow.Author.Rules.{rules}
 use Rattle.definitions.proofs.length_fits.Goals as goal
 
 pub returns-in-Block : goal.returns-in-Block

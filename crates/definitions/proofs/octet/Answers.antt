@@ -1,7 +1,6 @@
 -- Past the end a list reads as 0.
 use mathlib.Core.Path.{sym}
 use lib.ListN.{get_or-eq_default}
-use borrow.Author.Rules.{rules}
 use Rattle.definitions.proofs.octet.Goals as goal
 
 pub returns-else-at-v : goal.returns-else-at-v

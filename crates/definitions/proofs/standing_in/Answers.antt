@@ -2,7 +2,6 @@
 use mathlib.Core.Path.{ap, sym}
 use Rattle.definitions.specs.declared.Attribute.{Attribute}
 use Rattle.definitions.specs.Define.{standing_in}
-use borrow.Author.Rules.{rules}
 use Rattle.definitions.proofs.standing_in.Goals as goal
 
 pub returns-in-Block : goal.returns-in-Block

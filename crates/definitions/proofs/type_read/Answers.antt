@@ -1,12 +1,11 @@
 -- Each way out is a law of what a definition gives.
 use mathlib.Core.Path.{ap, sym, ◌∙◌}
-use borrow.Author.Tests.{not-true, not-false, le-leb, lt-leb}
+use borrow.Author.Tests.{le-leb, lt-leb}
 use Rattle.definitions.specs.declared.TypeRead.{TypeRead}
 use Prim.Native.Nat.{ℕ}
 use lib.Dec.{leb}
 use Rattle.settings.specs.Settings.{last_data_type}
 use Rattle.definitions.proofs.Laws.{read_length, read_back, read_value, read_unfit}
-use borrow.Author.Rules.{rules}
 use Rattle.definitions.proofs.type_read.Goals as goal
 
 pub returns-then-not-length_fits : goal.returns-then-not-length_fits

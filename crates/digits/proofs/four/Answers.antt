@@ -1,7 +1,6 @@
 -- The part is short enough to be read whole, and so its number fits.
 use lib.Dec.{lit≤}
 use Rattle.octets.proofs.Laws.{part_read, part_fits}
-use borrow.Author.Rules.{rules}
 use Rattle.digits.proofs.four.Goals as goal
 
 pub overflow_cast-result : goal.overflow_cast-result

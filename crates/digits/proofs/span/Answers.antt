@@ -3,7 +3,6 @@ use Prim.Native.Nat.{◌≤◌, ◌*◌, ◌^◌}
 use native.Mathlib.Omega.{arith}
 use lib.Pow.{pow_mono}
 use Rattle.octets.proofs.Laws.{range-bits}
-use borrow.Author.Rules.{rules}
 use Rattle.digits.proofs.span.Goals as goal
 
 pub returns : goal.returns

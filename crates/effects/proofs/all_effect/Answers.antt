@@ -1,7 +1,6 @@
 -- By the arm of the match.
 use mathlib.Core.Path.{ap, sym}
 use Rattle.effects.specs.Effects.{all_effect}
-use borrow.Author.Rules.{rules}
 use Rattle.effects.proofs.all_effect.Goals as goal
 
 pub returns-in-Changed : goal.returns-in-Changed

@@ -1,7 +1,6 @@
 -- Each way out is what its tests say.
 use borrow.Author.Tests.{lt-ltb, le-ltb, eq-eqb, ne_eqb}
 use Rattle.effects.specs.Effects.{count_effect}
-use borrow.Author.Rules.{rules}
 use Rattle.settings.specs.Settings.{channel_limit}
 use Rattle.effects.proofs.count_effect.Goals as goal
 

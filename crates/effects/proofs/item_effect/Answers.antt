@@ -2,7 +2,6 @@
 use Rattle.effects.specs.Effects.{effect_of}
 use mathlib.Core.Path.{◌∙◌}
 use borrow.Author.Tests.{eq-eqb, ne_eqb}
-use borrow.Author.Rules.{rules}
 use Rattle.effects.proofs.item_effect.Goals as goal
 
 pub returns-then-st-eq0 : goal.returns-then-st-eq0

@@ -1,7 +1,6 @@
 -- By the attribute that the tag defines, if it defines one.
 use mathlib.Core.Path.{ap, sym, ◌∙◌}
 use Rattle.effects.specs.Effects.{member_effect, one_effect}
-use borrow.Author.Rules.{rules}
 use Rattle.effects.proofs.member_effect.Goals as goal
 
 pub returns-in-Defines : goal.returns-in-Defines

@@ -1,7 +1,6 @@
 -- Each way out is what its tests say.
 use borrow.Author.Tests.{lt-ltb, le-ltb, eq-eqb, ne_eqb}
 use Rattle.effects.specs.Effects.{order_effect}
-use borrow.Author.Rules.{rules}
 use Rattle.effects.proofs.order_effect.Goals as goal
 
 pub returns-then-v-gt1 : goal.returns-then-v-gt1

@@ -3,7 +3,6 @@ use mathlib.Core.Path.{ap, sym, ◌∙◌}
 use Rattle.settings.specs.declared.Settings.{Settings}
 use Rattle.definitions.specs.Define.{defined}
 use Rattle.effects.specs.Effects.{plain_effect, all_effect}
-use borrow.Author.Rules.{rules}
 use Rattle.effects.proofs.plain_effect.Goals as goal
 
 pub returns-in-Defines : goal.returns-in-Defines

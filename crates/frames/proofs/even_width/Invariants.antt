@@ -1,18 +1,11 @@
 -- One width so far, and after the last channel of all.
-use borrow.Author.Rules.{rules}
-use mathlib.Core.Path.{◌≡◌, refl, ap, sym, subst, ◌∙◌}
-use mathlib.Core.List.{List}
+use mathlib.Core.Path.{◌≡◌}
 use Prim.Native.Nat.{ℕ, ◌-◌, ◌≤◌, ◌<◌}
-use native.Mathlib.Omega.{arith}
-use lib.ListN.{take, get_or}
-use Rattle.settings.specs.declared.Settings.{Settings}
+use lib.ListN.{get_or}
 use Rattle.dated.specs.Dated.{zero_dated}
-use Rattle.words.specs.Words.{records_in, held_in}
+use Rattle.words.specs.Words.{records_in}
 use Rattle.frames.specs.Parts.{Few}
 use Rattle.values.specs.Sample.{width_of}
-use Rattle.laid.specs.Turned.{Even}
-use borrow.Author.Count.{below_none, below_more}
-use Rattle.frames.proofs.Coming.{nth, taken-long}
 use Rattle.frames.proofs.even_width.Given as goal
 
 abbrev pub invariant-loop-i : goal.invariant-loop-i

@@ -4,7 +4,6 @@ use native.Mathlib.Omega.{arith}
 use borrow.Author.Tests.{ltb-true, ltb-false}
 use Rattle.stores.proofs.Length.{length-shortest}
 use Rattle.stores.proofs.Stores.{putting_kept, putting_then}
-use borrow.Author.Rules.{rules}
 use Rattle.frames.proofs.open_waveform.Goals as goal
 
 pub overflow_add-length_octets : goal.overflow_add-length_octets

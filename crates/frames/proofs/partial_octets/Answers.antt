@@ -1,13 +1,9 @@
 -- What is left behind the blocks so far leaves the same.
 use Prim.Native.Nat.{◌-◌}
 use native.Mathlib.Omega.{arith}
-use lib.ListN.{take}
-use Rattle.words.specs.Words.{held_in}
-use Rattle.there.proofs.Partial.{Cutting, cutting_first, cutting_past}
-use Rattle.frames.specs.Parts.{Few}
+use Rattle.there.proofs.Partial.{cutting_first, cutting_past}
 use Rattle.frames.proofs.Coming.{nth, taken-long}
 use Rattle.frames.proofs.Parting.{block_narrow, width_some, cut_next, cut_last}
-use borrow.Author.Rules.{rules}
 use Rattle.frames.proofs.partial_octets.Goals as goal
 
 pub loop-i-init : goal.loop-i-init

@@ -4,8 +4,7 @@ use Prim.Native.Nat.{◌-◌, ◌^◌, ◌<◌}
 use native.Mathlib.Omega.{arith}
 use lib.ListN.{length, take}
 use Rattle.words.specs.Words.{held_in}
-use Rattle.frames.specs.Parts.{Few}
-use Rattle.frames.proofs.Coming.{Nth, nth, taken-long, blocks_sum, Blocks, blocks_first, blocks_next, blocks_place, blocks_done, Sequences, sequences_first, sequences-fit, sequences-room, sequences-next, sequences_done}
+use Rattle.frames.proofs.Coming.{Nth, nth, taken-long, blocks_sum, blocks_first, blocks_next, blocks_place, blocks_done, sequences_first, sequences-fit, sequences-room, sequences-next, sequences_done}
 use Rattle.frames.proofs.put_blocks.Goals as goal
 
 pub loop-q-init : goal.loop-q-init

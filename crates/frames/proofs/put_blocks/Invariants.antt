@@ -1,11 +1,9 @@
 -- The blocks still to come of a sequence, and the sequences still to come, stored from here on, give the wanted buffer.
-use borrow.Author.Rules.{rules}
-use Prim.Native.Nat.{◌-◌, ◌^◌, ◌<◌}
-use native.Mathlib.Omega.{arith}
-use lib.ListN.{length, take}
+use Prim.Native.Nat.{◌-◌}
+use lib.ListN.{take}
 use Rattle.words.specs.Words.{held_in}
 use Rattle.frames.specs.Parts.{Few}
-use Rattle.frames.proofs.Coming.{Nth, nth, taken-long, blocks_sum, Blocks, blocks_first, blocks_next, blocks_place, blocks_done, Sequences, sequences_first, sequences-fit, sequences-room, sequences-next, sequences_done}
+use Rattle.frames.proofs.Coming.{Blocks, Sequences}
 use Rattle.frames.proofs.put_blocks.Given as goal
 
 abbrev pub invariant-loop-i : goal.invariant-loop-i

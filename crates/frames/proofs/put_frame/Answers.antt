@@ -7,7 +7,6 @@ use mir.Facts.{to_z-of_z}
 use borrow.Author.Tests.{ltb-true, ltb-false}
 use Rattle.stores.proofs.Stores.{putting, putting_kept}
 use Rattle.groups.proofs.Puts.{put_as}
-use borrow.Author.Rules.{rules}
 use Rattle.frames.proofs.put_frame.Goals as goal
 
 pub there_octets-octets-requires : goal.there_octets-octets-requires
@@ -50,7 +49,7 @@ store_frame-requires c =
     let a = c.args in
     let h = sym c.overruns.ensures ∙ c.if-overruns.false in
     let all = frame-asked told a.sequences a.w.now c.there_octets-octets.ensures c.if-octets-gt-OCTETS.false a.at (length a.out.now)
-        (omega (arith, ltb-false, c.frame_size-size.ensures.0)) in
+    (omega (arith, ltb-false, c.frame_size-size.ensures.0)) in
     record { few = all.0; octets_value = all.1.0; octets_in_bounds = all.1.1 }
 
 pub returns : goal.returns

@@ -1,11 +1,7 @@
 -- The groups still to come, stored from here on, give the wanted buffer.
-use borrow.Author.Rules.{rules}
 use Prim.Native.Nat.{◌-◌}
 use native.Mathlib.Omega.{arith}
-use lib.ListN.{take}
-use Rattle.words.specs.Words.{held_in}
-use Rattle.frames.specs.Parts.{Few}
-use Rattle.frames.proofs.Coming.{Grouped, grouped_first, grouped_next, grouped_done, nth, taken-long}
+use Rattle.frames.proofs.Coming.{grouped_first, grouped_next, grouped_done, nth, taken-long}
 use Rattle.frames.proofs.put_groups.Goals as goal
 
 pub loop-i-init : goal.loop-i-init

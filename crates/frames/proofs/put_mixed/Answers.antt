@@ -4,7 +4,6 @@ use native.Mathlib.Omega.{arith}
 use lib.ListN.{take}
 use Rattle.words.specs.Words.{held_in}
 use Rattle.frames.proofs.Samples.{mixed_whole, mixed_room, mixed_put, mixed_none}
-use borrow.Author.Rules.{rules}
 use Rattle.frames.proofs.put_mixed.Goals as goal
 
 pub returns-then-sequence-eq0 : goal.returns-then-sequence-eq0

@@ -1,12 +1,10 @@
 -- The samples still to come of the sequence, stored from here on, give the wanted buffer.
 use Prim.Native.Nat.{◌-◌, ◌^◌, ◌<◌}
 use native.Mathlib.Omega.{arith}
-use lib.ListN.{length, take}
-use Rattle.words.specs.Words.{held_in}
+use lib.ListN.{length}
 use Rattle.stores.proofs.Stores.{put_long}
-use Rattle.frames.specs.Parts.{Few}
 use Rattle.frames.proofs.Coming.{nth, taken-long}
-use Rattle.frames.proofs.Parting.{block_narrow, width_some, Parts, parts_first, parts_next, parts_last, parts_done}
+use Rattle.frames.proofs.Parting.{block_narrow, width_some, parts_first, parts_next, parts_last, parts_done}
 use borrow.Author.Rules.{rules}
 use Rattle.frames.proofs.put_part.Goals as goal
 

@@ -1,13 +1,9 @@
 -- The samples still to come of the sequence, stored from here on, give the wanted buffer.
-use Prim.Native.Nat.{◌-◌, ◌^◌, ◌<◌}
-use native.Mathlib.Omega.{arith}
-use lib.ListN.{length, take}
+use Prim.Native.Nat.{◌-◌}
+use lib.ListN.{take}
 use Rattle.words.specs.Words.{held_in}
-use Rattle.stores.proofs.Stores.{put_long}
 use Rattle.frames.specs.Parts.{Few}
-use Rattle.frames.proofs.Coming.{nth, taken-long}
-use Rattle.frames.proofs.Parting.{block_narrow, width_some, Parts, parts_first, parts_next, parts_last, parts_done}
-use borrow.Author.Rules.{rules}
+use Rattle.frames.proofs.Parting.{Parts}
 use Rattle.frames.proofs.put_part.Given as goal
 
 abbrev pub invariant-loop-i : goal.invariant-loop-i

@@ -2,7 +2,6 @@
 use mathlib.Core.Path.{subst, ◌≡◌, ◌∙◌}
 use mathlib.Core.List.{List}
 use native.Mathlib.Omega.{arith}
-use borrow.Author.Tests.{not-true, not-false}
 use lib.ListN.{take}
 use Rattle.words.specs.Words.{held_in}
 use Prim.Native.Nat.{ℕ, ◌<◌}
@@ -11,7 +10,6 @@ use Rattle.laid.specs.Turned.{Even}
 use Rattle.stores.specs.Storing.{put_fits}
 use Rattle.groups.proofs.Puts.{put_as}
 use Rattle.frames.proofs.Samples.{samples_big, samples-little, samples_narrow, samples_even, even_room, taken-room}
-use borrow.Author.Rules.{rules}
 use Rattle.frames.proofs.put_samples.Goals as goal
 
 one_wide : (cs : List Settings) (v : ℕ) → (0 < v → Even v cs) → v ≡ 1 → Even 1 cs

@@ -6,7 +6,6 @@ use mir.Facts.{to_z-of_z}
 use Rattle.frames.proofs.Coming.{taken-long}
 use Rattle.frames.proofs.Given.{asked-samples, asked-long}
 use Rattle.frames.proofs.Stored.{groups-room, samples-room, frame-stored}
-use borrow.Author.Rules.{rules}
 use Rattle.frames.proofs.store_frame.Goals as goal
 
 pub put_groups-b-requires : goal.put_groups-b-requires

@@ -6,7 +6,6 @@ use Prim.Native.Nat.{ℕ, ◌-◌, ◌*◌, ◌≤◌}
 use lib.ListN.{take}
 use Rattle.words.specs.Words.{held_in}
 use Rattle.frames.proofs.Parting.{width_some, octets-whole, octets_cut, partial_few}
-use borrow.Author.Rules.{rules}
 use Rattle.frames.proofs.there_octets.Goals as goal
 
 pub overflow_mul-result : goal.overflow_mul-result

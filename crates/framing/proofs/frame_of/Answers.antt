@@ -8,7 +8,6 @@ use mathlib.Core.Bool.{true, not}
 use mathlib.Core.Path.{◌≡◌, ap, sym, ◌∙◌}
 use native.Mathlib.Omega.{arith}
 use borrow.Author.Rules.{rules}
-use borrow.Author.Tests.{not-true, not-false}
 use Rattle.octets.specs.Number.{range}
 use Rattle.standing.specs.Standing.{with_continued}
 use Rattle.framing.specs.declared.Framed.TheVariants.{Taken}

@@ -1,6 +1,5 @@
 -- As set, or by a division.
 use Rattle.framing.proofs.Framings.{sequences-set, sequences_by}
-use borrow.Author.Rules.{rules}
 use Rattle.framing.proofs.sequences_of.Goals as goal
 
 pub returns-then-set-ne0 : goal.returns-then-set-ne0

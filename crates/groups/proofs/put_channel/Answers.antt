@@ -1,7 +1,6 @@
 -- One octet or two, by the test.
 use borrow.Author.Tests.{lt-ltb, le-ltb}
 use Rattle.groups.specs.Group.{channel_octets}
-use borrow.Author.Rules.{rules}
 use Rattle.groups.proofs.put_channel.Goals as goal
 
 pub returns-then-k-lt128 : goal.returns-then-k-lt128

@@ -2,7 +2,6 @@
 use native.Mathlib.Omega.{arith}
 use lib.ListN.{length-append}
 use Rattle.groups.proofs.Puts.{put_two, put_more}
-use borrow.Author.Rules.{rules}
 use Rattle.groups.proofs.put_first.Goals as goal
 
 pub returns : goal.returns

@@ -11,7 +11,6 @@ use Rattle.layout.specs.Frame.{width_in, reported}
 use Rattle.sizes.specs.Size.{content_size, group_size}
 use Rattle.groups.specs.Group.{group_octets}
 use Rattle.groups.proofs.Sizes.{content_few, group_long}
-use borrow.Author.Rules.{rules}
 use Rattle.groups.proofs.put_group.Goals as goal
 
 sized : (k : ℕ) (c : Settings) {w n : ℕ} → w ≡ width_in c → n ≡ group_size k w c.null → n ≡ length (group_octets k (reported c))

@@ -7,7 +7,6 @@ use Rattle.stores.proofs.Stores.{putting, putting_kept}
 use Rattle.groups.specs.Head.{head_items}
 use Rattle.groups.proofs.Sizes.{head-long}
 use Rattle.groups.proofs.Puts.{put_as}
-use borrow.Author.Rules.{rules}
 use Rattle.groups.proofs.put_head.Goals as goal
 
 pub returns-then-overruns : goal.returns-then-overruns

@@ -3,7 +3,6 @@ use Rattle.groups.proofs.Puts.{put_as, items-is, length-items}
 use mathlib.Core.Path.{sym}
 use native.Mathlib.Omega.{arith}
 use Rattle.stores.proofs.Stores.{put_then, put_long}
-use borrow.Author.Rules.{rules}
 use Rattle.groups.proofs.put_items.Goals as goal
 
 pub put_first-a-requires : goal.put_first-a-requires

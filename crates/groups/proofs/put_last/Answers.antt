@@ -13,7 +13,6 @@ use Rattle.sizes.specs.Size.{null_size}
 use Rattle.sizes.proofs.Laws.{null-le}
 use Rattle.groups.specs.Parts.{last_items}
 use Rattle.groups.proofs.Puts.{put_two, put_as}
-use borrow.Author.Rules.{rules}
 use Rattle.groups.proofs.put_last.Goals as goal
 
 last_is : (c : Settings) {w n : ℕ} {offset : Bits} → w ≡ width_in c → n ≡ null_size w c.null → offset ≡ offset_bits c → field 0x0D w offset.bits ++ field 0x12 n c.null.bits ≡ last_items c

@@ -2,7 +2,6 @@
 use lib.ListN.{length-append}
 use native.Mathlib.Omega.{arith}
 use Rattle.stores.proofs.Stores.{put_then, put_long}
-use borrow.Author.Rules.{rules}
 use Rattle.groups.proofs.put_scales.Goals as goal
 
 pub put_scale-a-requires : goal.put_scale-a-requires

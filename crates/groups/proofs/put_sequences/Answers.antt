@@ -1,6 +1,5 @@
 -- No octets or four, by the test.
 use Rattle.groups.proofs.Puts.{sequences-none, sequences-some}
-use borrow.Author.Rules.{rules}
 use Rattle.groups.proofs.put_sequences.Goals as goal
 
 pub returns-then-sequences-eq0 : goal.returns-then-sequences-eq0

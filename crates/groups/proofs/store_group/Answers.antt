@@ -3,7 +3,6 @@ use native.Mathlib.Omega.{arith}
 use Rattle.stores.proofs.Stores.{put_then, put_long}
 use lib.ListN.{length-append}
 use Rattle.groups.proofs.Puts.{put_as, group_is, ahead-stored}
-use borrow.Author.Rules.{rules}
 use Rattle.groups.proofs.store_group.Goals as goal
 
 pub put_items-requires : goal.put_items-requires

@@ -6,7 +6,6 @@ use Rattle.groups.specs.Parts.{unsigned_by}
 use Rattle.octets.proofs.Machine.{widens, widened}
 use Rattle.groups.proofs.Signed.{unsigned_is}
 use Rattle.groups.proofs.Puts.{head-stored}
-use borrow.Author.Rules.{rules}
 use Rattle.groups.proofs.store_head.Goals as goal
 
 pub overflow_cast-start : goal.overflow_cast-start

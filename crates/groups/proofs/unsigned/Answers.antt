@@ -11,7 +11,6 @@ use lib.Signed.{lt_z, mag}
 use mir.Syntax.{w64}
 use mir.Val.{to_z, of_z}
 use mir.Facts.{to_z-of_z}
-use borrow.Author.Rules.{rules}
 use Rattle.groups.proofs.unsigned.Goals as goal
 
 pub overflow_cast-result : goal.overflow_cast-result

@@ -1,5 +1,5 @@
 -- Each way out is a law of one octet of a channel number. The octets still allowed fall, and the value leaves room for them below 2 ^ 28.
-use Prim.Native.Nat.{ℕ, ◌<◌, ◌%◌, ◌^◌}
+use Prim.Native.Nat.{◌<◌, ◌%◌, ◌^◌}
 use native.Mathlib.Omega.{arith}
 use native.Mathlib.Nat.{mod-lt}
 use mathlib.Core.Path.{◌∙◌}

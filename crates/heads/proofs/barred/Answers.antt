@@ -1,5 +1,4 @@
 -- Outside a group nothing is barred; inside, what `root_only` says.
-use borrow.Author.Rules.{rules}
 use Rattle.heads.proofs.barred.Goals as goal
 
 pub returns-then-inside : goal.returns-then-inside

@@ -3,7 +3,6 @@ use mathlib.Core.Path.{sym, ◌∙◌}
 use native.Mathlib.Omega.{arith}
 use Rattle.heads.specs.Head.{group_form}
 use Rattle.heads.proofs.Heads.{channel_found, rest-is}
-use borrow.Author.Rules.{rules}
 use Rattle.heads.proofs.group_form.Goals as goal
 
 pub slice_bounds-group_length-count : goal.slice_bounds-group_length-count

@@ -3,7 +3,6 @@ use mathlib.Core.Path.{sym, ◌∙◌}
 use native.Mathlib.Omega.{arith}
 use Rattle.heads.specs.Head.{group_length}
 use Rattle.heads.proofs.Heads.{length_found}
-use borrow.Author.Rules.{rules}
 use Rattle.heads.proofs.group_length.Goals as goal
 
 pub overflow_add-result : goal.overflow_add-result

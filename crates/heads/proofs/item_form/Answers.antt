@@ -1,7 +1,6 @@
 -- Each way out is a law of the head, by its first octet.
 use mathlib.Core.Path.{sym, ◌∙◌}
 use Rattle.heads.proofs.Heads.{form_none, form_context, form_barred, form_group, form_primitive, rest-is}
-use borrow.Author.Rules.{rules}
 use Rattle.heads.proofs.item_form.Goals as goal
 
 pub returns-then-u-eq0 : goal.returns-then-u-eq0

@@ -4,7 +4,6 @@ use native.Mathlib.Omega.{arith}
 use borrow.Author.Tests.{lt-ltb, le-ltb}
 use Rattle.heads.specs.Head.{head_by, head_of}
 use Rattle.heads.proofs.Forms.{form_found}
-use borrow.Author.Rules.{rules}
 use Rattle.heads.proofs.item_head.Goals as goal
 
 pub overflow_sub-u : goal.overflow_sub-u

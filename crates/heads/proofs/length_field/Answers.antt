@@ -9,7 +9,6 @@ use lib.ListN.{take, drop}
 use mathlib.Core.Path.{◌≡◌, ap, ◌∙◌}
 use native.Mathlib.Omega.{arith}
 use Rattle.heads.proofs.Heads.{length_none, length_short, length_open, length_bad, length-past, length-long}
-use borrow.Author.Rules.{rules}
 use Rattle.heads.proofs.length_field.Goals as goal
 
 pub returns-then-u-eq0 : goal.returns-then-u-eq0

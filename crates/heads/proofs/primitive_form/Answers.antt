@@ -3,7 +3,6 @@ use mathlib.Core.Path.{sym, ◌∙◌}
 use native.Mathlib.Omega.{arith}
 use Rattle.heads.specs.Head.{primitive_form}
 use Rattle.heads.proofs.Heads.{length_found}
-use borrow.Author.Rules.{rules}
 use Rattle.heads.proofs.primitive_form.Goals as goal
 
 pub overflow_add-result : goal.overflow_add-result

@@ -1,5 +1,4 @@
 -- Each number by itself.
-use borrow.Author.Rules.{rules}
 use Rattle.held.proofs.core_at.Goals as goal
 
 pub returns : goal.returns

@@ -1,7 +1,6 @@
 -- Each number stands in its word, and the stage in seven.
 use Prim.Native.Nat.{min}
 use Rattle.link.specs.Link.{kept_limit}
-use borrow.Author.Rules.{rules}
 use Rattle.held.proofs.numbers_of.Goals as goal
 
 pub returns : goal.returns

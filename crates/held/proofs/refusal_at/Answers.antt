@@ -1,6 +1,5 @@
 -- Each number by itself.
 use Rattle.items.specs.Walk.{refusal}
-use borrow.Author.Rules.{rules}
 use Rattle.held.proofs.refusal_at.Goals as goal
 
 pub returns : goal.returns

@@ -7,7 +7,6 @@ use lib.Dec.{eqb}
 use lib.ListN.{get_or}
 use Rattle.verdict.specs.declared.Checked.{Checked}
 use Rattle.held.specs.declared.Stage.{Stage}
-use borrow.Author.Rules.{rules}
 use Rattle.held.proofs.stage_at.Goals as goal
 
 pub returns-in-0 : goal.returns-in-0

@@ -1,13 +1,8 @@
 -- The loop's invariant: the words before a are stored.
-use mathlib.Core.Path.{◌≡◌}
 use mathlib.Core.List.{◌++◌}
 use Prim.Native.Nat.{◌+◌, ◌-◌, ◌≤◌}
-use native.Mathlib.Nat.{zero-add}
-use native.Mathlib.Omega.{arith}
 use lib.ListN.{length}
-use borrow.Author.Rules.{rules}
 use Rattle.words.specs.Words.{Overlaid}
-use Rattle.words.proofs.Laws.{overlaid_more}
 use Rattle.held.proofs.store.Given as goal
 
 abbrev pub invariant-loop-a : goal.invariant-loop-a

@@ -5,7 +5,6 @@ use Prim.Native.Nat.{ℕ, ◌+◌, ◌-◌}
 use native.Mathlib.Omega.{arith}
 use lib.ListN.{length, get_or, get_or-append}
 use lib.Seq.{get_or-append-add}
-use borrow.Author.Rules.{rules}
 use Rattle.held.proofs.word_of.Goals as goal
 
 pub overflow_cast-result : goal.overflow_cast-result

@@ -1,7 +1,6 @@
 -- By the arm of the match, each answer is the definition's clause.
 use mathlib.Core.Path.{sym, ap}
 use Rattle.items.specs.Walk.{ended}
-use borrow.Author.Rules.{rules}
 use Rattle.items.proofs.end_of.Goals as goal
 
 pub returns-in-Open : goal.returns-in-Open

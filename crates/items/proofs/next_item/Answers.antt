@@ -8,7 +8,6 @@ use Rattle.heads.specs.declared.Head.{Head}
 use Rattle.items.specs.Walk.{item_of, next_of}
 use Rattle.heads.proofs.Heads.{head_found}
 use Rattle.items.proofs.Walks.{next-none, next-head, extent_found}
-use borrow.Author.Rules.{rules}
 use Rattle.items.proofs.next_item.Goals as goal
 
 pub returns-then-u-eq0 : goal.returns-then-u-eq0

@@ -1,7 +1,6 @@
 -- By the arm of the match; in an open group also by the test for its end mark.
 use mathlib.Core.Path.{sym, ◌∙◌}
 use Rattle.items.specs.Walk.{item_of}
-use borrow.Author.Rules.{rules}
 use Rattle.items.proofs.primitive_item.Goals as goal
 
 pub returns-then-ends_open : goal.returns-then-ends_open

@@ -2,7 +2,6 @@
 use mathlib.Core.Path.{sym, ap, ◌∙◌}
 use Rattle.items.specs.Walk.{extent}
 use Rattle.heads.proofs.Heads.{rest-whole}
-use borrow.Author.Rules.{rules}
 use Rattle.items.proofs.rest.Goals as goal
 
 pub returns-in-Root : goal.returns-in-Root

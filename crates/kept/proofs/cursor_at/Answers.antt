@@ -2,7 +2,6 @@
 use mathlib.Core.Path.{◌∙◌}
 use Rattle.items.specs.Walk.{cursor}
 use Rattle.kept.specs.Words.{within_by}
-use borrow.Author.Rules.{rules}
 use Rattle.kept.proofs.cursor_at.Goals as goal
 
 pub returns : goal.returns

@@ -1,7 +1,6 @@
 -- The test of the word that is read.
 use mathlib.Core.Path.{ap}
 use Rattle.kept.specs.Words.{flag_of}
-use borrow.Author.Rules.{rules}
 use Rattle.kept.proofs.flag_at.Goals as goal
 
 pub returns : goal.returns

@@ -3,7 +3,6 @@ use mathlib.Core.Path.{◌∙◌, ap}
 use Rattle.dated.specs.declared.Dated.{Dated}
 use Rattle.words.specs.Words.{words_at}
 use Rattle.kept.specs.Words.{head_place, standing_by}
-use borrow.Author.Rules.{rules}
 use Rattle.kept.proofs.head_at.Goals as goal
 
 pub returns : goal.returns

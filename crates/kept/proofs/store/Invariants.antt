@@ -1,11 +1,7 @@
 -- The loop's invariant: the words before a are stored.
 use Prim.Native.Nat.{◌+◌, ◌-◌, ◌≤◌}
-use mathlib.Core.Path.{◌≡◌}
-use native.Mathlib.Omega.{arith}
 use lib.ListN.{length}
-use borrow.Author.Rules.{rules}
 use Rattle.words.specs.Words.{Overlaid}
-use Rattle.words.proofs.Laws.{overlaid_more}
 use Rattle.kept.proofs.store.Given as goal
 
 abbrev pub invariant-loop-a : goal.invariant-loop-a

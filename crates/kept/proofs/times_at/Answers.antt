@@ -1,5 +1,4 @@
 -- Each time by itself.
-use borrow.Author.Rules.{rules}
 use Rattle.kept.proofs.times_at.Goals as goal
 
 -- Each time by itself.

@@ -1,9 +1,7 @@
 -- The loop's invariant: the octets before a stand behind those that were kept.
-use borrow.Author.Rules.{rules}
-use Rattle.lasting.proofs.Laws.{Behind, joined_first, joined-more, joined-all}
-use native.Mathlib.Omega.{arith}
+use Rattle.lasting.proofs.Laws.{Behind}
 use mathlib.Core.Path.{◌≡◌}
-use Prim.Native.Nat.{◌+◌, ◌-◌, ◌≤◌, ◌<◌, min}
+use Prim.Native.Nat.{◌-◌, ◌≤◌, min}
 use lib.ListN.{length}
 use Rattle.link.specs.Link.{kept_limit}
 use Rattle.lasting.proofs.joined.Given as goal

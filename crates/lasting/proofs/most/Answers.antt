@@ -2,7 +2,6 @@
 use Rattle.lasting.proofs.Laws.{lasts_by}
 use native.Mathlib.Omega.{arith}
 use mathlib.Core.Path.{refl}
-use borrow.Author.Rules.{rules}
 use Rattle.lasting.proofs.most.Goals as goal
 
 pub returns-then-sequence-x : goal.returns-then-sequence-x

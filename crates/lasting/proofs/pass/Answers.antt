@@ -1,7 +1,6 @@
 -- By the stage.
 use Rattle.lasting.proofs.Laws.{pass_none, pass_by, lasts_in}
 use native.Mathlib.Omega.{arith}
-use borrow.Author.Rules.{rules}
 use Rattle.lasting.proofs.pass.Goals as goal
 
 pub returns-then-m-eq0 : goal.returns-then-m-eq0

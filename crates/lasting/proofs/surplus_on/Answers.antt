@@ -1,6 +1,5 @@
 -- Behind the surplus.
 use Rattle.lasting.proofs.Laws.{surplus_passes}
-use borrow.Author.Rules.{rules}
 use Rattle.lasting.proofs.surplus_on.Goals as goal
 
 pub returns : goal.returns

@@ -1,6 +1,5 @@
 -- Behind the octets of the value.
 use Rattle.lasting.proofs.Laws.{value_passes}
-use borrow.Author.Rules.{rules}
 use Rattle.lasting.proofs.value_on.Goals as goal
 
 pub returns : goal.returns

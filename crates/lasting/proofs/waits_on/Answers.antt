@@ -1,6 +1,5 @@
 -- Behind what it waited for.
 use Rattle.lasting.proofs.Laws.{waits_passes}
-use borrow.Author.Rules.{rules}
 use Rattle.lasting.proofs.waits_on.Goals as goal
 
 pub returns : goal.returns

@@ -1,5 +1,5 @@
 -- Each way out is what its tests say.
-use Rattle.std.proofs.Common.{◌∙◌, rules, le-ltb, lt-ltb}
+use Rattle.std.proofs.Common.{◌∙◌, le-ltb, lt-ltb}
 use Rattle.layout.proofs.added_below.Goals as goal
 
 pub returns-then-i-channel : goal.returns-then-i-channel

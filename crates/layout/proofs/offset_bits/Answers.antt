@@ -1,5 +1,5 @@
 -- Each way out is what its test says; a width is at most 8.
-use Rattle.std.proofs.Common.{◌∙◌, arith, rules, eq-eqb, ne_eqb}
+use Rattle.std.proofs.Common.{◌∙◌, arith, eq-eqb, ne_eqb}
 use Rattle.values.proofs.Laws.{width_le}
 use Rattle.layout.specs.Frame.{offset_bits}
 use Rattle.layout.proofs.offset_bits.Goals as goal

@@ -1,5 +1,5 @@
 -- The offset is changed to the one that `offset_bits` answers.
-use Rattle.std.proofs.Common.{ap, ◌∙◌, rules}
+use Rattle.std.proofs.Common.{ap, ◌∙◌}
 use Rattle.values.specs.declared.Bits.{Bits}
 use Rattle.settings.specs.declared.Change.TheVariants.{Offset}
 use Rattle.settings.specs.Settings.{applied}

@@ -1,5 +1,5 @@
 -- Each way out is what its tests say.
-use Rattle.std.proofs.Common.{sym, ◌∙◌, rules}
+use Rattle.std.proofs.Common.{sym, ◌∙◌}
 use Rattle.layout.proofs.widths_agree.Goals as goal
 
 pub returns-then-width_agrees : goal.returns-then-width_agrees

@@ -1,5 +1,4 @@
 -- `line::put_line` meets its contract: each part is stored after the one before it, and 64 octets hold the longest line.
-use borrow.Author.Rules.{rules}
 use native.Mathlib.Omega.{arith}
 use Rattle.line.proofs.Laws.{frames_line, refused_line}
 use Rattle.line.proofs.put_line.Goals as goal

@@ -1,11 +1,9 @@
 -- Each way out is what its tests say.
 use Rattle.maker.proofs.Makes.{pointer_outside, sequences-outside, channels-none, channels-many, rows_other, frame_by_bits}
 use Rattle.framing.specs.Framing.{pointer_fits}
-use borrow.Author.Tests.{not-true, not-false}
 use mir.Facts.{to_z-of_z}
 use native.Mathlib.Omega.{arith}
 use mathlib.Core.Path.{◌≡◌, ap, sym, ◌∙◌}
-use borrow.Author.Rules.{rules}
 use Rattle.maker.proofs.frame_fits.Goals as goal
 
 pub returns-then-not-pointer_fits : goal.returns-then-not-pointer_fits

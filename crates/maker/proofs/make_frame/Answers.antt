@@ -4,7 +4,6 @@ use Rattle.framing.proofs.Framings.{pointer_small}
 use Rattle.layout.specs.declared.Layout.{Layout}
 use Rattle.octets.specs.Number.{Octets}
 use lib.Signed.{mag}
-use borrow.Author.Tests.{not-true, not-false}
 use native.Mathlib.Omega.{arith}
 use Prim.Native.Nat.{◌<◌, ◌^◌}
 use Rattle.maker.proofs.Makes.{own_fit, own-outside, row-outside, setting-refused, samples-refused, room-refused, frame_split, rows_are, measured_out, Found, found, product_small, groups-small, samples_other, samples-same, size_is, samples_long_out, room_limit, room_short, store_asked, made-refused, made-whole}
@@ -13,7 +12,6 @@ use mir.Facts.{to_z-of_z}
 use lib.ListN.{length}
 use lib.IntN.{ℤ}
 use mathlib.Core.Path.{◌≡◌, ap, sym, ◌∙◌}
-use borrow.Author.Rules.{rules}
 use Rattle.maker.proofs.make_frame.Goals as goal
 
 pub returns-then-not-frame_fits : goal.returns-then-not-frame_fits

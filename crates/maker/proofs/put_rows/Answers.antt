@@ -1,12 +1,10 @@
 -- The groups still to come, stored from here on, give the wanted buffer.
-use Rattle.frames.proofs.Coming.{Nth, Grouped, grouped_first, grouped_next, grouped_done}
+use Rattle.frames.proofs.Coming.{Nth, grouped_first, grouped_next, grouped_done}
 use Rattle.maker.proofs.Channels.{row-there, fit_at, made-long, made_at}
-use Rattle.maker.specs.Rows.{RowsFit}
 use Rattle.maker.specs.Given.{given_at, channels_made}
 use mathlib.Core.Path.{sym, ◌∙◌}
 use native.Mathlib.Omega.{arith}
 use Prim.Native.Nat.{◌-◌}
-use borrow.Author.Rules.{rules}
 use Rattle.maker.proofs.put_rows.Goals as goal
 
 pub loop-i-init : goal.loop-i-init

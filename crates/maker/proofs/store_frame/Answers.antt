@@ -14,7 +14,6 @@ use mir.Facts.{to_z-of_z}
 use lib.ListN.{length}
 use mathlib.Core.List.{List}
 use mathlib.Core.Path.{◌≡◌, refl}
-use borrow.Author.Rules.{rules}
 use Rattle.maker.proofs.store_frame.Goals as goal
 
 pub put_rows-b-requires : goal.put_rows-b-requires

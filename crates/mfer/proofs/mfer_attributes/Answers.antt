@@ -1,7 +1,6 @@
 -- By the answer of the question.
 use mathlib.Core.Path.{ap, ◌∙◌}
 use Rattle.outputs.specs.Outputs.{attributes_out}
-use borrow.Author.Rules.{rules}
 use Rattle.mfer.proofs.mfer_attributes.Goals as goal
 
 pub returns : goal.returns

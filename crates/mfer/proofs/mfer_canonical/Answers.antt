@@ -1,7 +1,6 @@
 -- By the answer of the writer.
 use mathlib.Core.Path.{ap, ◌∙◌}
 use Rattle.outputs.specs.Outputs.{count_out}
-use borrow.Author.Rules.{rules}
 use Rattle.mfer.proofs.mfer_canonical.Goals as goal
 
 pub returns : goal.returns

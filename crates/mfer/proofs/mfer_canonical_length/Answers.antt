@@ -1,7 +1,6 @@
 -- By the answer of the length.
 use mathlib.Core.Path.{ap, ◌∙◌}
 use Rattle.outputs.specs.Outputs.{count_out}
-use borrow.Author.Rules.{rules}
 use Rattle.mfer.proofs.mfer_canonical_length.Goals as goal
 
 pub returns : goal.returns

@@ -1,5 +1,4 @@
 -- By the answer of the maker.
-use borrow.Author.Rules.{rules}
 use mir.Facts.{to_z-of_z}
 use Rattle.mfer.proofs.Handed.{made_handed}
 use Rattle.mfer.proofs.mfer_make_frame.Goals as goal

@@ -1,7 +1,6 @@
 -- By the answer of the question.
 use mathlib.Core.Path.{ap, ◌∙◌}
 use Rattle.outputs.specs.Outputs.{sample_out}
-use borrow.Author.Rules.{rules}
 use Rattle.mfer.proofs.mfer_sample.Goals as goal
 
 pub returns : goal.returns

@@ -1,7 +1,6 @@
 -- Each number in its order.
 use mathlib.Core.List.{[], ◌∷◌}
 use Rattle.numbers.specs.Numbers.{frame_numbers_of}
-use borrow.Author.Rules.{rules}
 use Rattle.numbers.proofs.frame_numbers.Goals as goal
 
 pub returns : goal.returns

@@ -2,7 +2,6 @@
 use mathlib.Core.Path.{sym, ap}
 use Rattle.values.specs.declared.Value.{Value}
 use Rattle.values.specs.Sample.{value_says}
-use borrow.Author.Rules.{rules}
 use Rattle.numbers.proofs.kind_of.Goals as goal
 
 pub returns-in-Whole : goal.returns-in-Whole

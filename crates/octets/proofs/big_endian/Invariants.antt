@@ -1,14 +1,9 @@
 -- `octets::big_endian` meets its contract: what was read so far, with the octets that are left after it, always gives the number
 -- of all octets. Assumes nothing.
 use Prim.Native.Nat.{◌≤◌, ◌<◌, ◌-◌}
-use mathlib.Core.Path.{◌≡◌, refl}
-use native.Mathlib.Nat.{lt_of_lt_of_le}
-use native.Mathlib.Omega.{arith}
-use lib.Dec.{lit<}
+use mathlib.Core.Path.{◌≡◌}
 use lib.ListN.{length, drop}
-use Rattle.octets.specs.Number.{range, big_from, number_of}
-use Rattle.octets.proofs.Laws.{push, cap, push_fits, big_turn, big_end}
-use borrow.Author.Rules.{rules}
+use Rattle.octets.specs.Number.{range, big_from}
 use Rattle.octets.proofs.big_endian.Given as goal
 
 abbrev pub invariant-loop-i : goal.invariant-loop-i

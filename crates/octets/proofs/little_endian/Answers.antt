@@ -1,12 +1,11 @@
 -- `octets::little_endian` meets its contract: it reads from the back, and what was read so far is the number of the octets passed.
 -- Assumes nothing.
-use Prim.Native.Nat.{◌≤◌, ◌<◌, ◌-◌}
-use mathlib.Core.Path.{◌≡◌}
+use Prim.Native.Nat.{◌-◌}
 use native.Mathlib.Nat.{lt_of_lt_of_le}
 use native.Mathlib.Omega.{arith}
 use lib.Dec.{lit<}
-use lib.ListN.{length, drop}
-use Rattle.octets.specs.Number.{range, little_of, number_of}
+use lib.ListN.{length}
+use Rattle.octets.specs.Number.{number_of}
 use Rattle.octets.proofs.Laws.{push_back, range_pos, cap, push_fits, little-start, little_turn, little_end}
 use borrow.Author.Rules.{rules}
 use Rattle.octets.proofs.little_endian.Goals as goal

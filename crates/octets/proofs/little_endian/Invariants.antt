@@ -2,13 +2,8 @@
 -- Assumes nothing.
 use Prim.Native.Nat.{◌≤◌, ◌<◌, ◌-◌}
 use mathlib.Core.Path.{◌≡◌}
-use native.Mathlib.Nat.{lt_of_lt_of_le}
-use native.Mathlib.Omega.{arith}
-use lib.Dec.{lit<}
 use lib.ListN.{length, drop}
-use Rattle.octets.specs.Number.{range, little_of, number_of}
-use Rattle.octets.proofs.Laws.{push_back, range_pos, cap, push_fits, little-start, little_turn, little_end}
-use borrow.Author.Rules.{rules}
+use Rattle.octets.specs.Number.{range, little_of}
 use Rattle.octets.proofs.little_endian.Given as goal
 
 abbrev pub invariant-loop-i : goal.invariant-loop-i

@@ -6,7 +6,6 @@ use lib.Dec.{lit≤}
 use Rattle.octets.specs.Number.{big_from}
 use Rattle.octets.proofs.Laws.{part_short}
 use Rattle.octets.proofs.Octets.{here_one, here_big, here-little, first_read}
-use borrow.Author.Rules.{rules}
 use Rattle.octets.proofs.number.Goals as goal
 
 pub returns-then-s-eq1 : goal.returns-then-s-eq1

@@ -1,7 +1,6 @@
 -- `octets::part` meets its contract: past the end nothing is left, a part that reaches the end is all that is left, and any other is
 -- as long as asked for. Assumes nothing.
 use Rattle.octets.proofs.Laws.{part_past, part_rest, part_whole}
-use borrow.Author.Rules.{rules}
 use Rattle.octets.proofs.part.Goals as goal
 
 pub returns-then-l-at : goal.returns-then-l-at

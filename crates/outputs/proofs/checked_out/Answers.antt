@@ -3,7 +3,6 @@ use mathlib.Core.Path.{sym, ap}
 use Rattle.verdict.specs.declared.Checked.{Checked}
 use Rattle.verdict.specs.Verdict.{checked_says}
 use Rattle.outputs.specs.Outputs.{handed_out, count_out}
-use borrow.Author.Rules.{rules}
 use Rattle.outputs.proofs.checked_out.Goals as goal
 
 pub returns-in-Frames : goal.returns-in-Frames

@@ -3,7 +3,6 @@ use mathlib.Core.Path.{sym, ap, ◌∙◌}
 use Rattle.reader.specs.declared.Described.{Described}
 use Rattle.reader.specs.Answer.{described_says}
 use Rattle.outputs.specs.Outputs.{outputs, handed_out, attributes_values, attributes_out}
-use borrow.Author.Rules.{rules}
 use Rattle.outputs.proofs.described_out.Goals as goal
 
 pub returns-in-Attributes : goal.returns-in-Attributes

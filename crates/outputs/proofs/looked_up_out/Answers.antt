@@ -5,7 +5,6 @@ use Rattle.reader.specs.Answer.{looked_up_says}
 use Rattle.numbers.specs.Numbers.{numbers_of, bit_pair_of}
 use Rattle.outputs.specs.Outputs.{outputs, handed_out}
 use Rattle.outputs.specs.Walks.{channel_values, channel_out}
-use borrow.Author.Rules.{rules}
 use Rattle.outputs.proofs.looked_up_out.Goals as goal
 
 pub returns-in-Channel : goal.returns-in-Channel

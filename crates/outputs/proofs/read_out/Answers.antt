@@ -3,7 +3,6 @@ use mathlib.Core.Path.{sym, ap}
 use Rattle.strides.specs.declared.Read.{Read}
 use Rattle.strides.specs.Channels.{read_says}
 use Rattle.outputs.specs.Outputs.{handed_out, count_out}
-use borrow.Author.Rules.{rules}
 use Rattle.outputs.proofs.read_out.Goals as goal
 
 pub returns-in-Samples : goal.returns-in-Samples

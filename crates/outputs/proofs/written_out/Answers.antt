@@ -3,7 +3,6 @@ use mathlib.Core.Path.{sym, ap}
 use Rattle.canonical.specs.declared.Written.{Written}
 use Rattle.canonical.specs.Write.{written_says}
 use Rattle.outputs.specs.Outputs.{handed_out, count_out}
-use borrow.Author.Rules.{rules}
 use Rattle.outputs.proofs.written_out.Goals as goal
 
 pub returns-in-Octets : goal.returns-in-Octets

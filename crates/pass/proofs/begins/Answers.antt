@@ -2,7 +2,6 @@
 use mathlib.Core.Path.{sym, ◌∙◌}
 use borrow.Author.Tests.{lt-ltb, le-ltb}
 use Rattle.pass.specs.Passing.{begins_at}
-use borrow.Author.Rules.{rules}
 use Rattle.pass.proofs.begins.Goals as goal
 
 pub returns-then-at-s : goal.returns-then-at-s

@@ -13,7 +13,7 @@ use Rattle.values.specs.Sample.{width_of}
 use Rattle.layout.specs.Frame.{block_octets, sequence_octets}
 use Rattle.there.specs.There.{there_octets, partial_octets}
 use Rattle.layout.proofs.Rows.{cells_some}
-use Rattle.there.proofs.Partial.{there_cut, cut_some, Cutting, cutting_first}
+use Rattle.there.proofs.Partial.{there_cut, cut_some, cutting_first}
 use Rattle.pass.proofs.Cut.{settled_block, settled_last, settled_past}
 use borrow.Author.Rules.{rules}
 use Rattle.pass.proofs.channels_there.Goals as goal

@@ -2,7 +2,6 @@
 use mathlib.Core.Path.{sym, ap, ◌∙◌}
 use borrow.Author.Tests.{lt-ltb, le-ltb}
 use Rattle.pass.specs.Passing.{opened_by}
-use borrow.Author.Rules.{rules}
 use Rattle.pass.proofs.opened.Goals as goal
 
 pub returns-in-Plain : goal.returns-in-Plain

@@ -3,7 +3,6 @@ use mathlib.Core.Path.{◌∙◌, ap}
 use Prim.Native.Nat.{ℕ}
 use Rattle.items.specs.Walk.{refusal}
 use Rattle.pass.specs.Scan.{refused_scan}
-use borrow.Author.Rules.{rules}
 use Rattle.pass.proofs.refused_item.Goals as goal
 
 pub returns : goal.returns

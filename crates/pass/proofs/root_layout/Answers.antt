@@ -1,10 +1,9 @@
 -- Channel by channel, each of them holding the root settings.
 use native.Mathlib.Omega.{arith}
-use borrow.Author.Rules.{rules}
 use Prim.Native.Nat.{◌-◌}
-use lib.ListN.{replicate, length-replicate}
+use lib.ListN.{length-replicate}
 use Rattle.settings.specs.Settings.{channel_limit}
-use Rattle.layout.proofs.Laws.{Summing, summing_none, summed_up}
+use Rattle.layout.proofs.Laws.{summing_none, summed_up}
 use Rattle.verdict.proofs.Bounds.{channels-between}
 use Rattle.pass.proofs.Bare.{bare_more}
 use Rattle.pass.proofs.root_layout.Goals as goal

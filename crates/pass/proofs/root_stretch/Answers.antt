@@ -2,7 +2,6 @@
 use mathlib.Core.Path.{◌∙◌, ap}
 use Rattle.settings.specs.declared.Settings.{Settings}
 use Rattle.stretch.specs.Stretch.{stretch_of}
-use borrow.Author.Rules.{rules}
 use Rattle.pass.proofs.root_stretch.Goals as goal
 
 pub returns : goal.returns

@@ -8,7 +8,6 @@ use Rattle.layout.specs.Frame.{width_in}
 use Rattle.framing.specs.Framing.{channels_of}
 use Rattle.there.proofs.Partial.{cut_some, there_even}
 use Rattle.pass.proofs.Cut.{root_even, even_some, held_fits, held-there, held_cut}
-use borrow.Author.Rules.{rules}
 use Rattle.pass.proofs.root_there.Goals as goal
 
 pub overflow_mul-result : goal.overflow_mul-result

@@ -1,13 +1,12 @@
 -- Each turn is a law of the pass over the records: the items up to the cursor behind the item lead to what stands then.
 use mathlib.Core.Path.{◌≡◌, refl, sym, ap, ◌∙◌}
-use mathlib.Core.List.{List, [], ◌∷◌}
-use mathlib.Core.Logic.{inl, ⊎_elim}
+use mathlib.Core.List.{[], List, ◌∷◌}
+use mathlib.Core.Logic.{inl}
 use mathlib.Core.Bool.{Bool, true}
 use native.Mathlib.Omega.{arith}
-use borrow.Author.Rules.{rules}
 use Prim.Native.Nat.{ℕ, ◌-◌, ◌*◌}
 use lib.Dec.{leb}
-use lib.ListN.{length, take}
+use lib.ListN.{take}
 use Rattle.items.proofs.Walks.{found_as}
 use Rattle.items.specs.declared.Cursor.{Cursor}
 use Rattle.items.specs.declared.Item.{Item}
@@ -15,7 +14,7 @@ use Rattle.settings.specs.declared.Settings.{Settings}
 use Rattle.stretch.specs.Stretch.{stretch_of}
 use Rattle.dated.specs.Dated.{settled_in}
 use Rattle.effects.specs.Effects.{effect_of}
-use Rattle.layout.proofs.Laws.{Summing, summing_none, summed_up}
+use Rattle.layout.proofs.Laws.{summing_none, summed_up}
 use Rattle.framing.specs.Framing.{channels_of}
 use Rattle.there.specs.There.{there_octets}
 use Rattle.pass.specs.declared.Asked.{Asked}
@@ -351,7 +350,7 @@ with_frame-met-requires c =
     let counted : let l = c.loop-x in
     c.if-holds.there ≡ there_octets (take (channels_of l.st.counted) (settled_in l.st.root l.dates l.table)) c.in-Taken.sequences c.in-Frame.len =
     elim c.if-holds.branch [
-      then-holds w ↦ w.there-is ∙ whole _ _ _ c.holds.ensures w.if-holds.true
+      | then-holds w ↦ w.there-is ∙ whole _ _ _ c.holds.ensures w.if-holds.true
       | else-holds w ↦ w.there-is ∙ there _ _ _ w.channels_there-there.ensures
     ] in
     framing_room (framing) c.in-Taken.is (counted)
@@ -408,7 +407,7 @@ loop-x-preserved-in-Taken c =
     let counted : let l = c.loop-x in
     c.if-holds.there ≡ there_octets (take (channels_of l.st.counted) (settled_in l.st.root l.dates l.table)) c.in-Taken.sequences c.in-Frame.len =
     elim c.if-holds.branch [
-      then-holds w ↦ w.there-is ∙ whole _ _ _ c.holds.ensures w.if-holds.true
+      | then-holds w ↦ w.there-is ∙ whole _ _ _ c.holds.ensures w.if-holds.true
       | else-holds w ↦ w.there-is ∙ there _ _ _ w.channels_there-there.ensures
     ] in
     let p = passing in

@@ -1,6 +1,5 @@
 -- 15 comes first; else the pass from the front.
 use mathlib.Core.Path.{◌∙◌}
-use borrow.Author.Rules.{rules}
 use Rattle.pass.proofs.Scans.{scanned_large}
 use Rattle.pass.proofs.scan_file.Goals as goal
 

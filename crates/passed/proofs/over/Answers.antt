@@ -1,8 +1,8 @@
 -- What the items from a place on count is left to be added to what those before it have counted.
-use Rattle.std.proofs.Common.{◌≡◌, ◌+◌, ◌-◌, ◌≤◌, length, get_or, drop, sym, refl, ◌∙◌, ⊎_elim, arith, rules}
+use Rattle.std.proofs.Common.{◌≡◌, ◌+◌, ◌-◌, get_or, sym, refl, ◌∙◌, ⊎_elim, arith, rules}
 use Rattle.definitions.specs.Define.{tagged}
 use Rattle.passed.specs.declared.Passed.{Passed}
-use Rattle.passed.specs.Passed.{passed_from, passed_item, passed_over}
+use Rattle.passed.specs.Passed.{passed_from, passed_item}
 use Rattle.passed.proofs.Laws.{passed_item_lem, passed_last, passed_short, counted, item_defines, item_other}
 use Rattle.passed.proofs.over.Goals as goal
 

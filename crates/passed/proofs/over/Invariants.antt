@@ -1,9 +1,7 @@
 -- What the items from a place on count is left to be added to what those before it have counted.
-use Rattle.std.proofs.Common.{◌≡◌, ◌+◌, ◌-◌, ◌≤◌, length, get_or, drop, sym, refl, ◌∙◌, ⊎_elim, arith, rules}
-use Rattle.definitions.specs.Define.{tagged}
-use Rattle.passed.specs.declared.Passed.{Passed}
-use Rattle.passed.specs.Passed.{passed_from, passed_item, passed_over}
-use Rattle.passed.proofs.Laws.{passed_item_lem, passed_last, passed_short, counted, item_defines, item_other}
+use Rattle.std.proofs.Common.{◌≡◌, ◌-◌, ◌≤◌, length, drop}
+use Rattle.passed.specs.Passed.{passed_from, passed_over}
+use Rattle.passed.proofs.Laws.{counted}
 use Rattle.passed.proofs.over.Given as goal
 
 abbrev pub invariant-loop-at : goal.invariant-loop-at

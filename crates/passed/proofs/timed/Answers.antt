@@ -1,5 +1,5 @@
 -- By the arm of the match: the times as a function of the attribute.
-use Rattle.std.proofs.Common.{sym, ap, rules}
+use Rattle.std.proofs.Common.{sym, ap}
 use Rattle.settings.specs.Settings.{default_settings}
 use Rattle.definitions.specs.declared.Attribute.{Attribute}
 use Rattle.definitions.specs.Define.{standing_in}

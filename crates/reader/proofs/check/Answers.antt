@@ -1,6 +1,5 @@
 -- The pass's count or refusal.
 use Rattle.reader.proofs.Answers.{checked_is}
-use borrow.Author.Rules.{rules}
 use Rattle.reader.proofs.check.Goals as goal
 
 pub returns : goal.returns

@@ -3,7 +3,6 @@ use mathlib.Core.Path.{sym, ap, ◌∙◌}
 use Rattle.heads.specs.Answer.{answered, map_answer}
 use Rattle.reader.specs.Answer.{looked_up_says, attributes_seen}
 use Rattle.reader.proofs.Answers.{described_is}
-use borrow.Author.Rules.{rules}
 use Rattle.reader.proofs.describe.Goals as goal
 
 pub returns-in-Channel : goal.returns-in-Channel

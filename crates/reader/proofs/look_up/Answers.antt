@@ -1,7 +1,6 @@
 -- Each way out is a law of a look-up.
 use mathlib.Core.Path.{◌∙◌}
 use Rattle.reader.proofs.Answers.{look_refused, look_no_frame, look_nothing, look_no_channel, look_found}
-use borrow.Author.Rules.{rules}
 use Rattle.reader.proofs.look_up.Goals as goal
 
 pub returns-in_default : goal.returns-in_default

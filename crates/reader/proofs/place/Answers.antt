@@ -6,12 +6,11 @@ use Rattle.heads.specs.Answer.{map_answer}
 use Rattle.view.specs.View.{view_of, sample_place_says}
 use Rattle.reader.specs.Answer.{found_place, placed_of, if_there}
 use Rattle.reader.proofs.Answers.{located, unseen, placed_seen}
-use borrow.Author.Rules.{rules}
 use Rattle.reader.proofs.place.Goals as goal
 
 pub returns-in-Refused : goal.returns-in-Refused
 unfolding placed_of
-returns-in-Refused c = 
+returns-in-Refused c =
     let a = c.args in
     unseen (λ (f : Frame). if_there a.channel a.number f (some (found_place (place_of a.channel a.number f) (view_of a.channel f))) none) _ _ _ _ _ c.look_up.ensures c.in-Refused.is
 

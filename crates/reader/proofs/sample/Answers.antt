@@ -1,7 +1,6 @@
 -- By the answer for the place; the octets there are the sample's, and the value is that of their bits.
 use Rattle.values.specs.Sample.{value_says}
 use Rattle.reader.proofs.Answers.{sample-at, sample-lacking, sample-none}
-use borrow.Author.Rules.{rules}
 use Rattle.reader.proofs.sample.Goals as goal
 
 pub returns-in-Refused : goal.returns-in-Refused

@@ -1,7 +1,6 @@
 -- The smaller of the two.
 use native.Mathlib.Omega.{arith}
 use Rattle.words.proofs.Laws.{records-long}
-use borrow.Author.Rules.{rules}
 use Rattle.records.proofs.at_most.Goals as goal
 
 pub returns-then-n-held : goal.returns-then-n-held

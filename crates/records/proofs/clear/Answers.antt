@@ -1,10 +1,9 @@
 -- The loop's invariant: the times of the records before k are 0.
-use Prim.Native.Nat.{◌-◌, ◌≤◌}
+use Prim.Native.Nat.{◌-◌}
 use mathlib.Core.Path.{◌≡◌}
 use native.Mathlib.Omega.{arith}
-use borrow.Author.Rules.{rules}
 use Rattle.words.specs.Words.{records_held}
-use Rattle.records.proofs.Laws.{Clearing, clearing_more, clearing_all}
+use Rattle.records.proofs.Laws.{clearing_more, clearing_all}
 use Rattle.records.proofs.clear.Goals as goal
 
 pub loop-k-preserved : goal.loop-k-preserved

@@ -1,10 +1,8 @@
 -- The loop's invariant: the times of the records before k are 0.
 use Prim.Native.Nat.{◌-◌, ◌≤◌}
 use mathlib.Core.Path.{◌≡◌}
-use native.Mathlib.Omega.{arith}
-use borrow.Author.Rules.{rules}
 use Rattle.words.specs.Words.{records_held}
-use Rattle.records.proofs.Laws.{Clearing, clearing_more, clearing_all}
+use Rattle.records.proofs.Laws.{Clearing}
 use Rattle.records.proofs.clear.Given as goal
 
 abbrev pub invariant-loop-k : goal.invariant-loop-k

@@ -2,7 +2,6 @@
 use mathlib.Core.Path.{refl, subst}
 use Rattle.settings.specs.declared.Settings.{Settings}
 use Rattle.layout.specs.Measure.{More}
-use borrow.Author.Rules.{rules}
 use Rattle.records.proofs.lay_next.Goals as goal
 
 pub returns : goal.returns

@@ -1,11 +1,8 @@
 -- The loop's invariant: the words before a are taken over.
-use Prim.Native.Nat.{◌+◌, ◌-◌, ◌≤◌}
+use Prim.Native.Nat.{◌-◌}
 use mathlib.Core.Path.{◌≡◌}
 use native.Mathlib.Omega.{arith}
-use lib.ListN.{length}
-use borrow.Author.Rules.{rules}
 use Rattle.words.specs.Words.{record_numbers}
-use Rattle.records.specs.Records.{Overtaken}
 use Rattle.records.proofs.Renewing.{overtaken_more}
 use Rattle.records.proofs.overtake.Goals as goal
 

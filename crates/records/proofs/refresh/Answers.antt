@@ -4,7 +4,6 @@ use Rattle.dated.specs.declared.Dated.{Dated}
 use Rattle.records.proofs.Channels.{channels-few}
 use Rattle.records.proofs.Renewing.{words-settings}
 use Rattle.records.proofs.Refreshing.{refreshed-few}
-use borrow.Author.Rules.{rules}
 use Rattle.records.proofs.refresh.Goals as goal
 
 pub renew_all-requires : goal.renew_all-requires

@@ -18,5 +18,6 @@ returns c =
     renew_stores a.t.now a.k (settings_by a.w.now) a.dates (omega arith) c.time-at.ensures
     c.overtake.ensures c.requires.since_value c.requires.time_word_value refl c.behind_from.ensures (search rules)
     (λ late now. elim c.if-dates-at.branch [
-      then-dates-at+else-at-dates w ↦ w.if-at-dates.false now | else-dates-at w ↦ omega (arith, w.if-dates-at.false, late)
+      | then-dates-at+else-at-dates w ↦ w.if-at-dates.false now
+      | else-dates-at w ↦ omega (arith, w.if-dates-at.false, late)
     ])

@@ -1,9 +1,7 @@
 -- Record by record: those behind are up to date.
 use Prim.Native.Nat.{◌-◌}
 use native.Mathlib.Omega.{arith}
-use borrow.Author.Rules.{rules}
-use Rattle.records.specs.Records.{settings_by}
-use Rattle.records.proofs.Refreshing.{Refreshing, refreshing_start, refreshing_room, refreshing_more, refreshing_all}
+use Rattle.records.proofs.Refreshing.{refreshing_start, refreshing_room, refreshing_more, refreshing_all}
 use Rattle.records.proofs.renew_all.Goals as goal
 
 pub loop-i-init : goal.loop-i-init

@@ -1,7 +1,6 @@
 -- The record, brought up to date.
 use mathlib.Core.Path.{ap, ◌∙◌}
 use Rattle.dated.specs.Dated.{settled_at}
-use borrow.Author.Rules.{rules}
 use Rattle.records.proofs.settled.Goals as goal
 
 pub returns : goal.returns

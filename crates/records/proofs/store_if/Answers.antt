@@ -1,5 +1,4 @@
 -- By the test.
-use borrow.Author.Rules.{rules}
 use Rattle.records.proofs.store_if.Goals as goal
 
 pub returns-then-yes : goal.returns-then-yes

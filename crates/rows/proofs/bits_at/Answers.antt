@@ -1,7 +1,6 @@
 -- All octets of the part are looked at.
 use lib.ListN.{drop}
 use Rattle.octets.proofs.Laws.{part_whole, part_read, part_fits}
-use borrow.Author.Rules.{rules}
 use Rattle.rows.proofs.bits_at.Goals as goal
 
 pub returns : goal.returns

@@ -1,7 +1,6 @@
 -- By the test.
 use mathlib.Core.Path.{◌∙◌}
 use borrow.Author.Tests.{lt-ltb, le-ltb}
-use borrow.Author.Rules.{rules}
 use Rattle.rows.proofs.float.Goals as goal
 
 pub returns-then-infinity-bits : goal.returns-then-infinity-bits

@@ -1,7 +1,6 @@
 -- By the two tests: nothing is laid, or as much as can be, first of samples of two octets.
 use native.Mathlib.Omega.{arith}
 use Rattle.rows.proofs.Laying.{lays_past, lays_all}
-use borrow.Author.Rules.{rules}
 use Rattle.rows.proofs.lay.Goals as goal
 
 pub returns-then-u-gt-OCTETS : goal.returns-then-u-gt-OCTETS

@@ -4,8 +4,7 @@ use Prim.Native.Nat.{◌-◌, ◌*◌, ◌^◌, ◌<◌}
 use native.Mathlib.Omega.{arith}
 use lib.ListN.{length}
 use borrow.Author.Rules.{rules}
-use Rattle.rows.specs.Rows.{row_words, laid}
-use Rattle.rows.specs.Laying.{Onward}
+use Rattle.rows.specs.Rows.{row_words}
 use Rattle.rows.proofs.Laying.{Fitting, onward-none, onward-more, tests_true, tests_false}
 use Rattle.rows.proofs.lay_on.Goals as goal
 

@@ -1,12 +1,8 @@
 -- The loop's invariant: the samples before the one at hand are laid.
-use mathlib.Core.Path.{sym, ◌∙◌}
-use Prim.Native.Nat.{◌-◌, ◌*◌, ◌^◌, ◌<◌}
-use native.Mathlib.Omega.{arith}
+use Prim.Native.Nat.{◌-◌}
 use lib.ListN.{length}
-use borrow.Author.Rules.{rules}
-use Rattle.rows.specs.Rows.{row_words, laid}
+use Rattle.rows.specs.Rows.{laid}
 use Rattle.rows.specs.Laying.{Onward}
-use Rattle.rows.proofs.Laying.{Fitting, onward-none, onward-more, tests_true, tests_false}
 use Rattle.rows.proofs.lay_on.Given as goal
 
 abbrev pub invariant-loop-bits : goal.invariant-loop-bits

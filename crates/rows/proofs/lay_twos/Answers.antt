@@ -11,7 +11,6 @@ use Rattle.octets.proofs.Pick.{both_split}
 use Rattle.values.specs.Sample.{width_of}
 use borrow.Author.Rules.{rules}
 use Rattle.rows.specs.Rows.{row_words, laid}
-use Rattle.rows.specs.Laying.{Onward}
 use Rattle.rows.proofs.Laying.{Fitting, onward-none, onward-more, tests_true}
 use Rattle.rows.proofs.lay_twos.Goals as goal
 

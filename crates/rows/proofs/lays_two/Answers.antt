@@ -1,6 +1,5 @@
 -- By the two tests.
 use borrow.Author.Tests.{lt-ltb, le-ltb, eq-eqb, ne_eqb}
-use borrow.Author.Rules.{rules}
 use Rattle.rows.proofs.lays_two.Goals as goal
 
 pub returns-then-datatype-eq0 : goal.returns-then-datatype-eq0

@@ -1,7 +1,6 @@
 -- By the two tests, as the definition goes.
 use borrow.Author.Tests.{lt-ltb, le-ltb}
 use Rattle.link.specs.Link.{next_coming}
-use borrow.Author.Rules.{rules}
 use Rattle.rows.proofs.next.Goals as goal
 
 pub returns-then-behind-block : goal.returns-then-behind-block

@@ -10,7 +10,6 @@ use Rattle.values.specs.Sample.{width_of, single_said, double_said, single_of, d
 use Rattle.rows.specs.declared.Shown.{Shown}
 use Rattle.rows.specs.Laying.{showing, shown_as}
 use Rattle.rows.proofs.Laws.{float_shown, rest_shown}
-use borrow.Author.Rules.{rules}
 use Rattle.rows.proofs.plain.Goals as goal
 
 -- What bits stand for, by the data type.

@@ -12,7 +12,6 @@ use Rattle.link.specs.Link.{Given}
 use Rattle.rows.specs.Rows.{row_of}
 use Rattle.rows.proofs.Laws.{given_is}
 use borrow.Author.Tests.{le-leb, lt-leb}
-use borrow.Author.Rules.{rules}
 use Rattle.rows.proofs.put_sample.Goals as goal
 
 pub returns-then-out-lt-WORDS : goal.returns-then-out-lt-WORDS

@@ -1,7 +1,6 @@
 -- The quotient is 0 or 1, and tells the half.
 use native.Mathlib.Omega.{arith}
 use Rattle.rows.proofs.Laws.{signed_fits, signed_word}
-use borrow.Author.Rules.{rules}
 use Rattle.rows.proofs.signed.Goals as goal
 
 pub overflow_mul-result-2 : goal.overflow_mul-result-2

@@ -3,7 +3,6 @@ use mathlib.Core.Path.{◌∙◌, ap}
 use mathlib.Core.Logic.{inl, inr, ⊎_elim}
 use Rattle.values.proofs.Laws.{null_yes, null_no}
 use Rattle.rows.specs.Laying.{shown_as}
-use borrow.Author.Rules.{rules}
 use Rattle.rows.proofs.told.Goals as goal
 
 pub returns-then-null-bits : goal.returns-then-null-bits

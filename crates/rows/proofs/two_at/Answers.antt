@@ -4,7 +4,6 @@ use Prim.Native.Nat.{◌+◌}
 use native.Mathlib.Omega.{arith}
 use Rattle.octets.specs.Number.{big_from}
 use Rattle.octets.proofs.Octets.{here_big, here-little}
-use borrow.Author.Rules.{rules}
 use Rattle.rows.proofs.two_at.Goals as goal
 
 pub returns-then-little : goal.returns-then-little

@@ -1,16 +1,6 @@
 -- `runs::copy` meets its contract. The loop's invariant: the stores still to come give the buffer that is wanted.
-use borrow.Author.Rules.{rules}
-use mathlib.Core.Path.{◌≡◌, sym, ap, ◌∙◌}
-use mathlib.Core.List.{List, [], ◌∷◌}
-use Prim.Native.Nat.{ℕ, zero, suc, ◌+◌, ◌-◌, ◌≤◌, min}
-use native.Mathlib.Nat.{zero-min, min-zero, suc-min-suc}
-use native.Mathlib.Omega.{arith}
-use lib.ListN.{length, take, drop, length-take, length-drop}
-use lib.Seq.{sets}
-use borrow.Author.Tests.{ltb-true, ltb-false}
-use Rattle.stores.specs.Storing.{Putting}
-use Rattle.stores.proofs.Stores.{putting, putting_kept}
-use Rattle.runs.proofs.Moves.{Moving, begins, moves, moved}
+use Prim.Native.Nat.{◌-◌}
+use Rattle.runs.proofs.Moves.{Moving}
 use Rattle.runs.proofs.copy.Given as goal
 
 abbrev pub invariant-loop-done : goal.invariant-loop-done

@@ -2,7 +2,7 @@
 use mathlib.Core.Path.{refl}
 use Prim.Native.Nat.{◌-◌}
 use native.Mathlib.Omega.{arith}
-use Rattle.runs.proofs.Moves.{Moving, begins, one_moves, moved}
+use Rattle.runs.proofs.Moves.{begins, one_moves, moved}
 use Rattle.runs.proofs.copy_octets.Goals as goal
 
 pub loop-i-init : goal.loop-i-init

@@ -1,8 +1,6 @@
 -- `runs::copy_octets` meets its contract. The loop's invariant: the stores still to come give the buffer that is wanted.
-use mathlib.Core.Path.{refl}
 use Prim.Native.Nat.{◌-◌}
-use native.Mathlib.Omega.{arith}
-use Rattle.runs.proofs.Moves.{Moving, begins, one_moves, moved}
+use Rattle.runs.proofs.Moves.{Moving}
 use Rattle.runs.proofs.copy_octets.Given as goal
 
 abbrev pub invariant-loop-i : goal.invariant-loop-i

@@ -1,14 +1,10 @@
 -- `runs::copy_piece` meets its contract. The first loop's invariant: the array begins with the octets read so far. The second's: the stores still to come give the
 -- buffer that is wanted.
-use borrow.Author.Rules.{rules}
-use mathlib.Core.Path.{◌≡◌, refl, sym, ◌∙◌}
+use mathlib.Core.Path.{◌≡◌}
 use mathlib.Core.List.{List}
-use Prim.Native.Nat.{ℕ, ◌+◌, ◌-◌, ◌≤◌, ◌<◌}
-use native.Mathlib.Numerals.{add-one}
-use native.Mathlib.Omega.{arith}
-use lib.ListN.{length, set, take, drop, get_or, length-set, length-drop, length-replicate}
-use lib.Seq.{take-suc, take-suc-set, get_or-take, get_or-drop}
-use Rattle.runs.proofs.Moves.{Moving, begins, one_moves, moved}
+use Prim.Native.Nat.{ℕ, ◌-◌, ◌≤◌}
+use lib.ListN.{length, take, drop}
+use Rattle.runs.proofs.Moves.{Moving}
 use Rattle.runs.proofs.copy_piece.Given as goal
 
 -- The octets of a piece.

@@ -1,7 +1,6 @@
 -- The octets are read place by place.
 use native.Mathlib.Omega.{arith}
 use Rattle.runs.proofs.Places.{octets-at}
-use borrow.Author.Rules.{rules}
 use Rattle.runs.proofs.read8.Goals as goal
 
 pub returns : goal.returns

@@ -2,7 +2,6 @@
 use mathlib.Core.List.{[], ◌∷◌}
 use native.Mathlib.Omega.{arith}
 use Rattle.runs.proofs.Places.{stores_at, room_at}
-use borrow.Author.Rules.{rules}
 use Rattle.runs.proofs.store4.Goals as goal
 
 pub bounds-dst-p-2 : goal.bounds-dst-p-2

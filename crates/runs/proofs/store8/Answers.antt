@@ -2,7 +2,6 @@
 use mathlib.Core.Path.{◌∙◌}
 use mathlib.Core.List.{[], ◌∷◌}
 use Rattle.stores.proofs.Stores.{sets_append}
-use borrow.Author.Rules.{rules}
 use Rattle.runs.proofs.store8.Goals as goal
 
 pub returns : goal.returns

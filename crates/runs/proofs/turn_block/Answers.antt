@@ -1,6 +1,5 @@
 -- A block is eight octets and then eight.
 use Rattle.runs.proofs.Blocks.{whole, two_eights}
-use borrow.Author.Rules.{rules}
 use Rattle.runs.proofs.turn_block.Goals as goal
 
 pub returns : goal.returns

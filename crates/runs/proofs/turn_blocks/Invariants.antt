@@ -1,11 +1,5 @@
 -- `runs::turn_blocks` meets its contract. The loop's invariant: the samples that are left give the buffer that is wanted.
-use borrow.Author.Rules.{rules}
-use mathlib.Core.Path.{refl, ◌∙◌}
-use Prim.Native.Nat.{ℕ, ◌*◌, ◌/◌, ◌≤◌}
-use native.Mathlib.Nat.{mul-le-mul_right}
-use native.Mathlib.Omega.{arith}
-use Rattle.runs.proofs.Blocks.{Whole, whole}
-use Rattle.runs.proofs.Samples.{Left, left_less}
+use Rattle.runs.proofs.Samples.{Left}
 use Rattle.runs.proofs.turn_blocks.Given as goal
 
 abbrev pub invariant-loop-left : goal.invariant-loop-left

@@ -4,7 +4,7 @@ use Prim.Native.Nat.{ℕ, ◌*◌, ◌≤◌, ◌<◌}
 use native.Mathlib.Nat.{one-mul, mul-le-mul_right}
 use native.Mathlib.Omega.{arith}
 use Rattle.runs.specs.Turned.{turned}
-use Rattle.runs.proofs.Samples.{Left, one_less}
+use Rattle.runs.proofs.Samples.{one_less}
 use Rattle.runs.proofs.turn_each.Goals as goal
 
 -- Where a sample is left, its octets are.

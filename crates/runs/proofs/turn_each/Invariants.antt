@@ -1,10 +1,5 @@
 -- `runs::turn_each` meets its contract. The loop's invariant: the samples that are left give the buffer that is wanted.
-use mathlib.Core.Path.{◌≡◌, refl}
-use Prim.Native.Nat.{ℕ, ◌*◌, ◌≤◌, ◌<◌}
-use native.Mathlib.Nat.{one-mul, mul-le-mul_right}
-use native.Mathlib.Omega.{arith}
-use Rattle.runs.specs.Turned.{turned}
-use Rattle.runs.proofs.Samples.{Left, one_less}
+use Rattle.runs.proofs.Samples.{Left}
 use Rattle.runs.proofs.turn_each.Given as goal
 
 abbrev pub invariant-loop-left : goal.invariant-loop-left

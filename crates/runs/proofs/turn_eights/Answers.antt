@@ -8,7 +8,6 @@ use lib.ListN.{drop}
 use lib.Seq.{sets}
 use Rattle.runs.specs.Turned.{turned}
 use Rattle.runs.proofs.Samples.{Left, left_less}
-use borrow.Author.Rules.{rules}
 use Rattle.runs.proofs.turn_eights.Goals as goal
 
 -- A turn is two blocks of two samples.

@@ -1,14 +1,6 @@
 -- The loop's invariant: the samples that are left give the buffer that is wanted.
-use mathlib.Core.Path.{◌≡◌, refl, ◌∙◌}
-use mathlib.Core.List.{List}
-use Prim.Native.Nat.{ℕ, ◌+◌, ◌-◌, ◌≤◌}
-use native.Mathlib.Nat.{div-eq_of_lt}
-use native.Mathlib.Omega.{arith}
-use lib.ListN.{drop}
-use lib.Seq.{sets}
-use Rattle.runs.specs.Turned.{turned}
-use Rattle.runs.proofs.Samples.{Left, left_less}
-use borrow.Author.Rules.{rules}
+use Prim.Native.Nat.{◌-◌}
+use Rattle.runs.proofs.Samples.{Left}
 use Rattle.runs.proofs.turn_eights.Given as goal
 
 abbrev pub invariant-loop-left : goal.invariant-loop-left

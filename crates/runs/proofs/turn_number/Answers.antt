@@ -5,7 +5,6 @@ use native.Mathlib.Nat.{add-zero}
 use native.Mathlib.Omega.{arith}
 use Rattle.runs.specs.Turned.{turned}
 use Rattle.runs.proofs.Numbers.{digits}
-use borrow.Author.Rules.{rules}
 use Rattle.runs.proofs.turn_number.Goals as goal
 
 pub returns : goal.returns

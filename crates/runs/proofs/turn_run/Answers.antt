@@ -1,5 +1,4 @@
 -- `runs::turn_run` meets its contract: each way of turning the samples round gives the same octets.
-use borrow.Author.Rules.{rules}
 use mathlib.Core.Path.{◌≡◌, refl, ap, ◌∙◌}
 use mathlib.Core.List.{List}
 use mathlib.Core.Logic.{inl, inr}

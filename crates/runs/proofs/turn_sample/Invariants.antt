@@ -1,13 +1,9 @@
 -- `runs::turn_sample` meets its contract. The loop's invariant: the stores still to come give the buffer that is wanted.
-use borrow.Author.Rules.{rules}
-use mathlib.Core.Path.{◌≡◌, refl, sym, ap, ◌∙◌}
-use mathlib.Core.List.{List}
-use Prim.Native.Nat.{ℕ, zero, suc, ◌+◌, ◌-◌, ◌≤◌, ◌<◌}
-use native.Mathlib.Numerals.{add-one}
-use native.Mathlib.Omega.{arith}
-use lib.ListN.{length, set, get_or, length-set}
+use mathlib.Core.Path.{◌≡◌}
+use Prim.Native.Nat.{◌+◌, ◌-◌, ◌≤◌}
+use lib.ListN.{length}
 use lib.Seq.{sets}
-use Rattle.runs.proofs.Places.{from_end, reversed}
+use Rattle.runs.proofs.Places.{from_end}
 use Rattle.runs.proofs.turn_sample.Given as goal
 
 abbrev pub invariant-loop-k : goal.invariant-loop-k

@@ -1,7 +1,6 @@
 -- A block of two samples is eight octets and then eight.
 use native.Mathlib.Omega.{arith}
 use Rattle.runs.proofs.Blocks.{whole_eight, two_eights}
-use borrow.Author.Rules.{rules}
 use Rattle.runs.proofs.turn_two.Goals as goal
 
 pub overflow_add-p : goal.overflow_add-p

@@ -2,7 +2,6 @@
 use mathlib.Core.Path.{ap, sym}
 use Rattle.settings.specs.declared.Change.{Change}
 use Rattle.settings.specs.Settings.{applied}
-use borrow.Author.Rules.{rules}
 use Rattle.settings.proofs.apply.Goals as goal
 
 pub returns-in-Block : goal.returns-in-Block

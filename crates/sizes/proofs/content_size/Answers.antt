@@ -1,7 +1,6 @@
 -- A null takes no more than a sample.
 use native.Mathlib.Omega.{arith}
 use Rattle.sizes.proofs.Laws.{null-le}
-use borrow.Author.Rules.{rules}
 use Rattle.sizes.proofs.content_size.Goals as goal
 
 pub overflow_add-result-2 : goal.overflow_add-result-2

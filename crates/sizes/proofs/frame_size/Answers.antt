@@ -3,7 +3,6 @@ use native.Mathlib.Omega.{arith}
 use Rattle.stores.proofs.Length.{length-shortest}
 use Rattle.sizes.specs.Size.{frame_size}
 use Rattle.sizes.proofs.Laws.{head_few}
-use borrow.Author.Rules.{rules}
 use Rattle.sizes.proofs.frame_size.Goals as goal
 
 pub overflow_add-result : goal.overflow_add-result

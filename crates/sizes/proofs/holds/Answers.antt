@@ -3,7 +3,6 @@ use Prim.Native.Nat.{◌≤◌}
 use native.Mathlib.Nat.{mul-le-mul}
 use native.Mathlib.Omega.{arith}
 use Rattle.sizes.proofs.Laws.{held_by}
-use borrow.Author.Rules.{rules}
 use Rattle.sizes.proofs.holds.Goals as goal
 
 pub overflow_mul-result : goal.overflow_mul-result

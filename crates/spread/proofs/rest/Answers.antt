@@ -1,7 +1,6 @@
 -- Of no octets all is left.
 use mathlib.Core.Path.{sym}
 use native.Mathlib.Nat.{mod-zero}
-use borrow.Author.Rules.{rules}
 use Rattle.spread.proofs.rest.Goals as goal
 
 pub returns-then-b-eq0 : goal.returns-then-b-eq0

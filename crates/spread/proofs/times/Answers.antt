@@ -1,7 +1,6 @@
 -- No octets are in none.
 use mathlib.Core.Path.{sym}
 use native.Mathlib.Nat.{div-zero}
-use borrow.Author.Rules.{rules}
 use Rattle.spread.proofs.times.Goals as goal
 
 pub returns-then-b-eq0 : goal.returns-then-b-eq0

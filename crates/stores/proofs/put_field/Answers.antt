@@ -1,5 +1,4 @@
 -- `stores::put_field` meets its contract: where the whole item fits, tag and width are stored and then the octets.
-use borrow.Author.Rules.{rules}
 use mathlib.Core.Path.{sym, ◌∙◌}
 use native.Mathlib.Omega.{arith}
 use borrow.Author.Tests.{ltb-true, ltb-false}

@@ -1,5 +1,4 @@
 -- `stores::put_octet` meets its contract: where the octet fits it is one store, and else nothing is.
-use borrow.Author.Rules.{rules}
 use mathlib.Core.Path.{refl, sym, ◌∙◌}
 use native.Mathlib.Omega.{arith}
 use borrow.Author.Tests.{ltb-true, ltb-false}

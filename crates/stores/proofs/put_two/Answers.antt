@@ -1,5 +1,4 @@
 -- `stores::put_two` meets its contract: where the octets fit they are two stores, and else nothing is.
-use borrow.Author.Rules.{rules}
 use mathlib.Core.Path.{refl, sym, ◌∙◌}
 use native.Mathlib.Numerals.{add-one}
 use native.Mathlib.Omega.{arith}

@@ -2,11 +2,8 @@
 use mathlib.Core.Path.{refl, sym, ap, ◌∙◌}
 use Prim.Native.Nat.{◌+◌, ◌-◌}
 use native.Mathlib.Omega.{arith}
-use borrow.Author.Rules.{rules}
-use borrow.Author.Tests.{not-true, not-false}
-use lib.ListN.{length}
 use Rattle.definitions.specs.declared.Tagged.{Tagged}
-use Rattle.stretch.proofs.Runs.{RunningStretch, step-none, step-long, step_past, step-here, running_first, running_ends, running_goes, value-here, leaves-block, leaves-class, leaves-lead, leaves_type, leaves-interval, leaves-resolution, leaves-offset, leaves-null, leaves-same, leaves_nothing}
+use Rattle.stretch.proofs.Runs.{step-none, step-long, step_past, step-here, running_first, running_ends, running_goes, value-here, leaves-block, leaves-class, leaves-lead, leaves_type, leaves-interval, leaves-resolution, leaves-offset, leaves-null, leaves-same, leaves_nothing}
 use Rattle.stretch.proofs.run.Goals as goal
 
 pub loop-at-init : goal.loop-at-init

@@ -3,8 +3,7 @@ use mathlib.Core.Path.{sym, ap, ◌∙◌}
 use Prim.Native.Nat.{◌-◌}
 use native.Mathlib.Omega.{arith}
 use Rattle.spread.specs.Spread.{lies_spread}
-use Rattle.strides.proofs.Channels.{Checking, checking_begins, checking_unlaid, checking_turns, checking_ends}
-use borrow.Author.Rules.{rules}
+use Rattle.strides.proofs.Channels.{checking_begins, checking_unlaid, checking_turns, checking_ends}
 use Rattle.strides.proofs.all_lie.Goals as goal
 
 pub loop-channel-init : goal.loop-channel-init

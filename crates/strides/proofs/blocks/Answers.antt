@@ -2,7 +2,7 @@
 use Prim.Native.Nat.{◌-◌}
 use native.Mathlib.Omega.{arith}
 use borrow.Author.Rules.{rules}
-use Rattle.strides.proofs.Walks.{Blocking, blocks_begin, piece_some, block-starts, block_within, blocks_turn, blocks_end}
+use Rattle.strides.proofs.Walks.{blocks_begin, piece_some, block-starts, block_within, blocks_turn, blocks_end}
 use Rattle.strides.proofs.blocks.Goals as goal
 
 pub loop-p-init : goal.loop-p-init

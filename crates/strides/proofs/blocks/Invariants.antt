@@ -1,8 +1,6 @@
 -- `strides::blocks` meets its contract. The loop's invariant: the samples that are left give the buffer that is wanted.
 use Prim.Native.Nat.{◌-◌}
-use native.Mathlib.Omega.{arith}
-use borrow.Author.Rules.{rules}
-use Rattle.strides.proofs.Walks.{Blocking, blocks_begin, piece_some, block-starts, block_within, blocks_turn, blocks_end}
+use Rattle.strides.proofs.Walks.{Blocking}
 use Rattle.strides.proofs.blocks.Given as goal
 
 abbrev pub invariant-loop-p : goal.invariant-loop-p

@@ -1,8 +1,7 @@
 -- A turn is four turns of `run2`, which stores what is left.
 use mathlib.Core.Path.{refl, ◌∙◌}
 use native.Mathlib.Omega.{arith}
-use borrow.Author.Rules.{rules}
-use Rattle.strides.proofs.Walks.{Running, run_begins, run_within, run_long, four_there, run_four}
+use Rattle.strides.proofs.Walks.{run_begins, run_within, run_long, four_there, run_four}
 use Rattle.strides.proofs.column2.Goals as goal
 
 pub overflow_mul-turn : goal.overflow_mul-turn

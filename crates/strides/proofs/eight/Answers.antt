@@ -2,7 +2,6 @@
 use mathlib.Core.Path.{refl}
 use Rattle.octets.specs.Number.{big_from}
 use Rattle.octets.proofs.Octets.{here_big, here-little}
-use borrow.Author.Rules.{rules}
 use Rattle.strides.proofs.eight.Goals as goal
 
 pub returns-then-little : goal.returns-then-little

@@ -2,7 +2,6 @@
 use mathlib.Core.Path.{ap, ◌∙◌}
 use lib.Seq.{sets}
 use Rattle.strides.proofs.Walks.{even_there, even_within, even_is}
-use borrow.Author.Rules.{rules}
 use Rattle.strides.proofs.fill.Goals as goal
 
 pub run-requires : goal.run-requires

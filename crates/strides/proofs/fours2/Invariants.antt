@@ -1,8 +1,5 @@
 -- A turn is four turns of `run2`, which stores what is left.
-use mathlib.Core.Path.{refl, ◌∙◌}
-use native.Mathlib.Omega.{arith}
-use borrow.Author.Rules.{rules}
-use Rattle.strides.proofs.Walks.{Running, run_begins, run_within, run_long, four_there, run_four}
+use Rattle.strides.proofs.Walks.{Running}
 use Rattle.strides.proofs.fours2.Given as goal
 
 abbrev pub invariant-loop-left : goal.invariant-loop-left

@@ -2,8 +2,7 @@
 use mathlib.Core.Path.{◌∙◌}
 use lib.ListN.{length-set}
 use native.Mathlib.Omega.{arith}
-use borrow.Author.Rules.{rules}
-use Rattle.strides.proofs.Walks.{Running, run_begins, run_within, run_long, four_there, run_four}
+use Rattle.strides.proofs.Walks.{run_begins, run_within, run_long, four_there, run_four}
 use Rattle.strides.proofs.fours4.Goals as goal
 
 pub overflow_mul-twice : goal.overflow_mul-twice

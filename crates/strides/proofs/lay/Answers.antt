@@ -1,7 +1,6 @@
 -- By the test; no samples leave the buffer as it is.
 use mathlib.Core.Path.{sym, ◌∙◌}
 use Rattle.strides.proofs.Laying.{lays_in_lem, no_bits}
-use borrow.Author.Rules.{rules}
 use Rattle.strides.proofs.lay.Goals as goal
 
 pub lay_blocks-requires : goal.lay_blocks-requires

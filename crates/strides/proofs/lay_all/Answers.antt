@@ -1,8 +1,7 @@
 -- The loop's invariant: the samples of the channels that are left give the buffer that is wanted.
 use Prim.Native.Nat.{◌-◌}
 use native.Mathlib.Omega.{arith}
-use Rattle.strides.proofs.Channels.{Laying, laying_begins, laying_can, laying_turns, laying-ends}
-use borrow.Author.Rules.{rules}
+use Rattle.strides.proofs.Channels.{laying_begins, laying_can, laying_turns, laying-ends}
 use Rattle.strides.proofs.lay_all.Goals as goal
 
 pub loop-channel-init : goal.loop-channel-init

@@ -1,8 +1,6 @@
 -- The loop's invariant: the samples of the channels that are left give the buffer that is wanted.
 use Prim.Native.Nat.{◌-◌}
-use native.Mathlib.Omega.{arith}
-use Rattle.strides.proofs.Channels.{Laying, laying_begins, laying_can, laying_turns, laying-ends}
-use borrow.Author.Rules.{rules}
+use Rattle.strides.proofs.Channels.{Laying}
 use Rattle.strides.proofs.lay_all.Given as goal
 
 abbrev pub invariant-loop-channel : goal.invariant-loop-channel

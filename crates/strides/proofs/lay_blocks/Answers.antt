@@ -3,7 +3,6 @@ use mathlib.Core.Path.{ap, ◌∙◌}
 use native.Mathlib.Omega.{arith}
 use lib.Seq.{sets}
 use Rattle.strides.proofs.Laying.{block-some, start-inside, block-rest, width_wide, in_blocks, laid-bits}
-use borrow.Author.Rules.{rules}
 use Rattle.strides.proofs.lay_blocks.Goals as goal
 
 pub block_of-block-requires : goal.block_of-block-requires

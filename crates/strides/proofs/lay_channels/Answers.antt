@@ -4,7 +4,6 @@ use lib.ListN.{length}
 use Rattle.heads.specs.Answer.{map_answer}
 use Rattle.strides.specs.Channels.{spreads_from}
 use Rattle.strides.proofs.Channels.{kept, swept_refused, swept_count, swept_left}
-use borrow.Author.Rules.{rules}
 use Rattle.strides.proofs.lay_channels.Goals as goal
 
 pub lay_all-requires : goal.lay_all-requires

@@ -3,7 +3,6 @@ use mathlib.Core.Path.{ap, sym, ◌∙◌}
 use native.Mathlib.Omega.{arith}
 use lib.Seq.{sets}
 use Rattle.strides.proofs.Laying.{width_wide, no_bits, whole-small, whole_blocks, whole-bits, single_inside, single_bits}
-use borrow.Author.Rules.{rules}
 use Rattle.strides.proofs.lay_whole.Goals as goal
 
 pub overflow_add-start : goal.overflow_add-start

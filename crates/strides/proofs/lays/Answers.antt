@@ -1,6 +1,5 @@
 -- By the tests one after the other.
 use mathlib.Core.Path.{sym, ◌∙◌}
-use borrow.Author.Rules.{rules}
 use Rattle.strides.proofs.lays.Goals as goal
 
 pub returns-then-among-2 : goal.returns-then-among-2

@@ -1,6 +1,5 @@
 -- The octet at the place is the sample's bits, in either order.
 use Rattle.octets.proofs.Octets.{here_one}
-use borrow.Author.Rules.{rules}
 use Rattle.strides.proofs.one.Goals as goal
 
 pub returns : goal.returns

@@ -1,6 +1,5 @@
 -- By the width, and by the step where samples lie one right behind the other: each has its loop.
 use Rattle.strides.proofs.Walks.{wide_eight}
-use borrow.Author.Rules.{rules}
 use Rattle.strides.proofs.run.Goals as goal
 
 pub run1-requires : goal.run1-requires

@@ -1,7 +1,5 @@
 -- `strides::run1` meets its contract. The loop's invariant: the samples that are left give the buffer that is wanted.
-use native.Mathlib.Omega.{arith}
-use borrow.Author.Rules.{rules}
-use Rattle.strides.proofs.Walks.{Running, run_begins, run_there, run_turns, run_ends}
+use Rattle.strides.proofs.Walks.{Running}
 use Rattle.strides.proofs.run1.Given as goal
 
 abbrev pub invariant-loop-left : goal.invariant-loop-left

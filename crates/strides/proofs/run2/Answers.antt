@@ -1,7 +1,6 @@
 -- `strides::run2` meets its contract. The loop's invariant: the samples that are left give the buffer that is wanted.
 use native.Mathlib.Omega.{arith}
-use borrow.Author.Rules.{rules}
-use Rattle.strides.proofs.Walks.{Running, run_begins, run_there, run_turns, run_ends}
+use Rattle.strides.proofs.Walks.{run_begins, run_there, run_turns, run_ends}
 use Rattle.strides.proofs.run2.Goals as goal
 
 pub loop-left-init : goal.loop-left-init

@@ -1,5 +1,4 @@
 -- What is kept with the channel's record.
-use borrow.Author.Rules.{rules}
 use Rattle.strides.proofs.spread_at.Goals as goal
 
 pub returns : goal.returns

@@ -1,7 +1,6 @@
 -- One sample after the other.
 use native.Mathlib.Omega.{arith}
 use lib.ListN.{length-set}
-use borrow.Author.Rules.{rules}
 use Rattle.strides.proofs.turn2.Goals as goal
 
 pub bounds-out-p-2 : goal.bounds-out-p-2

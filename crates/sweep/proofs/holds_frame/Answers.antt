@@ -5,7 +5,6 @@ use lib.ListN.{length-drop}
 use Rattle.walk.specs.declared.Waveform.{Waveform}
 use Rattle.kept.specs.Words.{head_words}
 use Rattle.sweep.proofs.Sweeping.{frame-few, frame-none, frame-held}
-use borrow.Author.Rules.{rules}
 use Rattle.sweep.proofs.holds_frame.Goals as goal
 
 pub returns-then-w-lt-HEAD : goal.returns-then-w-lt-HEAD

@@ -11,7 +11,6 @@ use Rattle.kept.specs.Words.{head_words}
 use Rattle.kept.proofs.Laws.{lent_all}
 use Rattle.sweep.specs.Sweep.{sequences_by, spreads_in}
 use Rattle.sweep.proofs.Sweeping.{frame-room, sweep_none, sweep_held}
-use borrow.Author.Rules.{rules}
 use Rattle.sweep.proofs.sweep.Goals as goal
 
 pub slice_bounds-lay_channels-count : goal.slice_bounds-lay_channels-count

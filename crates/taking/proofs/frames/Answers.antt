@@ -1,5 +1,4 @@
 -- A waveform is measured, and gives a frame or is refused.
-use Rattle.std.proofs.Common.{rules}
 use Rattle.taking.proofs.Laws.{taken_last, measured-refused, measured-taken}
 use Rattle.taking.proofs.frames.Goals as goal
 

@@ -1,5 +1,5 @@
 -- One item more is read.
-use Rattle.std.proofs.Common.{ℕ, ap, rules}
+use Rattle.std.proofs.Common.{ℕ, ap}
 use Rattle.taking.specs.declared.Went.{Went}
 use Rattle.taking.proofs.leads_on.Goals as goal
 

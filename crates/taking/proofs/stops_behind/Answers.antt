@@ -1,5 +1,5 @@
 -- One item and one frame more are read.
-use Rattle.std.proofs.Common.{ℕ, ◌+◌, ap, rules}
+use Rattle.std.proofs.Common.{ℕ, ◌+◌, ap}
 use Rattle.walk.specs.declared.Step.{Step}
 use Rattle.taking.specs.declared.Went.{Went}
 use Rattle.taking.proofs.stops_behind.Goals as goal

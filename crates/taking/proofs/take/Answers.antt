@@ -1,5 +1,5 @@
 -- Each effect has its law.
-use Rattle.std.proofs.Common.{refl, rules}
+use Rattle.std.proofs.Common.{refl}
 use Rattle.taking.proofs.Laws.{plain_takes, count_takes, all_takes, one_takes, refused_takes, takes_as}
 use Rattle.taking.proofs.take.Goals as goal
 

@@ -3,7 +3,6 @@ use mathlib.Core.Path.{sym, ap, ◌∙◌}
 use Rattle.heads.specs.Answer.{answered, map_answer}
 use Rattle.view.specs.View.{there_seen}
 use Rattle.reader.specs.Answer.{looked_up_says}
-use borrow.Author.Rules.{rules}
 use Rattle.tour.proofs.there.Goals as goal
 
 pub returns-in-Refused : goal.returns-in-Refused

@@ -2,7 +2,6 @@
 use mathlib.Core.Path.{refl, sym, ap, ◌∙◌}
 use Rattle.heads.specs.Answer.{left_by}
 use Rattle.reader.specs.Answer.{looked_up_says}
-use borrow.Author.Rules.{rules}
 use Rattle.tour.proofs.values.Goals as goal
 
 pub returns-in-Refused : goal.returns-in-Refused

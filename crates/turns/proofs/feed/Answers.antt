@@ -1,12 +1,11 @@
 -- The loop's invariant: how far the call has come.
 use Prim.Native.Nat.{◌^◌, ◌<◌}
 use Rattle.turns.proofs.Laws.{lent_more, lent_last, lent_inside, lent_room, lent_long, lent_less}
-use mathlib.Core.Path.{◌≡◌, refl, ◌∙◌}
-use lib.ListN.{length-drop}
+use mathlib.Core.Path.{◌∙◌}
 use Prim.Native.Nat.{◌*◌, ◌≤◌}
 use Rattle.rows.specs.Rows.{row_words}
 use Rattle.turns.proofs.Laws.{rows-kept}
-use Rattle.turns.proofs.Laws.{Feeding, feed_first, feed_more, feed_last}
+use Rattle.turns.proofs.Laws.{feed_first}
 use native.Mathlib.Omega.{arith}
 use Prim.Native.Nat.{◌-◌}
 use lib.ListN.{length}

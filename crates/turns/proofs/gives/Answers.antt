@@ -1,8 +1,6 @@
 -- By the limit and the stage.
 use Rattle.turns.proofs.Laws.{gives_as, gives_nothing, gives-past, gives_head, gives-value, gives-waits, gives-decided, gives-behind, gives_at}
 use native.Mathlib.Omega.{arith}
-use Rattle.link.specs.Link.{Given}
-use borrow.Author.Rules.{rules}
 use Rattle.turns.proofs.gives.Goals as goal
 
 pub returns-then-x : goal.returns-then-x

@@ -3,7 +3,6 @@ use mathlib.Core.Path.{sym, ap}
 use Rattle.held.specs.declared.Stage.{Stage}
 use Rattle.held.specs.Words.{phase_of}
 use Rattle.link.specs.Feed.{is_head}
-use borrow.Author.Rules.{rules}
 use Rattle.turns.proofs.is_head.Goals as goal
 
 pub returns-in-Head : goal.returns-in-Head

@@ -1,7 +1,6 @@
 -- Nothing, or whole items.
 use Rattle.turns.proofs.Laws.{items-none, items_run}
 use native.Mathlib.Omega.{arith}
-use borrow.Author.Rules.{rules}
 use Rattle.turns.proofs.items_on.Goals as goal
 
 pub returns-then-x-ne0 : goal.returns-then-x-ne0

@@ -2,7 +2,6 @@
 use borrow.Author.Tests.{eqb-true}
 use Rattle.turns.proofs.Laws.{run_on, pass_run}
 use borrow.Author.Tests.{eqb-true}
-use borrow.Author.Rules.{rules}
 use Rattle.turns.proofs.many.Goals as goal
 
 pub samples_on-requires : goal.samples_on-requires

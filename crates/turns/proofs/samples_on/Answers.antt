@@ -3,7 +3,6 @@ use Rattle.turns.proofs.Laws.{samples-none, samples_run}
 use native.Mathlib.Omega.{arith}
 use mathlib.Core.Path.{ap, ◌∙◌}
 use lib.ListN.{length, length-take}
-use borrow.Author.Rules.{rules}
 use Rattle.turns.proofs.samples_on.Goals as goal
 
 pub returns-then-l-eq0 : goal.returns-then-l-eq0

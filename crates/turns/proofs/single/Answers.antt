@@ -1,7 +1,6 @@
 -- By what the octet gives out.
 use Rattle.turns.proofs.Laws.{turn_nothing, turn_full, turn_given}
 use mathlib.Core.Path.{refl}
-use borrow.Author.Rules.{rules}
 use Rattle.turns.proofs.single.Goals as goal
 
 pub returns-in-Nothing : goal.returns-in-Nothing

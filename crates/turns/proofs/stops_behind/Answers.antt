@@ -1,7 +1,6 @@
 -- By the two tests.
 use Rattle.turns.proofs.Laws.{stops-decided, stops_told, stops-not}
 use mathlib.Core.Path.{refl}
-use borrow.Author.Rules.{rules}
 use Rattle.turns.proofs.stops_behind.Goals as goal
 
 pub returns-then-is_decided : goal.returns-then-is_decided

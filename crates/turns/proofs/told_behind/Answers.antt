@@ -1,7 +1,6 @@
 -- By whether octets were taken.
 use Rattle.turns.proofs.Laws.{told_none, told_some}
 use native.Mathlib.Omega.{arith}
-use borrow.Author.Rules.{rules}
 use Rattle.turns.proofs.told_behind.Goals as goal
 
 pub returns-then-taken-eq0 : goal.returns-then-taken-eq0

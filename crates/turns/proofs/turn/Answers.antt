@@ -1,7 +1,6 @@
 -- Nothing, many octets, or one.
 use Rattle.turns.proofs.Laws.{turn_none, turn_decided, turn_run, still_goes, turn_after}
 use native.Mathlib.Omega.{arith}
-use borrow.Author.Rules.{rules}
 use Rattle.turns.proofs.turn.Goals as goal
 
 pub returns-then-u-eq0 : goal.returns-then-u-eq0

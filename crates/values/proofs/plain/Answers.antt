@@ -10,7 +10,6 @@ use Rattle.octets.specs.Number.{range, twos}
 use Rattle.octets.proofs.Laws.{cap}
 use Rattle.values.specs.Sample.{width_of, whole_said, value_says, plain_of}
 use Rattle.values.proofs.Laws.{three, plain_signed, plain_unsigned, plain_other, past}
-use borrow.Author.Rules.{rules}
 use Rattle.values.proofs.plain.Goals as goal
 
 -- the bits are a number of at most w octets, where the sample has no more

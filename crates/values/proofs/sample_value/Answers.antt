@@ -6,7 +6,6 @@ use mathlib.Core.Logic.{◌⊎◌, inl, inr}
 use Rattle.octets.specs.Number.{low_of}
 use Rattle.values.specs.Sample.{value_says, low_bits, value_of}
 use Rattle.values.proofs.Laws.{low_below, null_yes, null_no}
-use borrow.Author.Rules.{rules}
 use Rattle.values.proofs.sample_value.Goals as goal
 use Rattle.values.proofs.sample_value.Goals.{then-null-ne0+else-null-n, else-null-ne0}
 
@@ -29,6 +28,7 @@ returns c =
     c.lowest-n.ensures ∙ ap (λ (w : ℕ). low_of w c.args.bits) c.width.ensures in
     let not_null : (c.args.null.width ≡ 0) ⊎ (c.args.null.bits ≡ c.lowest-n.result → ⊥) =
     elim c.if-null-ne0.branch [
-      then-null-ne0+else-null-n w ↦ inr w.if-null-n.false | else-null-ne0 w ↦ inl w.if-null-ne0.false
+      | then-null-ne0+else-null-n w ↦ inr w.if-null-n.false
+      | else-null-ne0 w ↦ inl w.if-null-ne0.false
     ] in
     c.plain.ensures ∙ null_no _ _ _ (not_null) ∙ ap (value_of c.args.datatype c.args.null) (looked_at)

@@ -7,7 +7,6 @@ use mir.Syntax.{w64}
 use mir.Val.{to_z}
 use mir.Facts.{to_z_pos, to_z-neg}
 use Rattle.values.specs.Told.{whole_told}
-use borrow.Author.Rules.{rules}
 use Rattle.values.proofs.whole_told.Goals as goal
 
 pub returns-then-bits-last : goal.returns-then-bits-last

@@ -1,7 +1,6 @@
 -- By the arm of the match.
 use mathlib.Core.Path.{ap, sym}
 use Rattle.verdict.specs.Verdict.{place_at}
-use borrow.Author.Rules.{rules}
 use Rattle.verdict.proofs.place_of.Goals as goal
 
 pub returns-in-Plain : goal.returns-in-Plain

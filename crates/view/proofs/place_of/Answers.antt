@@ -1,7 +1,6 @@
 -- Every sum on the way is at most the place, which is small.
 use native.Mathlib.Omega.{arith}
 use Rattle.view.proofs.Lying.{place-sum}
-use borrow.Author.Rules.{rules}
 use Rattle.view.proofs.place_of.Goals as goal
 
 pub overflow_mul-offset : goal.overflow_mul-offset

@@ -1,5 +1,5 @@
 -- The place is that of the item.
-use Rattle.std.proofs.Common.{ℕ, ap, rules}
+use Rattle.std.proofs.Common.{ℕ, ap}
 use Rattle.items.specs.Walk.{refusal}
 use Rattle.walk.specs.declared.Step.{Step}
 use Rattle.walk.proofs.refused_at.Goals as goal

@@ -1,6 +1,5 @@
 -- The records behind the head are sent back, and the first head is stored.
 use native.Mathlib.Omega.{arith}
-use borrow.Author.Rules.{rules}
 use Rattle.walking.proofs.Steps.{begun, begun-few}
 use Rattle.walking.proofs.begin.Goals as goal
 

@@ -1,7 +1,6 @@
 -- By the test: nothing is stored, or where the walk has come to.
 use native.Mathlib.Omega.{arith}
 use Rattle.walking.proofs.Steps.{goes-few, goes_on}
-use borrow.Author.Rules.{rules}
 use Rattle.walking.proofs.next.Goals as goal
 
 pub returns-then-w-lt-HEAD : goal.returns-then-w-lt-HEAD

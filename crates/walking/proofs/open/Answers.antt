@@ -1,6 +1,5 @@
 -- By the answer of the check.
 use mathlib.Core.Path.{sym, ap, ◌∙◌}
-use borrow.Author.Rules.{rules}
 use Rattle.verdict.specs.Verdict.{checked_says}
 use Rattle.walking.proofs.Steps.{opens_refused, opens_begun}
 use Rattle.walking.proofs.open.Goals as goal

@@ -4,7 +4,6 @@ use native.Mathlib.Omega.{arith}
 use Rattle.heads.specs.Answer.{answered}
 use Rattle.walk.specs.declared.Waveform.{Waveform}
 use Rattle.walking.proofs.Views.{view_few, view_none, view_past, view_there}
-use borrow.Author.Rules.{rules}
 use Rattle.walking.proofs.view_at.Goals as goal
 
 pub returns-then-w-lt-HEAD : goal.returns-then-w-lt-HEAD

@@ -5,7 +5,6 @@ use lib.ListN.{get_or-eq_default}
 use Prim.Native.Nat.{◌+◌, ◌*◌, ◌≤◌}
 use lib.ListN.{length}
 use Rattle.words.specs.Words.{record_words, below_word}
-use borrow.Author.Rules.{rules}
 use Rattle.words.proofs.below.Goals as goal
 
 pub returns : goal.returns

@@ -1,7 +1,6 @@
 -- Each number by itself.
 use mathlib.Core.Path.{◌∙◌, ap}
 use Rattle.octets.specs.Number.{low_of}
-use borrow.Author.Rules.{rules}
 use Rattle.words.proofs.bits.Goals as goal
 
 pub returns : goal.returns

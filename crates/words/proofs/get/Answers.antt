@@ -3,7 +3,6 @@ use mathlib.Core.Path.{◌∙◌, sym}
 use native.Mathlib.Omega.{arith}
 use Rattle.dated.specs.Dated.{zero_dated}
 use Rattle.words.proofs.Laws.{records-at, records-past}
-use borrow.Author.Rules.{rules}
 use Rattle.words.proofs.get.Goals as goal
 
 pub returns-then-k-t : goal.returns-then-k-t

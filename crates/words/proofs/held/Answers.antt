@@ -1,7 +1,6 @@
 -- The record's settings.
 use mathlib.Core.Path.{ap}
 use Rattle.dated.specs.declared.Dated.{Dated}
-use borrow.Author.Rules.{rules}
 use Rattle.words.proofs.held.Goals as goal
 
 pub returns : goal.returns

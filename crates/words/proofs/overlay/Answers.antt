@@ -1,10 +1,8 @@
 -- The loop's invariant: the words before a are stored.
-use Prim.Native.Nat.{◌+◌, ◌-◌, ◌≤◌}
+use Prim.Native.Nat.{◌-◌}
 use mathlib.Core.Path.{◌≡◌}
 use native.Mathlib.Omega.{arith}
-use lib.ListN.{length}
-use borrow.Author.Rules.{rules}
-use Rattle.words.specs.Words.{record_numbers, Overlaid}
+use Rattle.words.specs.Words.{record_numbers}
 use Rattle.words.proofs.Laws.{overlaid_more}
 use Rattle.words.proofs.overlay.Goals as goal
 

@@ -1,7 +1,6 @@
 -- By the test: nothing is stored, or the record's words at its place.
 use native.Mathlib.Omega.{arith}
 use Rattle.words.proofs.Laws.{holding-none, holding_put}
-use borrow.Author.Rules.{rules}
 use Rattle.words.proofs.put.Goals as goal
 
 pub returns-then-t-k : goal.returns-then-t-k

@@ -2,7 +2,6 @@
 use mathlib.Core.Path.{◌∙◌, ap}
 use Rattle.octets.specs.Number.{low_of}
 use Rattle.dated.specs.Dated.{noted}
-use borrow.Author.Rules.{rules}
 use Rattle.words.proofs.record_at.Goals as goal
 
 pub returns : goal.returns

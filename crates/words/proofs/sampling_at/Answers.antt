@@ -7,7 +7,6 @@ use Rattle.dated.specs.Dated.{zero_dated}
 use Rattle.words.specs.declared.Sampling.{Sampling}
 use Rattle.words.specs.Words.{sampling_of}
 use Rattle.words.proofs.Laws.{records-at, records-past}
-use borrow.Author.Rules.{rules}
 use Rattle.words.proofs.sampling_at.Goals as goal
 
 -- The settings of a record that is found.

@@ -1,5 +1,5 @@
 -- A repeat of the default record, which `default` answers.
-use Rattle.std.proofs.Common.{replicate, ap, rules}
+use Rattle.std.proofs.Common.{replicate, ap}
 use Rattle.settings.specs.declared.Settings.{Settings}
 use Rattle.settings.specs.Settings.{channel_limit}
 use Rattle.dated.specs.Dated.{noted}

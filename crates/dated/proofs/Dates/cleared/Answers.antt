@@ -1,5 +1,4 @@
 -- The time is one later.
-use Rattle.std.proofs.Common.{rules}
 use Rattle.dated.proofs.Dates.cleared.Goals as goal
 
 pub returns : goal.returns

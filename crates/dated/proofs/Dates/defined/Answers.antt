@@ -1,5 +1,4 @@
 -- One time is noted, and now is one later.
-use Rattle.std.proofs.Common.{rules}
 use Rattle.dated.proofs.Dates.defined.Goals as goal
 
 pub returns : goal.returns

@@ -1,7 +1,6 @@
 -- By the arm of the match.
 use mathlib.Core.Path.{ap, sym}
 use Rattle.items.specs.Walk.{cursor}
-use borrow.Author.Rules.{rules}
 use Rattle.items.proofs.Cursor.renewed.Goals as goal
 
 pub returns-in-Root : goal.returns-in-Root

@@ -1,5 +1,5 @@
 -- Each sum is one channel's octets more: a block length is below 2 ^ 32 and a width at most 8.
-use Rattle.std.proofs.Common.{◌≡◌, ℕ, ◌+◌, ◌*◌, ◌%◌, ◌^◌, ◌<◌, ◌≤◌, ltb, refl, ap, ◌∙◌, mul-le-mul_left, arith, rules}
+use Rattle.std.proofs.Common.{◌≡◌, ℕ, ◌+◌, ◌*◌, ◌%◌, ◌^◌, ◌<◌, ◌≤◌, ltb, refl, ap, ◌∙◌, mul-le-mul_left, arith}
 use Rattle.octets.specs.Pick.{pick, both}
 use Rattle.values.proofs.Laws.{width_le}
 use Rattle.sizes.specs.Size.{group_size}

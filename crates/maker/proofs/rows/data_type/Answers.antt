@@ -2,7 +2,6 @@
 use Rattle.maker.proofs.Channels.{numbers_split}
 use Rattle.maker.specs.Given.{given_at}
 use native.Mathlib.Omega.{arith}
-use borrow.Author.Rules.{rules}
 use Rattle.maker.proofs.rows.data_type.Goals as goal
 
 pub overflow_cast-result : goal.overflow_cast-result

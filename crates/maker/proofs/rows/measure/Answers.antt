@@ -1,10 +1,8 @@
 -- Row by row: the first one outside the table decides, and the layout is summed up.
-use Rattle.maker.proofs.Channels.{row-there, Measuring, measuring_first, measuring_next, measuring_outside, measuring_done}
-use borrow.Author.Tests.{not-true, not-false}
+use Rattle.maker.proofs.Channels.{row-there, measuring_first, measuring_next, measuring_outside, measuring_done}
 use mathlib.Core.Path.{sym, ◌∙◌}
 use native.Mathlib.Omega.{arith}
 use Prim.Native.Nat.{◌-◌}
-use borrow.Author.Rules.{rules}
 use Rattle.maker.proofs.rows.measure.Goals as goal
 
 pub loop-i-init : goal.loop-i-init

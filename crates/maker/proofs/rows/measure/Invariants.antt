@@ -1,10 +1,6 @@
 -- Row by row: the first one outside the table decides, and the layout is summed up.
-use Rattle.maker.proofs.Channels.{row-there, Measuring, measuring_first, measuring_next, measuring_outside, measuring_done}
-use borrow.Author.Tests.{not-true, not-false}
-use mathlib.Core.Path.{sym, ◌∙◌}
-use native.Mathlib.Omega.{arith}
+use Rattle.maker.proofs.Channels.{Measuring}
 use Prim.Native.Nat.{◌-◌}
-use borrow.Author.Rules.{rules}
 use Rattle.maker.proofs.rows.measure.Given as goal
 
 abbrev pub invariant-loop-i : goal.invariant-loop-i

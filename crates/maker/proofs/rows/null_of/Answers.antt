@@ -3,7 +3,6 @@ use Rattle.maker.proofs.Channels.{null-some}
 use Rattle.maker.specs.Given.{given_at}
 use Rattle.maker.specs.Given.{null_made}
 use mathlib.Core.Path.{sym, ◌∙◌}
-use borrow.Author.Rules.{rules}
 use Rattle.maker.proofs.rows.null_of.Goals as goal
 
 pub returns-then-no_null : goal.returns-then-no_null

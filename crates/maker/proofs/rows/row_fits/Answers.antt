@@ -1,9 +1,7 @@
 -- The bits are looked at where the data type is in the table.
 use Rattle.maker.specs.Given.{in_table}
-use borrow.Author.Tests.{not-true, not-false}
 use mathlib.Core.Path.{sym, ap₂, ◌∙◌}
 use Rattle.octets.specs.Pick.{both}
-use borrow.Author.Rules.{rules}
 use Rattle.maker.proofs.rows.row_fits.Goals as goal
 
 pub returns-then-not-numbers_fit : goal.returns-then-not-numbers_fit

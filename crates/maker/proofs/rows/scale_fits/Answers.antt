@@ -2,7 +2,6 @@
 use Rattle.maker.specs.Given.{scale_in_table}
 use Rattle.octets.specs.Pick.{both}
 use mathlib.Core.Path.{ap₂, ◌∙◌}
-use borrow.Author.Rules.{rules}
 use Rattle.maker.proofs.rows.scale_fits.Goals as goal
 
 pub returns : goal.returns

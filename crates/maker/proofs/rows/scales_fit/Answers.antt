@@ -6,7 +6,6 @@ use Rattle.maker.specs.Given.{scale_in_table, scales_in_table}
 use Rattle.settings.specs.Settings.{last_interval_unit, last_resolution_unit}
 use Rattle.octets.specs.Pick.{both}
 use mathlib.Core.Path.{ap, ap₂, ◌∙◌}
-use borrow.Author.Rules.{rules}
 use Rattle.maker.proofs.rows.scales_fit.Goals as goal
 
 pub returns : goal.returns

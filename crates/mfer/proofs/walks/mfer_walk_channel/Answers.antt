@@ -1,7 +1,6 @@
 -- By the channel that is looked up.
 use mathlib.Core.Path.{ap, ◌∙◌}
 use Rattle.outputs.specs.Walks.{channel_out}
-use borrow.Author.Rules.{rules}
 use Rattle.mfer.proofs.walks.mfer_walk_channel.Goals as goal
 
 pub returns : goal.returns

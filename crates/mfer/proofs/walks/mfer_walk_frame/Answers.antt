@@ -1,7 +1,6 @@
 -- By the answer of the reading.
 use mathlib.Core.Path.{ap, ◌∙◌}
 use Rattle.outputs.specs.Outputs.{count_out}
-use borrow.Author.Rules.{rules}
 use Rattle.mfer.proofs.walks.mfer_walk_frame.Goals as goal
 
 pub returns : goal.returns

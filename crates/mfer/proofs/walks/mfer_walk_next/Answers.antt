@@ -1,6 +1,5 @@
 -- By the step that the walk comes to.
 use Rattle.mfer.proofs.Handed.{next_handed}
-use borrow.Author.Rules.{rules}
 use Rattle.mfer.proofs.walks.mfer_walk_next.Goals as goal
 
 pub returns : goal.returns

@@ -6,7 +6,6 @@ use Rattle.pass.specs.declared.Found.{Found}
 use Rattle.pass.specs.Passing.{view_met}
 use Rattle.pass.proofs.Scans.{kept_this, kept_before}
 use native.Mathlib.Omega.{arith}
-use borrow.Author.Rules.{rules}
 use Rattle.pass.proofs.Met.with_frame.Goals as goal
 
 pub returns-then-self-asked : goal.returns-then-self-asked

@@ -4,7 +4,6 @@ use native.Mathlib.Nat.{mul-le-mul}
 use native.Mathlib.Omega.{arith}
 use mir.Syntax.{w64}
 use mir.Val.{Fits}
-use borrow.Author.Rules.{rules}
 use Rattle.spread.proofs.Spread.count.Goals as goal
 
 product : {a b : ℕ} → a ≤ 4294967295 → b ≤ 4294967295 → Fits w64 (a * b)

@@ -5,7 +5,6 @@ use native.Mathlib.Nat.{mul-le-mul}
 use native.Mathlib.Omega.{arith}
 use Rattle.spread.specs.Spread.{width_spread}
 use Rattle.spread.proofs.Counting.{counted-all, counted-some, counted-block, counted-fits}
-use borrow.Author.Rules.{rules}
 use Rattle.spread.proofs.Spread.cut.Goals as goal
 
 pub overflow_mul-result : goal.overflow_mul-result

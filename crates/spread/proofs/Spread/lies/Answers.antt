@@ -6,7 +6,6 @@ use native.Mathlib.Omega.{arith}
 use borrow.Author.Tests.{lt-leb}
 use Rattle.values.proofs.Laws.{width_le}
 use Rattle.spread.proofs.Lying.{lies_narrow, lies_tests}
-use borrow.Author.Rules.{rules}
 use Rattle.spread.proofs.Spread.lies.Goals as goal
 
 pub returns-then-size-gt-OCTETS : goal.returns-then-size-gt-OCTETS

@@ -4,7 +4,6 @@ use mathlib.Core.Path.{◌∙◌}
 use native.Mathlib.Nat.{mul-le-mul}
 use native.Mathlib.Omega.{arith}
 use Rattle.spread.proofs.Counting.{counted-whole}
-use borrow.Author.Rules.{rules}
 use Rattle.spread.proofs.Spread.there.Goals as goal
 
 pub overflow_mul-self : goal.overflow_mul-self

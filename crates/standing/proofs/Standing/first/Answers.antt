@@ -2,7 +2,6 @@
 use mathlib.Core.Path.{ap}
 use Rattle.settings.specs.declared.Settings.{Settings}
 use Rattle.standing.specs.Standing.{first_standing, with_root}
-use borrow.Author.Rules.{rules}
 use Rattle.standing.proofs.Standing.first.Goals as goal
 
 pub returns : goal.returns

@@ -3,7 +3,6 @@ use mathlib.Core.Path.{sym, ap, ◌∙◌}
 use Prim.Native.Nat.{ℕ}
 use Rattle.values.specs.Told.{meaning_of}
 use Rattle.values.proofs.Told.{meaning_other}
-use borrow.Author.Rules.{rules}
 use Rattle.values.proofs.Meaning.of_type.Goals as goal
 
 pub returns-in-0 : goal.returns-in-0

@@ -14,5 +14,6 @@ returns c =
     c.number.ensures
     ∙ told_number c.args.self _
     (elim c.if-missing-ne0.branch [
-      then-missing-ne0+else-missing-bits w ↦ inr w.if-missing-bits.false | else-missing-ne0 w ↦ inl w.if-missing-ne0.false
+      | then-missing-ne0+else-missing-bits w ↦ inr w.if-missing-bits.false
+      | else-missing-ne0 w ↦ inl w.if-missing-ne0.false
     ])

@@ -6,7 +6,6 @@ use borrow.Author.Tests.{lt-ltb, le-ltb}
 use Rattle.layout.proofs.Rows.{cells_some}
 use Rattle.spread.proofs.Lying.{lies_in_lem, there-named, spread_inside}
 use Rattle.view.specs.View.{spread_of, count_seen, there_seen, place_seen, lies_in}
-use borrow.Author.Rules.{rules}
 use Rattle.view.proofs.View.find.Goals as goal
 
 pub returns-then-count-number : goal.returns-then-count-number

@@ -1,5 +1,4 @@
 -- The first of each part.
-use Rattle.std.proofs.Common.{rules}
 use Rattle.walk.proofs.Head.first.Goals as goal
 
 pub returns : goal.returns
