@@ -6,7 +6,8 @@
 
 use canonical::Written;
 use heads::Refusal;
-use libc::{STDERR_FILENO, STDIN_FILENO, STDOUT_FILENO};
+use std::io;
+use std::io::{Stdout, Write};
 use verdict::Checked;
 
 // The octets of a file at most.
@@ -15,32 +16,22 @@ const LIMIT: usize = 60_000;
 // The octets of its canonical file at most.
 const ROOM: usize = 120_000;
 
-fn say_octets(out: &[u8], n: usize) {
-    io::write_all(STDOUT_FILENO, octets::part(out, 0, n));
-}
-
-// A buffer's length is known by its type here, so that part of it can be lent.
-fn say_line(line: &[u8; line::BUFFER], n: usize) {
-    say_octets(line, n);
-}
-
-fn say_refused(x: Refusal) {
+fn say_refused(mut stdout: Stdout, x: Refusal) -> io::Result<()> {
     let mut line = [0u8; line::BUFFER];
     let k = line::put_line(Checked::Refused(x), &mut line);
-    say_line(&line, k);
+    stdout.write_all(octets::part(&line, 0, k))
 }
 
 // One octet more than the limit is read, to see that a file is longer.
-fn main() {
-    let mut buf = [0u8; LIMIT + 1];
-    let n = io::read_full(STDIN_FILENO, &mut buf);
+fn main(rt: HostRuntime) -> io::Result<()> {
+    let mut file = [0u8; LIMIT + 1];
+    let n = input::read_full(&mut rt.stdin(), &mut file)?;
     if LIMIT < n {
-        io::write_all(STDERR_FILENO, b"too long\n");
-        return;
+        return rt.stderr().write_all(b"too long\n");
     }
     let mut out = [0u8; ROOM];
-    match canonical::write_canonical(&buf[..n], &mut out) {
-        Written::Octets(k) => say_octets(&out, k),
-        Written::Refused(x) => say_refused(x),
+    match canonical::write_canonical(&file[..n], &mut out) {
+        Written::Octets(k) => rt.stdout().write_all(octets::part(&out, 0, k)),
+        Written::Refused(x) => say_refused(rt.stdout(), x),
     }
 }
