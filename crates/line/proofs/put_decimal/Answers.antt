@@ -1,5 +1,4 @@
 -- `line::put_decimal` meets its contract: the digits that are copied are the number's decimal.
-use borrow.Author.Rules.{rules}
 use native.Mathlib.Omega.{arith}
 use Rattle.line.specs.Line.{decimal_of}
 use Rattle.line.proofs.Laws.{fewest_digits}

@@ -1,5 +1,4 @@
 -- `line::put_text` meets its contract: all of the text is copied.
-use borrow.Author.Rules.{rules}
 use lib.Seq.{take-length}
 use Rattle.line.proofs.put_text.Goals as goal
 
