@@ -2,12 +2,21 @@
 //
 // For a file that is refused it writes one line there instead, `refused R at P`; for a longer file nothing, and `too long` to standard error.
 // `refused 23 at 0` is also its line where the canonical file is longer than 120,000 octets.
+// Promises, for any reader and any writers whose octets are known: what is written is that of the file that is read. That the streams of the system are such a reader
+// and such writers is not claimed.
+// Read first: specs/Rewritten.antt.
 #![tactic(auto)]
+
+ghost use Rattle.std.specs.Prelude.{OnOk, IfSome};
+ghost use Rattle.std.specs.Io.KnownBytes.{Appends};
+ghost use Rattle.heads.specs.Answer.{refused_by};
+ghost use Rattle.line.specs.Line.{line_of};
+ghost use Rattle.rewrite.specs.Rewritten.{rewritten, complaint};
 
 use canonical::Written;
 use heads::Refusal;
 use std::io;
-use std::io::{Stdout, Write};
+use std::io::{Read, Write};
 use verdict::Checked;
 
 // The octets of a file at most.
@@ -16,22 +25,32 @@ const LIMIT: usize = 60_000;
 // The octets of its canonical file at most.
 const ROOM: usize = 120_000;
 
-fn say_refused(mut stdout: Stdout, x: Refusal) -> io::Result<()> {
+// Writes the line of a refusal.
+fn say_refused<W: Write>(to: &mut W, x: Refusal) -> io::Result<()>
+    ensures { OnOk result (Appends (W.contents to.old) (W.contents to.new) (line_of (refused_by x))) }
+{
     let mut line = [0u8; line::BUFFER];
     let k = line::put_line(Checked::Refused(x), &mut line);
-    stdout.write_all(octets::part(&line, 0, k))
+    to.write_all(octets::part(&line, 0, k))
 }
 
-// One octet more than the limit is read, to see that a file is longer.
-fn main(rt: HostRuntime) -> io::Result<()> {
+// Reads a file and writes its canonical file. One octet more than the limit is read, to see that a file is longer.
+fn rewrite<R: Read, W: Write, E: Write>(from: &mut R, to: &mut W, errors: &mut E) -> io::Result<()>
+    ensures written { OnOk result (IfSome (R.remaining from.old) (λ file. Appends (W.contents to.old) (W.contents to.new) (rewritten file))) }
+    ensures complained { OnOk result (IfSome (R.remaining from.old) (λ file. Appends (E.contents errors.old) (E.contents errors.new) (complaint file))) }
+{
     let mut file = [0u8; LIMIT + 1];
-    let n = input::read_full(&mut rt.stdin(), &mut file)?;
+    let n = input::read_full(from, &mut file)?;
     if LIMIT < n {
-        return rt.stderr().write_all(b"too long\n");
+        return errors.write_all(b"too long\n");
     }
     let mut out = [0u8; ROOM];
     match canonical::write_canonical(&file[..n], &mut out) {
-        Written::Octets(k) => rt.stdout().write_all(octets::part(&out, 0, k)),
-        Written::Refused(x) => say_refused(rt.stdout(), x),
+        Written::Octets(k) => to.write_all(octets::part(&out, 0, k)),
+        Written::Refused(x) => say_refused(to, x),
     }
+}
+
+fn main(rt: HostRuntime) -> io::Result<()> {
+    rewrite(&mut rt.stdin(), &mut rt.stdout(), &mut rt.stderr())
 }
