@@ -8,7 +8,7 @@ cd "$(dirname "$0")/.." || exit 2
 
 library=${MFER_LIB_DIR:-target/staticlib}/libmfer.a
 if [ ! -f "$library" ]; then
-    echo "$library is not there: build it with 'rt staticlib mfer'" >&2
+    echo "$library is not there: build it with './build archive'" >&2
     exit 2
 fi
 

@@ -15,7 +15,7 @@ fn main() {
     println!("cargo:rerun-if-changed={}", archive.display());
     let Ok(archive) = archive.canonicalize() else {
         panic!(
-            "{} is not there: build it with `rt staticlib mfer`, or name its folder in MFER_LIB_DIR",
+            "{} is not there: build it with `./build archive`, or name its folder in MFER_LIB_DIR",
             archive.display()
         );
     };

@@ -1,27 +1,34 @@
 // Checks the MFER file on standard input, of at most 60,000 octets, and writes one line: `frames N`, `refused R at P` or `too long`.
 //
-// The line of an answer is that of crate line, and is proved there. No contract can say what is read and written.
+// Promises, for any reader and any writer whose octets are known: what is written is the line of the file that is read. That the streams of the system are such a
+// reader and such a writer is not claimed.
+// Read first: specs/Said.antt.
 #![tactic(auto)]
 
-use libc::{STDIN_FILENO, STDOUT_FILENO};
+ghost use Rattle.std.specs.Prelude.{OnOk, IfSome};
+ghost use Rattle.std.specs.Io.KnownBytes.{Appends};
+ghost use Rattle.bench.specs.Said.{said_of};
+
+use std::io;
+use std::io::{Read, Write};
 
 // The octets of a file on the bench at most.
 const LIMIT: usize = 60_000;
 
-// A buffer's length is known by its type here, so that part of it can be lent.
-fn say_line(line: &[u8; line::BUFFER], n: usize) {
-    io::write_all(STDOUT_FILENO, octets::part(line, 0, n));
-}
-
-// One octet more than the limit is read, to see that a file is longer.
-fn main() {
-    let mut buf = [0u8; LIMIT + 1];
-    let n = io::read_full(STDIN_FILENO, &mut buf);
+// Reads a file and writes its line. One octet more than the limit is read, to see that a file is longer.
+fn answer<R: Read, W: Write>(from: &mut R, to: &mut W) -> io::Result<()>
+    ensures { OnOk result (IfSome (R.remaining from.old) (λ file. Appends (W.contents to.old) (W.contents to.new) (said_of file))) }
+{
+    let mut file = [0u8; LIMIT + 1];
+    let n = input::read_full(from, &mut file)?;
     if LIMIT < n {
-        io::write_all(STDOUT_FILENO, b"too long\n");
-        return;
+        return to.write_all(b"too long\n");
     }
     let mut line = [0u8; line::BUFFER];
-    let k = line::put_line(reader::check(&buf[..n]), &mut line);
-    say_line(&line, k);
+    let k = line::put_line(reader::check(&file[..n]), &mut line);
+    to.write_all(octets::part(&line, 0, k))
+}
+
+fn main(rt: HostRuntime) -> io::Result<()> {
+    answer(&mut rt.stdin(), &mut rt.stdout())
 }

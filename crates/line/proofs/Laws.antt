@@ -1,12 +1,13 @@
 -- Laws of the line: the fewest digits of a number are its decimal, and parts stored one after another are the line.
-use mathlib.Core.Path.{◌≡◌, ◌∙◌}
+use mathlib.Core.Path.{◌≡◌, ◌∙◌, ap}
 use mathlib.Core.List.{List, [], ◌∷◌, ◌++◌}
 use Prim.Native.Nat.{ℕ, zero, suc, ◌+◌, ◌-◌, ◌/◌, ◌%◌, ◌^◌, ◌≤◌, ◌<◌}
 use native.Mathlib.Nat.{pow-suc, one-le-pow, mod-eq_of_lt}
 use native.Mathlib.Omega.{arith}
 use borrow.Author.Tests.{lt-ltb, le-ltb}
 use lib.Dec.{ltb}
-use lib.ListN.{length, length-append}
+use lib.ListN.{length, take, drop, length-append}
+use lib.Seq.{take-append_seam}
 use Rattle.io.specs.Digits.{last_digits, IsDigitCount}
 use Rattle.stores.specs.Storing.{Putting, put_fits}
 use Rattle.stores.proofs.Stores.{sets_front, putting_then}
@@ -94,3 +95,9 @@ refused_line x l p q s t u =
     let o = length-append (ascii "refused " ++ n ++ ascii " at ") m in
     at-start (refused_by x) (omega (arith, y, z, o, length-append (ascii "refused " ++ n ++ ascii " at " ++ m) (ascii "\n")))
     (more l (omega (arith, y, z, o)) (more l (omega (arith, y, z)) (more l (omega (arith, y)) (more l (omega arith) p q) s) t) u)
+
+-- The line stands at the start of the buffer.
+pub line_taken : {d e : List ℕ} {r : ℕ} {a : Answer ℕ} → Lined a d r e → take r e ≡ line_of a
+unfolding left_by
+line_taken {d} {r = r} {a = a} w =
+    ap (take r) w.left ∙ ap (λ n. take n (line_of a ++ drop (length (line_of a)) d)) w.long ∙ take-append_seam (line_of a) (drop (length (line_of a)) d)

@@ -1,4 +1,4 @@
-// The library for C: plain numbers and buffers in, a refusal's number out.
+// The functions for C: plain numbers and buffers in, a refusal's number out. Crate mfer_c exports them under their names.
 //
 // Every function answers for any octets at all. Its result is the number of the refusal, 0 where there is none; every output is set in
 // every case, and at a refusal all are 0 but `place`, which is the refusal's. A slice passes as a pointer and a length.
@@ -18,9 +18,13 @@ ghost use Rattle.mfer.specs.Answers.{CanonicalOut, MadeOut};
 
 mod walks;
 
+pub use walks::{
+    mfer_walk_channel, mfer_walk_frame, mfer_walk_next, mfer_walk_open, mfer_walk_samples,
+    mfer_walk_samples_there, mfer_walk_values,
+};
+
 // Checks a file: how many frames it has.
-#[unsafe(no_mangle)]
-pub extern "C" fn mfer_check(file: &[u8], frames: &mut u64, place: &mut u64) -> u32
+pub fn mfer_check(file: &[u8], frames: &mut u64, place: &mut u64) -> u32
     ensures { outputs result place.new frames.new ≡ count_out (check_of file.now) }
 {
     outputs::checked_out(reader::check(file), frames, place)
@@ -29,8 +33,7 @@ pub extern "C" fn mfer_check(file: &[u8], frames: &mut u64, place: &mut u64) -> 
 // The attributes of a channel in a frame. `numbers` are start pointer, channels, sequences, block length, class, lead code, data type,
 // the interval's unit, exponent and mantissa, the resolution's, sample width and null width (0: no null); `bits` are the offset's and
 // null's.
-#[unsafe(no_mangle)]
-pub extern "C" fn mfer_attributes(
+pub fn mfer_attributes(
     file: &[u8],
     frame: u32,
     channel: u32,
@@ -45,8 +48,7 @@ pub extern "C" fn mfer_attributes(
 
 // A sample: its place in the file, its kind (0 whole, 1 status, 2 single, 3 double, 4 not-a-number, 5 null, 6 no data), its number where it is
 // whole, and its bits as the file has them. No data is the kind of a sample that is declared and not there: its place and its bits are 0.
-#[unsafe(no_mangle)]
-pub extern "C" fn mfer_sample(
+pub fn mfer_sample(
     file: &[u8],
     frame: u32,
     channel: u32,
@@ -68,8 +70,7 @@ pub extern "C" fn mfer_sample(
 }
 
 // How many samples of a channel are there.
-#[unsafe(no_mangle)]
-pub extern "C" fn mfer_samples_there(
+pub fn mfer_samples_there(
     file: &[u8],
     frame: u32,
     channel: u32,
@@ -83,8 +84,7 @@ pub extern "C" fn mfer_samples_there(
 
 // The bits of a channel's samples from number `first` on, as the file has them, at the front of `out`: as many as fit or are there, and
 // how many. The rest of `out`, and at a refusal all of it, keeps what it held.
-#[unsafe(no_mangle)]
-pub extern "C" fn mfer_samples(
+pub fn mfer_samples(
     file: &[u8],
     frame: u32,
     channel: u32,
@@ -106,8 +106,7 @@ pub extern "C" fn mfer_samples(
 // The values of a channel's samples from number `first` on, at the fronts of `kinds` and `wholes`: each sample's kind, as `mfer_sample` numbers
 // them, and its number where it is whole, else 0; as many as fit in both or are there, and how many. The rest of both, and at a refusal all of them,
 // keeps what it held.
-#[unsafe(no_mangle)]
-pub extern "C" fn mfer_values(
+pub fn mfer_values(
     file: &[u8],
     frame: u32,
     channel: u32,
@@ -129,8 +128,7 @@ pub extern "C" fn mfer_values(
 }
 
 // The length of the canonical file of a file. Nothing is written.
-#[unsafe(no_mangle)]
-pub extern "C" fn mfer_canonical_length(file: &[u8], length: &mut u64, place: &mut u64) -> u32
+pub fn mfer_canonical_length(file: &[u8], length: &mut u64, place: &mut u64) -> u32
     ensures { outputs result place.new length.new ≡ count_out (canonical_length_of file.now) }
 {
     outputs::written_out(canonical::canonical_length(file), length, place)
@@ -138,13 +136,7 @@ pub extern "C" fn mfer_canonical_length(file: &[u8], length: &mut u64, place: &m
 
 // Writes the canonical file of a file into the front of `out`: how long it is. The rest of `out`, and at a refusal all of it, keeps what it
 // held.
-#[unsafe(no_mangle)]
-pub extern "C" fn mfer_canonical(
-    file: &[u8],
-    out: &mut [u8],
-    written: &mut u64,
-    place: &mut u64,
-) -> u32
+pub fn mfer_canonical(file: &[u8], out: &mut [u8], written: &mut u64, place: &mut u64) -> u32
     ensures { CanonicalOut file.now out.old (outputs result place.new written.new) out.new }
 {
     outputs::written_out(canonical::write_canonical(file, out), written, place)
@@ -152,8 +144,7 @@ pub extern "C" fn mfer_canonical(
 
 // Makes a frame into the front of `out`, as the canonical file has it: how long it is. `numbers` and `bits` are a row for each channel, as mfer_attributes tells
 // them; `samples` are big-endian and in file order. The rest of `out`, and at a refusal all of it, keeps what it held.
-#[unsafe(no_mangle)]
-pub extern "C" fn mfer_make_frame(
+pub fn mfer_make_frame(
     start: i64,
     sequences: u64,
     channels: u64,

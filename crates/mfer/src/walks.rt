@@ -18,8 +18,7 @@ ghost use Rattle.mfer.specs.Walks.{WalkNext};
 use walking::Walking;
 
 // Opens a walk over a file, which is checked: how many frames it has. The words of `walk` begin the walk; at a refusal they keep what they held.
-#[unsafe(no_mangle)]
-pub extern "C" fn mfer_walk_open(
+pub fn mfer_walk_open(
     file: &[u8],
     walk: &mut [u64; Walking::WORDS],
     frames: &mut u64,
@@ -33,8 +32,7 @@ pub extern "C" fn mfer_walk_open(
 
 // The next frame of a walk: its start pointer, and in `frame` its channels, sequences, byte order (1: little-endian), the place and the length of its
 // waveform, and the octets of a sequence. Behind the last frame it is refusal 20.
-#[unsafe(no_mangle)]
-pub extern "C" fn mfer_walk_next(
+pub fn mfer_walk_next(
     file: &[u8],
     walk: &mut [u64; Walking::WORDS],
     start: &mut i64,
@@ -47,8 +45,7 @@ pub extern "C" fn mfer_walk_next(
 }
 
 // A channel of the frame that a walk stands behind: its attributes, as mfer_attributes has them, and the octets of a sequence that lie below it.
-#[unsafe(no_mangle)]
-pub extern "C" fn mfer_walk_channel(
+pub fn mfer_walk_channel(
     walk: &[u64; Walking::WORDS],
     channel: u32,
     numbers: &mut [i64; numbers::NUMBERS],
@@ -62,8 +59,7 @@ pub extern "C" fn mfer_walk_channel(
 }
 
 // How many samples of a channel are there, of the frame that a walk stands behind.
-#[unsafe(no_mangle)]
-pub extern "C" fn mfer_walk_samples_there(
+pub fn mfer_walk_samples_there(
     walk: &[u64; Walking::WORDS],
     channel: u32,
     count: &mut u64,
@@ -75,8 +71,7 @@ pub extern "C" fn mfer_walk_samples_there(
 }
 
 // The bits of a channel's samples as mfer_samples tells them, of the frame that a walk stands behind. Nothing of the file is read but these samples.
-#[unsafe(no_mangle)]
-pub extern "C" fn mfer_walk_samples(
+pub fn mfer_walk_samples(
     file: &[u8],
     walk: &[u64; Walking::WORDS],
     channel: u32,
@@ -93,8 +88,7 @@ pub extern "C" fn mfer_walk_samples(
 
 // The bits of all samples there of the frame that a walk stands behind: those of channel 0, then those of channel 1, at the front of `out`, as many as fit or are there.
 // Nothing of the file is read but these samples.
-#[unsafe(no_mangle)]
-pub extern "C" fn mfer_walk_frame(
+pub fn mfer_walk_frame(
     file: &[u8],
     walk: &[u64; Walking::WORDS],
     out: &mut [u64],
@@ -108,8 +102,7 @@ pub extern "C" fn mfer_walk_frame(
 }
 
 // Their values: the kinds and the whole numbers of a channel's samples as mfer_sample tells them, of the frame that a walk stands behind.
-#[unsafe(no_mangle)]
-pub extern "C" fn mfer_walk_values(
+pub fn mfer_walk_values(
     file: &[u8],
     walk: &[u64; Walking::WORDS],
     channel: u32,

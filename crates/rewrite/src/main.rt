@@ -2,11 +2,21 @@
 //
 // For a file that is refused it writes one line there instead, `refused R at P`; for a longer file nothing, and `too long` to standard error.
 // `refused 23 at 0` is also its line where the canonical file is longer than 120,000 octets.
+// Promises, for any reader and any writers whose octets are known: what is written is that of the file that is read. That the streams of the system are such a reader
+// and such writers is not claimed.
+// Read first: specs/Rewritten.antt.
 #![tactic(auto)]
+
+ghost use Rattle.std.specs.Prelude.{OnOk, IfSome};
+ghost use Rattle.std.specs.Io.KnownBytes.{Appends};
+ghost use Rattle.heads.specs.Answer.{refused_by};
+ghost use Rattle.line.specs.Line.{line_of};
+ghost use Rattle.rewrite.specs.Rewritten.{rewritten, complaint};
 
 use canonical::Written;
 use heads::Refusal;
-use libc::{STDERR_FILENO, STDIN_FILENO, STDOUT_FILENO};
+use std::io;
+use std::io::{Read, Write};
 use verdict::Checked;
 
 // The octets of a file at most.
@@ -15,32 +25,32 @@ const LIMIT: usize = 60_000;
 // The octets of its canonical file at most.
 const ROOM: usize = 120_000;
 
-fn say_octets(out: &[u8], n: usize) {
-    io::write_all(STDOUT_FILENO, octets::part(out, 0, n));
-}
-
-// A buffer's length is known by its type here, so that part of it can be lent.
-fn say_line(line: &[u8; line::BUFFER], n: usize) {
-    say_octets(line, n);
-}
-
-fn say_refused(x: Refusal) {
+// Writes the line of a refusal.
+fn say_refused<W: Write>(to: &mut W, x: Refusal) -> io::Result<()>
+    ensures { OnOk result (Appends (W.contents to.old) (W.contents to.new) (line_of (refused_by x))) }
+{
     let mut line = [0u8; line::BUFFER];
     let k = line::put_line(Checked::Refused(x), &mut line);
-    say_line(&line, k);
+    to.write_all(octets::part(&line, 0, k))
 }
 
-// One octet more than the limit is read, to see that a file is longer.
-fn main() {
-    let mut buf = [0u8; LIMIT + 1];
-    let n = io::read_full(STDIN_FILENO, &mut buf);
+// Reads a file and writes its canonical file. One octet more than the limit is read, to see that a file is longer.
+fn rewrite<R: Read, W: Write, E: Write>(from: &mut R, to: &mut W, errors: &mut E) -> io::Result<()>
+    ensures written { OnOk result (IfSome (R.remaining from.old) (λ file. Appends (W.contents to.old) (W.contents to.new) (rewritten file))) }
+    ensures complained { OnOk result (IfSome (R.remaining from.old) (λ file. Appends (E.contents errors.old) (E.contents errors.new) (complaint file))) }
+{
+    let mut file = [0u8; LIMIT + 1];
+    let n = input::read_full(from, &mut file)?;
     if LIMIT < n {
-        io::write_all(STDERR_FILENO, b"too long\n");
-        return;
+        return errors.write_all(b"too long\n");
     }
     let mut out = [0u8; ROOM];
-    match canonical::write_canonical(&buf[..n], &mut out) {
-        Written::Octets(k) => say_octets(&out, k),
-        Written::Refused(x) => say_refused(x),
+    match canonical::write_canonical(&file[..n], &mut out) {
+        Written::Octets(k) => to.write_all(octets::part(&out, 0, k)),
+        Written::Refused(x) => say_refused(to, x),
     }
+}
+
+fn main(rt: HostRuntime) -> io::Result<()> {
+    rewrite(&mut rt.stdin(), &mut rt.stdout(), &mut rt.stderr())
 }
