@@ -132,11 +132,11 @@ pub fn core_at(w: &[u64]) -> Core
 }
 
 // The octets that they keep, at the front.
-pub fn octets_at(w: &[u64]) -> [u8; Held::ROOM]
+pub fn octets_at(w: &[u64]) -> [u8; Held::KEPT]
     ensures { take (core_in w.now).held result ≡ octets_in w.now }
 {
     let held = held_at(w);
-    let mut r = [0u8; Held::ROOM];
+    let mut r = [0u8; Held::KEPT];
     let mut a = 0;
     while a < held {
         r[a] = one_at(w, Held::PLACE + a);
