@@ -45,7 +45,7 @@ fn constants(source: &str) -> Vec<Entry> {
     source.lines().filter_map(constant).collect()
 }
 
-/// The definitions `noFrame = 20`, each with the comment above it, `-- 20: no such frame`.
+/// The definitions `no_frame = 20`, each with the comment above it, `-- 20: no such frame`.
 fn definitions() -> Vec<Entry> {
     let definition = |paragraph: &str| {
         let (comment, rest) = paragraph.strip_prefix("-- ")?.split_once('\n')?;
@@ -57,7 +57,7 @@ fn definitions() -> Vec<Entry> {
     DEFINITIONS.split("\n\n").filter_map(definition).collect()
 }
 
-/// `noFrame` and `NoFrame` as `NO_FRAME`.
+/// `no_frame` and `NoFrame` as `NO_FRAME`.
 fn upper(name: &str) -> String {
     let mut upper = String::new();
     for letter in name.chars() {
@@ -114,7 +114,7 @@ fn kinds_have_one_vocabulary() {
         let variant = variant.split('(').next().expect("a name");
         assert_eq!(name, upper(variant));
         assert_eq!(words, value.kind());
-        let (_, said) = defined_as(&format!("valueSays {variant}"));
+        let (_, said) = defined_as(&format!("value_says {variant}"));
         let (_, record) = defined_as(said.split(' ').next().expect("a name"));
         assert!(record.contains(&format!("kind = {number};")), "{record}");
         value.kind()
