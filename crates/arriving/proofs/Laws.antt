@@ -6,11 +6,11 @@
 --     turned_on, turned-frame, turned-refused      what became of an item
 --     one_more, one_kept  the octets that are kept, and one more
 -- Assumes nothing.
-use Rattle.std.proofs.Common.{◌≡◌, ℕ, zero, suc, ◌+◌, ◌-◌, ◌^◌, ◌<◌, ◌≤◌, min, Bool, true, false, eqb, ltb, leb, List, [], ◌∷◌, ◌++◌, length, get_or, take, drop, set, sym, refl, ap, ◌∙◌, subst, mod-eq_of_lt, add-one, arith, length-append, length-set, length-take, take_all, take-take, take-suc-set, ltb-false, ltb-true, le-ltb, lt-ltb, eq-eqb, ne_eqb, le-leb}
+use Rattle.std.proofs.Common.{◌≡◌, ℕ, zero, suc, ◌+◌, ◌-◌, ◌^◌, ◌<◌, ◌≤◌, min, Bool, true, false, eqb, ltb, leb, List, [], ◌∷◌, ◌++◌, length, get_or, take, drop, set, sym, refl, ap, ◌∙◌, subst, mod-eq_of_lt, add-one, arith, length-append, length-take, take_all, take-take, take-suc-set, ltb-false, ltb-true, le-ltb, lt-ltb, eq-eqb, ne_eqb, le-leb}
 use borrow.Author.Tests.{lt-leb}
 use native.Mathlib.Decide.{dec_lt}
 use Rattle.octets.specs.Pick.{pick, both}
-use Rattle.octets.specs.Number.{Octets, range, number_of}
+use Rattle.octets.specs.Number.{Octets, number_of}
 use Rattle.octets.proofs.Pick.{pick_cases}
 use Rattle.octets.proofs.Laws.{number_first, cap, drop-octets}
 use Rattle.heads.specs.declared.Refusal.{Refusal}

@@ -1,6 +1,6 @@
 -- A link that goes by value, with the octets that it keeps beside it and the channels' records in words. Any numbers at all are some link. None of it is a rule
 -- of document 01.
-use Rattle.std.specs.Prelude.{◌≡◌, ℕ, ◌+◌, ◌-◌, ◌%◌, ◌^◌, ◌<◌, ◌≤◌, min, Bool, List, [], length, take, ◌==◌}
+use Rattle.std.specs.Prelude.{◌≡◌, ℕ, ◌+◌, ◌%◌, ◌^◌, ◌<◌, ◌≤◌, min, Bool, List, [], length, take, ◌==◌}
 use Rattle.octets.specs.Pick.{pick}
 use Rattle.heads.specs.declared.Form.{Form}
 use Rattle.heads.specs.Head.{form_of}

@@ -2,6 +2,7 @@
 use native.Mathlib.Omega.{arith}
 use Rattle.ahead.proofs.Laws.{goes_none}
 use Rattle.ahead.proofs.Stretches.{group_inside, group_put, group_kept}
+use Rattle.ahead.proofs.Asks.{stretch-inside}
 use Rattle.ahead.proofs.along_group.Goals as goal
 
 pub along_ignored-requires : goal.along_ignored-requires
@@ -35,3 +36,6 @@ returns-else-passed c =
     group_kept _ c.args.h _ _ _ c.if-dates.false (omega (arith, c.if-st-eq0.false)) c.requires.within_value
     c.requires.in_group c.requires.u_bound c.requires.fits c.settled-stood.ensures c.along-ahead.ensures
     c.if-k-eq0.false c.part.ensures c.over-passed.ensures c.around_at-mark.ensures c.if-passed.false
+
+pub overflow_add-cursor : goal.overflow_add-cursor
+overflow_add-cursor c = omega (arith, stretch-inside _ _ _ _ c.along-ahead.ensures, c.requires.u_bound)

@@ -1,6 +1,8 @@
 -- The items of the stretch at the front of the octets do nothing; what it counts, its octets count.
 use Rattle.ahead.proofs.Laws.{goes_none}
 use Rattle.ahead.proofs.Stretches.{ignored_goes}
+use native.Mathlib.Omega.{arith}
+use Rattle.ahead.proofs.Asks.{stretch-inside}
 use Rattle.ahead.proofs.along_ignored.Goals as goal
 
 pub returns-then-k-eq0 : goal.returns-then-k-eq0
@@ -11,3 +13,6 @@ returns c =
     λ t. ignored_goes _ c.args.h c.args.around t c.requires.within_value c.requires.within_value_2 c.requires.counted_value
     c.requires.u_bound c.requires.fits c.along-ahead.ensures c.if-k-eq0.false c.part.ensures c.over-passed.ensures
     c.around_at-mark.ensures
+
+pub overflow_add-cursor : goal.overflow_add-cursor
+overflow_add-cursor c = omega (arith, stretch-inside _ _ _ _ c.along-ahead.ensures, c.requires.u_bound)

@@ -1,5 +1,6 @@
 -- An effect that leads on is carried out; where it does not, nothing is taken.
 use Rattle.ahead.proofs.Laws.{goes_none, item-goes}
+use borrow.Enum.Refused.{opened}
 use Rattle.ahead.proofs.carried.Goals as goal
 
 pub returns-in-Frame : goal.returns-in-Frame
@@ -10,4 +11,4 @@ returns-in-Refused c = goes_none _ _ _ _ c.none-in-Refused.ensures
 
 pub returns-in_default : goal.returns-in_default
 returns-in_default c =
-    item-goes c.requires c.in_default.in_default-own.keys3 c.take-taken.ensures c.stands_in.ensures c.around_at.ensures
+    item-goes c.requires (opened c.in_default.in_default-own.keys3) c.take-taken.ensures c.stands_in.ensures c.around_at.ensures

@@ -1,6 +1,6 @@
 -- The item goes by its head.
 use native.Mathlib.Omega.{arith}
-use Rattle.ahead.proofs.Laws.{goes_none, head-is, definite_inside, definite_here, open_here}
+use Rattle.ahead.proofs.Laws.{goes_none, head-is, definite_inside, open_inside, definite_here, open_here}
 use Rattle.ahead.proofs.item_in.Goals as goal
 
 pub valued-requires : goal.valued-requires
@@ -28,3 +28,7 @@ carried-requires-in-Open c =
 
 pub returns-in_default : goal.returns-in_default
 returns-in_default c = goes_none _ _ _ _ c.none-in_default.ensures
+
+pub overflow_add-c : goal.overflow_add-c
+overflow_add-c c =
+    omega (arith, open_inside (head-is {h = c.args.h} c.requires.u_bound c.requires.fits c.stands_in.ensures c.is_inside-inside.ensures c.item_form.ensures c.in-Open.is), c.requires.u_bound)

@@ -1,6 +1,5 @@
 -- The octets taken so far lead where the walk stands; each turn goes on behind them.
 use mathlib.Core.Path.{refl, ◌∙◌}
-use Prim.Native.Nat.{◌-◌}
 use native.Mathlib.Omega.{arith}
 use Rattle.heads.proofs.Heads.{rest-is}
 use Rattle.ahead.proofs.Laws.{goes_none, goes-both, goes_near}

@@ -1,10 +1,11 @@
 -- What the items from a place on count is left to be added to what those before it have counted.
-use Rattle.std.proofs.Common.{◌≡◌, ◌+◌, ◌-◌, get_or, sym, refl, ◌∙◌, ⊎_elim, arith, rules}
+use Rattle.std.proofs.Common.{◌≡◌, ◌+◌, get_or, sym, refl, ◌∙◌, arith, rules}
 use Rattle.definitions.specs.Define.{tagged}
 use Rattle.passed.specs.declared.Passed.{Passed}
 use Rattle.passed.specs.Passed.{passed_from, passed_item}
 use Rattle.passed.proofs.Laws.{passed_item_lem, passed_last, passed_short, counted, item_defines, item_other}
 use Rattle.passed.proofs.over.Goals as goal
+use Rattle.passed.proofs.over.Goals.{in-Defines, in-Other}
 
 -- ---- what is known at the places on the way
 
@@ -37,10 +38,10 @@ loop-at-preserved c =
     counted (here) c.match-attribute_of.times c.match-attribute_of.now c.wrapping_add_u64-items.result c.match-attribute_of.defines ≡ passed_item (tagged (get_or u c.loop-at.at 0)) (here) =
     let u = c.args.u.now in
     let e = c.attribute_of.ensures in
-    ⊎_elim
-    (λ w. item_defines (get_or u c.loop-at.at 0) (here) e c.wrapping_add_u64-items.ensures.value w.1.given.1 (w.5 ∙ w.3.ensures) (w.6 ∙ w.4.ensures) w.7)
-    (λ w. item_other (get_or u c.loop-at.at 0) (here) e c.wrapping_add_u64-items.ensures.value w.1.given.1 w.2 w.3 w.4)
-    c.match-attribute_of.branch in
+    elim c.match-attribute_of.branch [
+      in-Defines w ↦ item_defines (get_or u c.loop-at.at 0) (here) e c.wrapping_add_u64-items.ensures.value w.in-Defines.is (w.times-is ∙ w.timed-times.ensures) (w.now-is ∙ w.wrapping_add_u32-now.ensures.value) w.defines-is
+      | in-Other w ↦ item_other (get_or u c.loop-at.at 0) (here) e c.wrapping_add_u64-items.ensures.value w.in-Other.is w.times-is w.now-is w.defines-is
+    ] in
     let u = c.args.u.now in
     (sym (passed_item_lem u c.loop-at.at (here) (search rules) refl (item)) ∙ c.loop-at.invariant.0, search rules)
 
@@ -61,9 +62,9 @@ returns-then-u-at c =
     counted (here) c.match-attribute_of.times c.match-attribute_of.now c.wrapping_add_u64-items.result c.match-attribute_of.defines ≡ passed_item (tagged (get_or u c.loop-at.at 0)) (here) =
     let u = c.args.u.now in
     let e = c.attribute_of.ensures in
-    ⊎_elim
-    (λ w. item_defines (get_or u c.loop-at.at 0) (here) e c.wrapping_add_u64-items.ensures.value w.1.given.1 (w.5 ∙ w.3.ensures) (w.6 ∙ w.4.ensures) w.7)
-    (λ w. item_other (get_or u c.loop-at.at 0) (here) e c.wrapping_add_u64-items.ensures.value w.1.given.1 w.2 w.3 w.4)
-    c.match-attribute_of.branch in
+    elim c.match-attribute_of.branch [
+      in-Defines w ↦ item_defines (get_or u c.loop-at.at 0) (here) e c.wrapping_add_u64-items.ensures.value w.in-Defines.is (w.times-is ∙ w.timed-times.ensures) (w.now-is ∙ w.wrapping_add_u32-now.ensures.value) w.defines-is
+      | in-Other w ↦ item_other (get_or u c.loop-at.at 0) (here) e c.wrapping_add_u64-items.ensures.value w.in-Other.is w.times-is w.now-is w.defines-is
+    ] in
     let u = c.args.u.now in
     sym (passed_short u c.loop-at.at (here) (search rules) refl c.if-u-at.true (item)) ∙ c.loop-at.invariant.0

@@ -18,4 +18,4 @@ returns c =
     let on = c.lay_on in
     let twos = c.lay_twos-twos in
     let a = c.args in
-    lays_all a.t.now a.v a.at a.count a.u.now a.out.now twos.result on.result _ _ (omega arith) twos.ensures on.ensures.0 on.ensures.1
+    lays_all a.t.now a.v a.at a.count a.u.now a.out.now twos.result on.result _ _ (omega arith) twos.ensures on.ensures.onward on.ensures.given_value

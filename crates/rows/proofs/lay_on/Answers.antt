@@ -56,7 +56,7 @@ overflow_add-i c =
     let l = c.loop-bits in
     tests_true a.t.now a.v a.count a.u.now a.from a.out.now l.x l.i l.n l.out
     sampling.result c.width-w.result sampling.ensures c.width-w.ensures l.invariant (sym c.lays.ensures ∙ c.if-lays.true) in
-    omega (arith, fits-here, c.pre.0)
+    omega (arith, fits-here, c.requires.u_bound)
 
 pub overflow_add-n : goal.overflow_add-n
 overflow_add-n c =
@@ -67,7 +67,7 @@ overflow_add-n c =
     let l = c.loop-bits in
     tests_true a.t.now a.v a.count a.u.now a.from a.out.now l.x l.i l.n l.out
     sampling.result c.width-w.result sampling.ensures c.width-w.ensures l.invariant (sym c.lays.ensures ∙ c.if-lays.true) in
-    omega (arith, fits-here, c.good.1.1.1.1.1.0)
+    omega (arith, fits-here)
 
 pub next-x-requires : goal.next-x-requires
 next-x-requires c =

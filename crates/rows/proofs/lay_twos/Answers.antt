@@ -90,7 +90,7 @@ overflow_add-i c =
     let l = c.loop-two in
     tests_true a.t.now a.v a.count a.u.now (laid a.at 0 0) a.out.now l.x l.i l.n l.out
     sampling.result 2 sampling.ensures (width_here) l.invariant (tested_here).1 in
-    omega (arith, fits-here, c.pre)
+    omega (arith, fits-here, c.requires)
 
 pub overflow_add-n : goal.overflow_add-n
 unfolding width_of
@@ -108,7 +108,7 @@ overflow_add-n c =
     let l = c.loop-two in
     tests_true a.t.now a.v a.count a.u.now (laid a.at 0 0) a.out.now l.x l.i l.n l.out
     sampling.result 2 sampling.ensures (width_here) l.invariant (tested_here).1 in
-    omega (arith, fits-here, c.good.1.1.1.1.1.0)
+    omega (arith, fits-here)
 
 pub next-x-requires : goal.next-x-requires
 unfolding width_of
