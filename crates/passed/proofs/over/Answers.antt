@@ -39,7 +39,7 @@ loop-at-preserved c =
     let u = c.args.u.now in
     let e = c.attribute_of.ensures in
     elim c.match-attribute_of.branch [
-      in-Defines w ↦ item_defines (get_or u c.loop-at.at 0) (here) e c.wrapping_add_u64-items.ensures.value w.in-Defines.is (w.times-is ∙ w.timed-times.ensures) (w.now-is ∙ w.wrapping_add_u32-now.ensures.value) w.defines-is
+      | in-Defines w ↦ item_defines (get_or u c.loop-at.at 0) (here) e c.wrapping_add_u64-items.ensures.value w.in-Defines.is (w.times-is ∙ w.timed-times.ensures) (w.now-is ∙ w.wrapping_add_u32-now.ensures.value) w.defines-is
       | in-Other w ↦ item_other (get_or u c.loop-at.at 0) (here) e c.wrapping_add_u64-items.ensures.value w.in-Other.is w.times-is w.now-is w.defines-is
     ] in
     let u = c.args.u.now in
@@ -63,7 +63,7 @@ returns-then-u-at c =
     let u = c.args.u.now in
     let e = c.attribute_of.ensures in
     elim c.match-attribute_of.branch [
-      in-Defines w ↦ item_defines (get_or u c.loop-at.at 0) (here) e c.wrapping_add_u64-items.ensures.value w.in-Defines.is (w.times-is ∙ w.timed-times.ensures) (w.now-is ∙ w.wrapping_add_u32-now.ensures.value) w.defines-is
+      | in-Defines w ↦ item_defines (get_or u c.loop-at.at 0) (here) e c.wrapping_add_u64-items.ensures.value w.in-Defines.is (w.times-is ∙ w.timed-times.ensures) (w.now-is ∙ w.wrapping_add_u32-now.ensures.value) w.defines-is
       | in-Other w ↦ item_other (get_or u c.loop-at.at 0) (here) e c.wrapping_add_u64-items.ensures.value w.in-Other.is w.times-is w.now-is w.defines-is
     ] in
     let u = c.args.u.now in
