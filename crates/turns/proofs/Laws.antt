@@ -8,7 +8,7 @@
 use mathlib.Core.Path.{◌≡◌, refl, sym, ap, subst, ◌∙◌}
 use mathlib.Core.List.{List, [], ◌∷◌, ◌++◌, append-nil, append_assoc}
 use mathlib.Core.Bool.{Bool, true, false}
-use Prim.Native.Nat.{ℕ, zero, suc, ◌+◌, ◌-◌, ◌*◌, ◌/◌, ◌≤◌, ◌<◌, min}
+use Prim.Native.Nat.{ℕ, ◌+◌, ◌-◌, ◌*◌, ◌/◌, ◌≤◌, ◌<◌, min}
 use native.Mathlib.Nat.{zero-add}
 use native.Mathlib.Decide.{dec_lt}
 use native.Mathlib.Omega.{arith}
@@ -34,7 +34,7 @@ use Rattle.link.specs.Link.{Given, is_decided, kept_limit, stepped, gives, gives
 use Rattle.link.specs.Feed.{Fed, fed, is_head, due, feed_of}
 use Rattle.link.specs.Runs.{stops_behind, behind, Leads}
 use Rattle.link.proofs.Fed.{true_false}
-use Rattle.link.proofs.Runs.{leads-none, leads-both, feed_steady, feed_stops, feed_full, feed_answered, waved-some}
+use Rattle.link.proofs.Runs.{leads-none, feed_steady, feed_stops, feed_full, feed_answered, waved-some}
 use Rattle.held.specs.declared.Stage.{Stage}
 use Rattle.held.specs.Words.{phase_of}
 use Rattle.rows.specs.declared.Spot.{Spot}
@@ -42,7 +42,6 @@ use Rattle.rows.specs.declared.Laid.{Laid}
 use Rattle.rows.specs.Rows.{row_words, row_of, rows_of, coming_at, given_from, Lays}
 use Rattle.ahead.specs.declared.Ahead.{Ahead}
 use Rattle.ahead.specs.Ahead.{told_behind, GoesAhead}
-use Rattle.lasting.specs.declared.Passed.{Passed}
 use Rattle.lasting.specs.Lasting.{Passes}
 use Rattle.arriving.specs.declared.Link.{Link}
 use Rattle.arriving.specs.declared.Arrived.{Arrived}

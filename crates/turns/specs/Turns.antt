@@ -1,9 +1,7 @@
 -- One call of the feed over a link that goes by value: in turns, each of which takes octets at the front of what is left. None of it is a rule of document 01.
-use Rattle.std.specs.Prelude.{◌≡◌, List, [], ◌∷◌, ◌++◌, Bool, true, false, ℕ, ◌+◌, ◌-◌, ◌*◌, ◌/◌, ◌≤◌, ◌<◌, min, ltb, length, get_or, take, drop}
+use Rattle.std.specs.Prelude.{◌≡◌, List, [], ◌∷◌, ◌++◌, Bool, true, false, ℕ, ◌-◌, ◌*◌, ◌/◌, ◌≤◌, ◌<◌, ltb, length, take, drop}
 use Rattle.std.proofs.lemmas.List.Edits.{sets}
-use Rattle.octets.specs.Pick.{pick, both, either}
-use Rattle.walk.specs.Advance.{stand_of}
-use Rattle.words.specs.Words.{records_in}
+use Rattle.octets.specs.Pick.{both, either}
 use Rattle.link.specs.Link as L
 use Rattle.link.specs.Link.{Given, is_decided, kept_limit, counted, sample_by}
 use Rattle.link.specs.Feed.{Fed, fed, is_head, feed_of}

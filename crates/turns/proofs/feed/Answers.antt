@@ -7,7 +7,6 @@ use Rattle.rows.specs.Rows.{row_words}
 use Rattle.turns.proofs.Laws.{rows-kept}
 use Rattle.turns.proofs.Laws.{feed_first}
 use native.Mathlib.Omega.{arith}
-use Prim.Native.Nat.{◌-◌}
 use lib.ListN.{length}
 use borrow.Author.Rules.{rules}
 use Rattle.turns.proofs.feed.Goals as goal
@@ -38,7 +37,7 @@ pub offset_bounds-out-at : goal.offset_bounds-out-at
 offset_bounds-out-at c =
     let inv = c.loop-link.invariant in
     let kept = rows-kept inv.rows in
-    let few = c.type_inv.out in search rules
+    search rules
 
 pub slice_bounds-turn-count-in-loop-link : goal.slice_bounds-turn-count-in-loop-link
 slice_bounds-turn-count-in-loop-link c =

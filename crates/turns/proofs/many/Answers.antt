@@ -1,11 +1,9 @@
 -- By the stage.
-use borrow.Author.Tests.{eqb-true}
 use Rattle.turns.proofs.Laws.{run_on, pass_run}
-use borrow.Author.Tests.{eqb-true}
 use Rattle.turns.proofs.many.Goals as goal
 
 pub samples_on-requires : goal.samples_on-requires
-samples_on-requires c = record { stage = c.in-Waveform.is; held = eqb-true _ _ c.if-core-eq0.true; some = c.if-left-gt0.true }
+samples_on-requires c = record { stage = c.in-Waveform.is; held = c.if-core-eq0.true; some = c.if-left-gt0.true }
 
 pub returns-in-Head : goal.returns-in-Head
 returns-in-Head c = run_on c.args.x c.args.p c.args.t.now c.args.u.now c.args.out.now c.items_on.ensures
