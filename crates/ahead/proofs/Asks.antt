@@ -4,6 +4,11 @@
 --     stretch_law               what each item keeps holds behind the stretch
 --     stretch-inside            it ends in the octets
 -- Assumes nothing.
+use Rattle.heads.specs.declared.Fault.{Fault}
+use Rattle.effects.specs.declared.Effect.{Effect}
+use Rattle.heads.specs.declared.ItemHead.{ItemHead}
+use Rattle.heads.specs.declared.Length.{Length}
+use Rattle.std.specs.Prelude.{Ok, Option, Some, None, Result}
 use mathlib.Core.Path.{◌≡◌, refl, sym, ap, subst, ◌∙◌}
 use mathlib.Core.List.{List}
 use mathlib.Core.Bool.{Bool, true, false}
@@ -16,8 +21,6 @@ use lib.ListN.{length, get_or, drop, length-drop}
 use lib.Seq.{get_or-drop, drop-drop}
 use Rattle.octets.specs.Pick.{pick, both}
 use Rattle.octets.proofs.Pick.{pick_cases, both_false}
-use Rattle.heads.specs.declared.Form.{Form}
-use Rattle.heads.specs.declared.Length.TheVariants.{Known}
 use Rattle.heads.specs.Head.{root_only, primitive_form, form_of}
 use Rattle.heads.proofs.Heads.{length_short, form_primitive}
 use Rattle.items.specs.declared.Within.{Within}
@@ -27,11 +30,8 @@ use Rattle.settings.specs.declared.Settings.{Settings}
 use Rattle.settings.specs.declared.Change.{Change}
 use Rattle.settings.specs.Settings.{default_settings, applied}
 use Rattle.definitions.specs.declared.Attribute.{Attribute}
-use Rattle.definitions.specs.declared.Tagged.{Tagged}
-use Rattle.definitions.specs.declared.Defined.{Defined}
 use Rattle.definitions.specs.Define.{tagged, defined}
 use Rattle.standing.specs.declared.Standing.{Standing}
-use Rattle.effects.specs.declared.Effect.{Effect}
 use Rattle.effects.specs.Effects.{value_at, all_effect, one_effect, root_effect, plain_effect, member_effect, effect_of}
 use Rattle.stretch.specs.declared.Stretch.{Stretch}
 use Rattle.stretch.specs.Stretch.{Step, leaves, ends, step_of, stretch, onward, run_from, run_of, stretch_of}
@@ -40,22 +40,22 @@ use Rattle.ahead.specs.Ahead.{item_here, InGroup}
 
 -- ---- one item
 
-pub short_form : (inside : Bool) (u : List ℕ) → Ordinary (get_or u 0 0) → 2 + get_or u 1 0 ≤ length u → get_or u 1 0 ≤ 127 → form_of inside u ≡ Form.Primitive (get_or u 0 0) 2 (get_or u 1 0)
+pub short_form : (inside : Bool) (u : List ℕ) → Ordinary (get_or u 0 0) → 2 + get_or u 1 0 ≤ length u → get_or u 1 0 ≤ 127 → form_of inside u ≡ Ok (Some (ItemHead.Primitive (get_or u 0 0) 2 (get_or u 1 0)))
 unfolding primitive_form
 short_form inside u o l h =
     let d = length-drop 1 u in
     let g = get_or-drop 1 u 0 0 in
     sym (form_primitive inside u (λ z. let x : ⊥ = omega arith in x) o.known (ap (both inside) o.anywhere ∙ both_false inside) (eqb-false (get_or u 0 0) 0x3F o.single))
-    ∙ ap (primitive_form (get_or u 0 0)) (sym (length_short (drop 1 u) (λ z. let x : ⊥ = omega arith in x) (omega arith)) ∙ ap (λ (k : ℕ). Known k 1) g)
+    ∙ ap (primitive_form (get_or u 0 0)) (sym (length_short (drop 1 u) (λ z. let x : ⊥ = omega arith in x) (omega arith)) ∙ ap (λ (k : ℕ). Ok (Some (Length.Known k 1))) g)
 
 -- By its tag it asks for the change of its definition, which leaves the settings x, or for nothing.
-abbrev pub Asks : List ℕ → Within → Standing → (Change → Effect) → Settings → ℕ → Settings → Settings → Type 0
+abbrev pub Asks : List ℕ → Within → Standing → (Change → (Result Effect Fault)) → Settings → ℕ → Settings → Settings → Type 0
 Asks u w st asks base place held x =
     let tag = get_or u 0 0 in
     let n = get_or u 1 0 in
     let e = effect_of u st (item_here w place tag 2 n) in
-    ((a : Attribute) × (c : Change) × (tagged tag ≡ Tagged.Defines a) × (defined a st.little base (value_at u 2 n) ≡ Defined.Changed c) × (e ≡ asks c) × (x ≡ applied c held))
-    ⊎ ((tagged tag ≡ Tagged.Other) × (e ≡ Effect.Pass) × (x ≡ held))
+    ((a : Attribute) × (c : Change) × (tagged tag ≡ Some a) × (defined a st.little base (value_at u 2 n) ≡ Ok c) × (e ≡ asks c) × (x ≡ applied c held))
+    ⊎ ((tagged tag ≡ None) × (e ≡ (Ok Effect.Pass)) × (x ≡ held))
 
 module _ (u : List ℕ) (st : Standing) where
   abbrev tag : ℕ
@@ -64,9 +64,9 @@ module _ (u : List ℕ) (st : Standing) where
   abbrev long : ℕ
   long = get_or u 1 0
 
-  asks_by : (w : Within) (asks : Change → Effect) (base : Settings) (place : ℕ) (held x : Settings) → InStretch st.little base held u x
-      → ((a : Attribute) (c : Change) → tagged tag ≡ Tagged.Defines a → defined a st.little base (value_at u 2 long) ≡ Defined.Changed c → effect_of u st (item_here w place tag 2 long) ≡ asks c)
-      → (tagged tag ≡ Tagged.Other → effect_of u st (item_here w place tag 2 long) ≡ Effect.Pass)
+  asks_by : (w : Within) (asks : Change → (Result Effect Fault)) (base : Settings) (place : ℕ) (held x : Settings) → InStretch st.little base held u x
+      → ((a : Attribute) (c : Change) → tagged tag ≡ Some a → defined a st.little base (value_at u 2 long) ≡ Ok c → effect_of u st (item_here w place tag 2 long) ≡ asks c)
+      → (tagged tag ≡ None → effect_of u st (item_here w place tag 2 long) ≡ (Ok Effect.Pass))
       → Asks u w st asks base place held x
   asks_by w asks base place held x p defines passes =
       ⊎_elim (λ q. inl (q.0, q.1, q.2, q.3, defines q.0 q.1 q.2 q.3, q.4)) (λ q. inr (q.0, passes q.0, q.1)) p.does
@@ -76,7 +76,7 @@ module _ (u : List ℕ) (st : Standing) where
   Truth true = Unit {0}
   Truth false = ⊥
 
-  root_passes : (start : ℕ) (v : List ℕ) → root_only tag ≡ false → root_effect st tag start v ≡ Effect.Pass
+  root_passes : (start : ℕ) (v : List ℕ) → root_only tag ≡ false → root_effect st tag start v ≡ (Ok Effect.Pass)
   unfolding root_effect root_only
   root_passes start v f =
       pick_cases Done (eqb tag 0x01) (λ q. absurd (bar 0x01 tt q))
@@ -87,17 +87,17 @@ module _ (u : List ℕ) (st : Standing) where
       (λ _. pick_cases Done (eqb tag 0x1E) (λ q. absurd (bar 0x1E tt q))
       (λ _. refl))))))
     where
-      Done : Effect → Type 0
-      Done x = x ≡ Effect.Pass
+      Done : Result Effect Fault → Type 0
+      Done x = x ≡ (Ok Effect.Pass)
 
       bar : (k : ℕ) → Truth (root_only k) → eqb tag k ≡ true → ⊥
       bar k t q = subst Truth (ap root_only (sym (eqb-true tag k q)) ∙ f) t
 
-  pub root_asks : (place : ℕ) (held x : Settings) → InStretch st.little default_settings held u x → Asks u Within.Root st Effect.All default_settings place held x
+  pub root_asks : (place : ℕ) (held x : Settings) → InStretch st.little default_settings held u x → Asks u Within.Root st (λ d. Ok (Effect.All d)) default_settings place held x
   unfolding effect_of plain_effect all_effect item_here
   root_asks place held x p =
       let v = value_at u 2 long in
-      asks_by Within.Root Effect.All default_settings place held x p
+      asks_by Within.Root (λ d. Ok (Effect.All d)) default_settings place held x p
       (λ a c e f. ap (plain_effect st tag 2 v) e ∙ ap all_effect f)
       (λ e. ap (plain_effect st tag 2 v) e ∙ root_passes 2 v p.ordinary.anywhere)
 
@@ -109,15 +109,15 @@ module _ (u : List ℕ) (st : Standing) where
     member_here (Within.Definite k end) g place o = ap (λ (j : ℕ). Item.Member place j tag 2 long) g
     member_here (Within.Open k group) g place o = simp o (ap (λ (j : ℕ). Item.Member place j tag 2 long) g)
 
-    member_asks : (place : ℕ) {t : Tagged} → tagged tag ≡ t → effect_of u st (Item.Member place channel tag 2 long) ≡ member_effect st channel (value_at u 2 long) t
+    member_asks : (place : ℕ) {t : Option Attribute} → tagged tag ≡ t → effect_of u st (Item.Member place channel tag 2 long) ≡ member_effect st channel (value_at u 2 long) t
     unfolding effect_of
-    member_asks place e = (λ i. pick (z i) Effect.Pass (member_effect st channel (value_at u 2 long) (e i)))
+    member_asks place e = (λ i. pick (z i) (Ok Effect.Pass) (member_effect st channel (value_at u 2 long) (e i)))
 
-    pub group_asks : (w : Within) → InGroup w channel → (place : ℕ) (held x : Settings) → InStretch st.little st.root held u x → Asks u w st (Effect.One channel) st.root place held x
+    pub group_asks : (w : Within) → InGroup w channel → (place : ℕ) (held x : Settings) → InStretch st.little st.root held u x → Asks u w st (λ d. Ok (Effect.One channel d)) st.root place held x
     unfolding member_effect one_effect
     group_asks w g place held x p =
         let item = ap (effect_of u st) (member_here w g place p.ordinary.nonzero) in
-        asks_by w (Effect.One channel) st.root place held x p
+        asks_by w (λ d. Ok (Effect.One channel d)) st.root place held x p
         (λ a c e f. item ∙ member_asks place e ∙ ap (one_effect channel) f)
         (λ e. item ∙ member_asks place e)
 

@@ -5,6 +5,9 @@
 --     item-goes               one item that leads on
 --     valued-item, definite_here, open_here    the item at the front of octets
 -- Assumes nothing.
+use Rattle.heads.specs.declared.Fault.{Fault}
+use Rattle.effects.specs.declared.Effect.{Effect}
+use Rattle.heads.specs.declared.ItemHead.{ItemHead}
 use Prim.Native.Nat.{ℕ, zero, suc, ◌+◌, ◌-◌, ◌≤◌}
 use mathlib.Core.Path.{◌≡◌, refl, sym, ◌∙◌, ap, subst}
 use mathlib.Core.List.{List, [], ◌∷◌}
@@ -17,21 +20,20 @@ use lib.Dec.{ltb}
 use lib.ListN.{length, take, drop, length-take, length-drop}
 use lib.Seq.{take-add, take-take}
 use Rattle.octets.proofs.Pick.{pick_cases}
-use Rattle.heads.specs.declared.Form.{Form}
 use Rattle.heads.specs.Head.{form_of}
 use Rattle.items.specs.declared.Within.{Within}
 use Rattle.items.specs.declared.Cursor.{Cursor}
 use Rattle.items.specs.declared.Item.{Item}
 use Rattle.items.specs.Walk.{cursor, stands_in, is_inside}
 use Rattle.standing.specs.Standing.{octets_limit}
-use Rattle.effects.specs.declared.Effect.{Effect}
 use Rattle.effects.specs.Effects.{effect_of}
 use Rattle.effects.specs.contracts.Effect.{the_type}
 use Rattle.walk.specs.declared.Waveform.{Waveform}
 use Rattle.walk.specs.declared.Head.{Head}
 use Rattle.walk.specs.Advance.{Stand, on, effect_turn, stand_of}
 use Rattle.walk.proofs.Turns.{past_then}
-use Rattle.taking.specs.declared.Went.{Went}
+use Rattle.std.specs.Prelude.{Result, Ok, Err, Option, Some, None}
+use Rattle.heads.specs.declared.Refusal.{Refusal}
 use Rattle.taking.specs.declared.Taken.{Taken}
 use Rattle.taking.specs.Takes.{turn_by, Takes}
 use Rattle.walking.specs.Steps.{no_waveform}
@@ -146,7 +148,7 @@ reach_of_lem {h = h} {around} {t} {t'} {r} {w} ew eq p = goes_reach h.cursor.at 
 abbrev pub on_keys : List ℕ
 on_keys = 0 ∷ 1 ∷ 2 ∷ 3 ∷ 4 ∷ 5 ∷ 6 ∷ []
 
-goes_on : (x : Stand) (c : Cursor) (place : ℕ) (e : Effect) → OneOf on_keys (tag_of the_type e) → (y : Stand) × (effect_turn x c place e ≡ on y)
+goes_on : (x : Stand) (c : Cursor) (place : ℕ) (e : Effect) → OneOf on_keys (tag_of the_type e) → (y : Stand) × (effect_turn x c place (Ok e) ≡ on y)
 unfolding effect_turn
 goes_on x c place Effect.Pass h = (_, refl)
 goes_on x c place (Effect.Order little) h = (_, refl)
@@ -156,21 +158,21 @@ goes_on x c place (Effect.Start z) h = (_, refl)
 goes_on x c place (Effect.All ch) h = (_, refl)
 goes_on x c place (Effect.One channel ch) h = (_, refl)
 goes_on x c place (Effect.Frame start len) h = absurd (miss on_keys 7 tt h)
-goes_on x c place (Effect.Refused n) h = absurd (miss on_keys 8 tt h)
 
-turn_on : (w : Went) (x y : Stand) → turn_by w x ≡ on y → x ≡ y
-turn_on Went.On x y e = cc
-turn_on (Went.Stops k) x y e = let z : ◌≡◌ {A = ℕ} 0 1 = cc in let n : ⊥ = omega arith in absurd n
+turn_on : (w : Result (Option Waveform) Refusal) (x y : Stand) → turn_by w x ≡ on y → x ≡ y
+turn_on (Ok None) x y e = cc
+turn_on (Ok (Some v)) x y e = let z : ◌≡◌ {A = ℕ} 0 1 = cc in let n : ⊥ = omega arith in absurd n
+turn_on (Err r) x y e = let z : ◌≡◌ {A = ℕ} 0 1 = cc in let n : ⊥ = omega arith in absurd n
 
-pub item-goes : {u : List ℕ} {h : Head} {around k : ℕ} {t t' : List ℕ} {c : Cursor} {e : Effect} {r : Taken} {w : Within} {mark : ℕ} → IsItem u (stand_of h t) around k c e → OneOf on_keys (tag_of the_type e) → Takes t h c h.cursor.at e r t'
-    → w ≡ stands_in h.cursor.at h.cursor.within → mark ≡ group_at (stands_in c.at c.within) (cut_at w h.cursor.at around)
+pub item-goes : {u : List ℕ} {h : Head} {around k : ℕ} {t t' : List ℕ} {c : Cursor} {e : Result Effect Fault} {asked : Effect} {r : Taken} {w : Within} {mark : ℕ} → IsItem u (stand_of h t) around k c e → e ≡ Ok asked → OneOf on_keys (tag_of the_type asked)
+    → Takes t h c h.cursor.at (Ok asked) r t' → w ≡ stands_in h.cursor.at h.cursor.within → mark ≡ group_at (stands_in c.at c.within) (cut_at w h.cursor.at around)
     → GoesAhead u h around t (record { head = r.head; around = mark; taken = k }) t'
-item-goes {u} {h} {around} {k} {t} {t'} {c} {e} {r} {w} {mark} p o q ew em =
+item-goes {u} {h} {around} {k} {t} {t'} {c} {e} {asked} {r} {w} {mark} p is o q ew em =
     let x = stand_of h t in
     let y = stand_of r.head t' in
     let n = h.cursor.at in
-    let g = goes_on x c n e o in
-    let same : effect_turn x c n e ≡ on y = g.1 ∙ ap on (sym (turn_on r.went y g.0 (q.same ∙ g.1))) in
+    let g = goes_on x c n asked o in
+    let same : effect_turn x c n e ≡ on y = ap (effect_turn x c n) is ∙ g.1 ∙ ap on (sym (turn_on r.went y g.0 (q.same ∙ g.1))) in
     let around-is : around_behind x around c ≡ mark = sym (em ∙ ap (λ (z : Within). group_at (stands_in c.at c.within) (cut_at z n around)) ew) in
     record {
       inside = p.inside;
@@ -185,38 +187,38 @@ item-goes {u} {h} {around} {k} {t} {t'} {c} {e} {r} {w} {mark} p o q ew em =
 -- ---- the item at the front of octets
 
 -- What a call says of the head.
-pub head-is : {u : List ℕ} {h : Head} {w : Within} {inside : Bool} {f g : Form} → h.cursor.at + length u ≤ octets_limit → Fits (stands_in h.cursor.at h.cursor.within) (h.cursor.at + length u)
+pub head-is : {u : List ℕ} {h : Head} {w : Within} {inside : Bool} {f g : Result (Option ItemHead) Fault} → h.cursor.at + length u ≤ octets_limit → Fits (stands_in h.cursor.at h.cursor.within) (h.cursor.at + length u)
     → w ≡ stands_in h.cursor.at h.cursor.within → inside ≡ is_inside w → g ≡ form_of inside u → g ≡ f → IsHead u h f
 head-is {u} near fits ew eb eg ef = record { near = near; fits = fits; is = ap (λ (b : Bool). form_of b u) (sym (eb ∙ ap is_inside ew)) ∙ sym eg ∙ ef }
 
 -- It lies in the octets.
-pub primitive_inside : {u : List ℕ} {h : Head} {tag start len : ℕ} → IsHead u h (Form.Primitive tag start len) → start ≤ length u
-primitive_inside {u} {h} {tag} {start} {len} p = (head-inside (is_inside (stands_in h.cursor.at h.cursor.within)) u (Form.Primitive tag start len) start refl p.is).1
+pub primitive_inside : {u : List ℕ} {h : Head} {tag start len : ℕ} → IsHead u h (Ok (Some (ItemHead.Primitive tag start len))) → start ≤ length u
+primitive_inside {u} {h} {tag} {start} {len} p = (head-inside (is_inside (stands_in h.cursor.at h.cursor.within)) u (Ok (Some (ItemHead.Primitive tag start len))) start refl p.is).1
 
-pub definite_inside : {u : List ℕ} {h : Head} {channel start len : ℕ} → IsHead u h (Form.Definite channel start len) → start ≤ length u
-definite_inside {u} {h} {channel} {start} {len} p = (head-inside (is_inside (stands_in h.cursor.at h.cursor.within)) u (Form.Definite channel start len) start refl p.is).1
+pub definite_inside : {u : List ℕ} {h : Head} {channel start len : ℕ} → IsHead u h (Ok (Some (ItemHead.Definite channel start len))) → start ≤ length u
+definite_inside {u} {h} {channel} {start} {len} p = (head-inside (is_inside (stands_in h.cursor.at h.cursor.within)) u (Ok (Some (ItemHead.Definite channel start len))) start refl p.is).1
 
-pub open_inside : {u : List ℕ} {h : Head} {channel start : ℕ} → IsHead u h (Form.Open channel start) → start ≤ length u
-open_inside {u} {h} {channel} {start} p = (head-inside (is_inside (stands_in h.cursor.at h.cursor.within)) u (Form.Open channel start) start refl p.is).1
+pub open_inside : {u : List ℕ} {h : Head} {channel start : ℕ} → IsHead u h (Ok (Some (ItemHead.Open channel start))) → start ≤ length u
+open_inside {u} {h} {channel} {start} p = (head-inside (is_inside (stands_in h.cursor.at h.cursor.within)) u (Ok (Some (ItemHead.Open channel start))) start refl p.is).1
 
 module _ (u : List ℕ) (h : Head) (around : ℕ) (t : List ℕ) where
   abbrev here : Within
   here = stands_in h.cursor.at h.cursor.within
 
-  module _ (tag start len : ℕ) (p : IsHead u h (Form.Primitive tag start len)) where
-    pub valued-item : {w after : Within} {i : Item} {e : Effect} → (tag ≡ 0x1E → ⊥) → start + len ≤ length u → w ≡ here → i ≡ item_here w h.cursor.at tag start len → e ≡ effect_of u h.standing i → after ≡ within_after w tag len
+  module _ (tag start len : ℕ) (p : IsHead u h (Ok (Some (ItemHead.Primitive tag start len)))) where
+    pub valued-item : {w after : Within} {i : Item} {e : Result Effect Fault} → (tag ≡ 0x1E → ⊥) → start + len ≤ length u → w ≡ here → i ≡ item_here w h.cursor.at tag start len → e ≡ effect_of u h.standing i → after ≡ within_after w tag len
         → IsItem u (stand_of h t) around (start + len) (cursor (h.cursor.at + start + len) after) e
     valued-item {e = e} n l ew ei ee ea =
         let at = h.cursor.at in
         subst (λ (d : Cursor). IsItem u (stand_of h t) around (start + len) d e) (sym (ap (cursor (at + start + len)) (ea ∙ ap (λ (z : Within). within_after z tag len) ew)))
-        (subst (λ (f : Effect). IsItem u (stand_of h t) around (start + len) (cursor (at + start + len) (within_after here tag len)) f)
+        (subst (λ (f : Result Effect Fault). IsItem u (stand_of h t) around (start + len) (cursor (at + start + len) (within_after here tag len)) f)
         (sym (ee ∙ ap (effect_of u h.standing) (ei ∙ ap (λ (z : Within). item_here z at tag start len) ew)))
         (primitive_item (stand_of h t) around u p.near p.fits tag start len p.is l n))
 
-  pub definite_here : (channel start len : ℕ) {e : Effect} → IsHead u h (Form.Definite channel start len) → e ≡ effect_of u h.standing (Item.Group h.cursor.at channel)
+  pub definite_here : (channel start len : ℕ) {e : Result Effect Fault} → IsHead u h (Ok (Some (ItemHead.Definite channel start len))) → e ≡ effect_of u h.standing (Item.Group h.cursor.at channel)
       → IsItem u (stand_of h t) around start (cursor (h.cursor.at + start) (Within.Definite channel (h.cursor.at + start + len))) e
   definite_here channel start len p ee = rw ee (definite_item (stand_of h t) around u p.near p.fits channel start len p.is)
 
-  pub open_here : (channel start : ℕ) {e : Effect} → IsHead u h (Form.Open channel start) → e ≡ effect_of u h.standing (Item.Group h.cursor.at channel)
+  pub open_here : (channel start : ℕ) {e : Result Effect Fault} → IsHead u h (Ok (Some (ItemHead.Open channel start))) → e ≡ effect_of u h.standing (Item.Group h.cursor.at channel)
       → IsItem u (stand_of h t) around start (cursor (h.cursor.at + start) (Within.Open channel h.cursor.at)) e
   open_here channel start p ee = rw ee (open_item (stand_of h t) around u p.near p.fits channel start p.is)

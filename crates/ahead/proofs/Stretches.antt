@@ -3,6 +3,10 @@
 --     group_inside, ignored_goes    behind a stretch in a group that is ignored
 --     group_put, group_kept     behind a stretch in a group, with a definition and without
 -- Assumes nothing.
+use Rattle.heads.specs.declared.Fault.{Fault}
+use Rattle.effects.specs.declared.Effect.{Effect}
+use Rattle.std.specs.Prelude.{Option, Some, None, Result, Ok}
+use Rattle.definitions.specs.declared.Attribute.{Attribute}
 use mathlib.Core.Path.{◌≡◌, refl, sym, ap, subst, ◌∙◌}
 use mathlib.Core.List.{List, []}
 use mathlib.Core.Bool.{Bool, true, false}
@@ -24,14 +28,12 @@ use Rattle.items.specs.Walk.{cursor, stands_in, is_inside, ends_open}
 use Rattle.settings.specs.declared.Settings.{Settings}
 use Rattle.settings.specs.declared.Change.{Change}
 use Rattle.settings.specs.Settings.{default_settings, applied}
-use Rattle.definitions.specs.declared.Tagged.{Tagged}
 use Rattle.definitions.specs.Define.{tagged}
 use Rattle.dated.specs.declared.Dated.{Dated}
 use Rattle.dated.specs.declared.Dates.{Dates}
 use Rattle.dated.specs.Dated.{noted, zero_dated, settled_at}
 use Rattle.standing.specs.declared.Standing.{Standing}
 use Rattle.standing.specs.Standing.{octets_limit, with_root}
-use Rattle.effects.specs.declared.Effect.{Effect}
 use Rattle.effects.specs.Effects.{value_at, effect_of}
 use Rattle.stretch.specs.declared.Stretch.{Stretch}
 use Rattle.stretch.specs.Stretch.{stretch_of}
@@ -101,7 +103,7 @@ module _ (q : List ℕ) (x : Stand) (around : ℕ) (little : Bool) (base : Setti
 
   -- What an item of a stretch asks for is carried out.
   pub record Carries (u : List ℕ) (place : ℕ) (held next : Settings) (y : Passed) : Type 0 where
-    pub effect : Effect
+    pub effect : (Result Effect Fault)
     pub asks : effect_of u (S held) (item_here within place (get_or u 0 0) 2 (get_or u 1 0)) ≡ effect
     pub leads : (c d : Cursor) → effect_turn (stand_at c held y) d place effect ≡ on (stand_at d next (passed_item (tagged (get_or u 0 0)) y))
     pub also : J next (passed_item (tagged (get_or u 0 0)) y)
@@ -158,7 +160,7 @@ module _ (q : List ℕ) (x : Stand) (around : ℕ) (little : Bool) (base : Setti
       next-item : IsItem ahead (stands at held y) (around_at at) (2 + long) (cursor (from + more) (within_at more)) carries.effect
       next-item =
           subst (λ (c : Cursor). IsItem ahead (stands at held y) (around_at at) (2 + long) c carries.effect) next-cursor
-          (subst (λ (e : Effect). IsItem ahead (stands at held y) (around_at at) (2 + long) (cursor (from + at + 2 + long) (within_after (stands_in (from + at) (within_at at)) tag long)) e)
+          (subst (λ (e : Result Effect Fault). IsItem ahead (stands at held y) (around_at at) (2 + long) (cursor (from + at + 2 + long) (within_after (stands_in (from + at) (within_at at)) tag long)) e)
           (ap (λ (w : Within). effect_of ahead (S held) (item_here w (from + at) tag 2 long)) here-stands ∙ carries.asks)
           (primitive_item (stands at held y) (around_at at) ahead (omega (arith, near, ahead-long, inside))
           (subst (λ (w : Within). Fits w (from + at + length ahead)) (sym here-stands) (subst (Fits within) (let z : from + length q ≡ from + at + length ahead = omega (arith, ahead-long, inside) in z) fits))
@@ -257,15 +259,15 @@ module _ (q : List ℕ) (h : Head) (around : ℕ) (t : List ℕ) where
         let asked = ap (λ (w : Within). effect_of u st (item_here w place (get_or u 0 0) 2 (get_or u 1 0))) root in
         ⊎_elim
         (λ a. record {
-          effect = Effect.All a.1;
+          effect = Ok (Effect.All a.1);
           asks = asked ∙ a.4;
           leads = λ c d.
-              (λ i. on (stand d (with_root (sym a.5 i) h.standing) (sym (change_timed a.0 st.little default_settings v a.3 y.dates) i) (records_in t) (passed_item (Tagged.Defines a.0) y).items h.frames))
-              ∙ ap (λ (k : Tagged). on (stand d (with_root next h.standing) (passed_item k y).dates (records_in t) (passed_item k y).items h.frames)) (sym a.2);
+              (λ i. on (stand d (with_root (sym a.5 i) h.standing) (sym (change_timed a.0 st.little default_settings v a.3 y.dates) i) (records_in t) (passed_item (Some a.0) y).items h.frames))
+              ∙ ap (λ (k : Option Attribute). on (stand d (with_root next h.standing) (passed_item k y).dates (records_in t) (passed_item k y).items h.frames)) (sym a.2);
           also = tt;
         })
         (λ a. record {
-          effect = Effect.Pass;
+          effect = (Ok Effect.Pass);
           asks = asked ∙ a.1;
           leads = λ c d.
               (λ i. on (stand d (with_root (sym a.2 i) h.standing) (passed_item (sym a.0 i) y).dates (records_in t) (passed_item (sym a.0 i) y).items h.frames));
@@ -314,16 +316,16 @@ group_inside (Within.Definite k end) channel g = refl
 group_inside (Within.Open k place) channel g = refl
 
 -- One item more is read, whatever it defines.
-passed_count : (k : Tagged) (y : Passed) → (passed_item k y).items ≡ (y.items + 1) % 2 ^ 64
-passed_count (Tagged.Defines a) y = refl
-passed_count Tagged.Other y = refl
+passed_count : (k : Option Attribute) (y : Passed) → (passed_item k y).items ≡ (y.items + 1) % 2 ^ 64
+passed_count (Some a) y = refl
+passed_count None y = refl
 
-ignored_asks : (u : List ℕ) (st : Standing) (w : Within) (place tag start len : ℕ) → is_inside w ≡ true → st.counted ≡ 0 → effect_of u st (item_here w place tag start len) ≡ Effect.Pass
+ignored_asks : (u : List ℕ) (st : Standing) (w : Within) (place tag start len : ℕ) → is_inside w ≡ true → st.counted ≡ 0 → effect_of u st (item_here w place tag start len) ≡ (Ok Effect.Pass)
 unfolding effect_of item_here
 ignored_asks u st Within.Root place tag start len i z = let n : ◌≡◌ {A = ℕ} 0 1 = cc in let x : ⊥ = omega arith in absurd x
 ignored_asks u st (Within.Definite channel end) place tag start len i z = simp (eq-eqb st.counted 0 z)
 ignored_asks u st (Within.Open channel group) place tag start len i z =
-    pick_cases (λ (x : Item). effect_of u st x ≡ Effect.Pass) (ends_open tag len) (λ _. refl) (λ _. simp (eq-eqb st.counted 0 z))
+    pick_cases (λ (x : Item). effect_of u st x ≡ (Ok Effect.Pass)) (ends_open tag len) (λ _. refl) (λ _. simp (eq-eqb st.counted 0 z))
 
 module _ (q : List ℕ) (h : Head) (around : ℕ) (t : List ℕ) {w : Within} (ew : w ≡ stands_in h.cursor.at h.cursor.within) (i : is_inside w ≡ true) (z : h.standing.counted ≡ 0) where
   ignored_one : (u : List ℕ) (place : ℕ) (held next : Settings) (y : Passed) → InStretch h.standing.little h.standing.root held u next → Unit {0}
@@ -331,7 +333,7 @@ module _ (q : List ℕ) (h : Head) (around : ℕ) (t : List ℕ) {w : Within} (e
   unfolding effect_turn
   ignored_one u place held next y p _ =
       record {
-        effect = Effect.Pass;
+        effect = (Ok Effect.Pass);
         asks = ignored_asks u h.standing (stands_in h.cursor.at h.cursor.within) place (get_or u 0 0) 2 (get_or u 1 0) (sym (ap is_inside ew) ∙ i) z;
         leads = λ c d. ap (λ (n : ℕ). on (stand d h.standing h.dates (records_in t) n h.frames)) (sym (passed_count (tagged (get_or u 0 0)) y));
         also = tt;
@@ -414,21 +416,21 @@ module _ (q : List ℕ) (h : Head) (around : ℕ) (t : List ℕ) (channel : ℕ)
   group_one u place held next y p j =
       let st = h.standing in
       let here = stands_in h.cursor.at h.cursor.within in
-      let stands : Cursor → List Dated → Tagged → Turn = λ d records k. on (stand d st h.dates records (passed_item k y).items h.frames) in
+      let stands : Cursor → List Dated → Option Attribute → Turn = λ d records k. on (stand d st h.dates records (passed_item k y).items h.frames) in
       ⊎_elim
       (λ a. record {
-        effect = Effect.One channel a.1;
+        effect = Ok (Effect.One channel a.1);
         asks = a.4;
         leads = λ c d.
-            ap (λ (r : List Dated). stands d r (Tagged.Defines a.0)) (sym (noted_more st h.dates (records_in t) channel low y.defines held j a.1))
+            ap (λ (r : List Dated). stands d r (Some a.0)) (sym (noted_more st h.dates (records_in t) channel low y.defines held j a.1))
             ∙ (λ i. stands d (group_records (sym a.5 i) (passed_item (sym a.2 i) y)) (sym a.2 i));
-        also = subst (λ (k : Tagged). Stood next (passed_item k y)) (sym a.2) (λ f. absurd (subst Truth f tt));
+        also = subst (λ (k : Option Attribute). Stood next (passed_item k y)) (sym a.2) (λ f. absurd (subst Truth f tt));
       })
       (λ a. record {
-        effect = Effect.Pass;
+        effect = (Ok Effect.Pass);
         asks = a.1;
         leads = λ c d. (λ i. stands d (group_records (sym a.2 i) (passed_item (sym a.0 i) y)) (sym a.0 i));
-        also = subst (λ (k : Tagged). Stood next (passed_item k y)) (sym a.0) (λ f. a.2 ∙ j f);
+        also = subst (λ (k : Option Attribute). Stood next (passed_item k y)) (sym a.0) (λ f. a.2 ∙ j f);
       })
       (group_asks u st channel counted here (subst (λ (z : Within). InGroup z channel) ew g) place held next p)
 

@@ -5,6 +5,10 @@
 --     definite_item, open_item      a group's head
 --     primitive_item                an item with a value
 -- Assumes nothing.
+use Rattle.heads.specs.declared.Fault.{Fault}
+use Rattle.effects.specs.declared.Effect.{Effect}
+use Rattle.heads.specs.declared.ItemHead.{ItemHead}
+use Rattle.std.specs.Prelude.{Result, Ok, Err, Option, Some, None}
 use Prim.Native.Nat.{ℕ, zero, suc, ◌+◌, ◌-◌, ◌≤◌, ◌<◌}
 use mathlib.Core.Path.{◌≡◌, refl, sym, ◌∙◌, ap, subst}
 use mathlib.Core.List.{List, [], ◌∷◌, ◌++◌}
@@ -17,7 +21,6 @@ use lib.Seq.{take-suc, take-add, take-length, length-take-le}
 use Rattle.octets.specs.Pick.{pick}
 use Rattle.octets.proofs.Pick.{both_false}
 use Rattle.octets.proofs.Laws.{drop-take}
-use Rattle.heads.specs.declared.Form.{Form}
 use Rattle.heads.specs.Head.{form_of}
 use Rattle.heads.proofs.Heads.{FormWithin, form_within}
 use Rattle.heads.proofs.Forms.{FormKept, form_keeps, FormEnds, FormExact, form_exact}
@@ -27,11 +30,9 @@ use Rattle.items.specs.declared.Item.{Item}
 use Rattle.items.specs.Walk.{cursor, stands_in, is_inside, ends_open}
 use Rattle.standing.specs.declared.Standing.{Standing}
 use Rattle.standing.specs.Standing.{octets_limit}
-use Rattle.effects.specs.declared.Effect.{Effect}
 use Rattle.effects.specs.Effects.{effect_of}
 use Rattle.walk.specs.declared.Waveform.{Waveform}
 use Rattle.walk.specs.Advance.{Stand, Turn, on, stops, framed_turn, effect_turn}
-use Rattle.framing.specs.declared.Framed.{Framed}
 use Rattle.walking.specs.Steps.{no_waveform}
 use Rattle.link.specs.Link.{Phase, head, value, Link, link, cut_at, group_at, marked, kept_limit, item_at, within_after, done_item, valued, primitive_begins, group_begins, turned_by, confined, seen_in, headed, taken_in, is_decided, stepped, fed_with, Given, gives_in, gives, given_by}
 use Rattle.link.specs.Feed.{is_head, due}
@@ -75,68 +76,68 @@ abbrev OnAt : Cursor → Turn → Type 0
 OnAt c (on y) = y.cursor ≡ c
 OnAt c (stops z) = Unit {0}
 
-framed_at : (x : Stand) (c : Cursor) (place start len : ℕ) (f : Framed) → OnAt c (framed_turn x c place start len f)
+framed_at : (x : Stand) (c : Cursor) (place start len : ℕ) (f : Result (ℕ × Standing) Fault) → OnAt c (framed_turn x c place start len f)
 unfolding framed_turn
-framed_at x c place start len (Framed.Taken n st) = tt
-framed_at x c place start len (Framed.Refused n) = tt
+framed_at x c place start len (Ok (n, st)) = tt
+framed_at x c place start len (Err n) = tt
 
-on-at : (x : Stand) (c : Cursor) (place : ℕ) (e : Effect) → OnAt c (effect_turn x c place e)
+on-at : (x : Stand) (c : Cursor) (place : ℕ) (e : Result Effect Fault) → OnAt c (effect_turn x c place e)
 unfolding effect_turn
-on-at x c place Effect.Pass = refl
-on-at x c place (Effect.Order little) = refl
-on-at x c place (Effect.Count n) = refl
-on-at x c place (Effect.Sequences n) = refl
-on-at x c place (Effect.Start z) = refl
-on-at x c place (Effect.All d) = refl
-on-at x c place (Effect.One channel d) = refl
-on-at x c place (Effect.Frame start len) = framed_at x c place start len _
-on-at x c place (Effect.Refused n) = tt
+on-at x c place (Ok Effect.Pass) = refl
+on-at x c place (Ok (Effect.Order little)) = refl
+on-at x c place (Ok (Effect.Count n)) = refl
+on-at x c place (Ok (Effect.Sequences n)) = refl
+on-at x c place (Ok (Effect.Start z)) = refl
+on-at x c place (Ok (Effect.All d)) = refl
+on-at x c place (Ok (Effect.One channel d)) = refl
+on-at x c place (Ok (Effect.Frame start len)) = framed_at x c place start len _
+on-at x c place (Err n) = tt
 
 -- An item that leads on leaves the cursor behind it.
-pub on-cursor : (x : Stand) (c : Cursor) (place : ℕ) (e : Effect) (y : Stand) → effect_turn x c place e ≡ on y → y.cursor ≡ c
+pub on-cursor : (x : Stand) (c : Cursor) (place : ℕ) (e : Result Effect Fault) (y : Stand) → effect_turn x c place e ≡ on y → y.cursor ≡ c
 on-cursor x c place e y g = subst (OnAt c) g (on-at x c place e)
 
 -- ---- a head among octets
 
 -- A head that is there takes n octets.
-abbrev Ends : ℕ → Form → Type 0
-Ends n Form.More = ⊥
-Ends n (Form.Faulty k) = ⊥
-Ends n (Form.Primitive tag start len) = start ≡ n
-Ends n (Form.Definite channel start len) = start ≡ n
-Ends n (Form.Open channel start) = start ≡ n
+abbrev Ends : ℕ → Result (Option ItemHead) Fault → Type 0
+Ends n (Ok None) = ⊥
+Ends n (Err k) = ⊥
+Ends n (Ok (Some (ItemHead.Primitive tag start len))) = start ≡ n
+Ends n (Ok (Some (ItemHead.Definite channel start len))) = start ≡ n
+Ends n (Ok (Some (ItemHead.Open channel start))) = start ≡ n
 
-ends-within : (n m : ℕ) (f : Form) → Ends n f → FormWithin m f → (0 < n) × (n ≤ m)
-ends-within n m Form.More e w = absurd e
-ends-within n m (Form.Faulty k) e w = absurd e
-ends-within n m (Form.Primitive tag start len) e w = (omega arith, omega arith)
-ends-within n m (Form.Definite channel start len) e w = (omega arith, omega arith)
-ends-within n m (Form.Open channel start) e w = (omega arith, omega arith)
+ends-within : (n m : ℕ) (f : Result (Option ItemHead) Fault) → Ends n f → FormWithin m f → (0 < n) × (n ≤ m)
+ends-within n m (Ok None) e w = absurd e
+ends-within n m (Err k) e w = absurd e
+ends-within n m (Ok (Some (ItemHead.Primitive tag start len))) e w = (omega arith, omega arith)
+ends-within n m (Ok (Some (ItemHead.Definite channel start len))) e w = (omega arith, omega arith)
+ends-within n m (Ok (Some (ItemHead.Open channel start))) e w = (omega arith, omega arith)
 
-ends_once : (n m : ℕ) (f : Form) → Ends n f → FormEnds m f → n ≡ m
-ends_once n m Form.More e w = absurd e
-ends_once n m (Form.Faulty k) e w = absurd e
-ends_once n m (Form.Primitive tag start len) e w = omega arith
-ends_once n m (Form.Definite channel start len) e w = omega arith
-ends_once n m (Form.Open channel start) e w = omega arith
+ends_once : (n m : ℕ) (f : Result (Option ItemHead) Fault) → Ends n f → FormEnds m f → n ≡ m
+ends_once n m (Ok None) e w = absurd e
+ends_once n m (Err k) e w = absurd e
+ends_once n m (Ok (Some (ItemHead.Primitive tag start len))) e w = omega arith
+ends_once n m (Ok (Some (ItemHead.Definite channel start len))) e w = omega arith
+ends_once n m (Ok (Some (ItemHead.Open channel start))) e w = omega arith
 
-module _ (inside : Bool) (q : List ℕ) (f : Form) (n : ℕ) (whole : Ends n f) (is : form_of inside q ≡ f) where
+module _ (inside : Bool) (q : List ℕ) (f : Result (Option ItemHead) Fault) (n : ℕ) (whole : Ends n f) (is : form_of inside q ≡ f) where
   pub head-inside : (0 < n) × (n ≤ length q)
   head-inside = ends-within n (length q) f whole (subst (FormWithin (length q)) is (form_within inside q))
 
   -- Before its last octet more are wanted.
-  form_wants : (k : ℕ) → k < n → form_of inside (take k q) ≡ Form.More
+  form_wants : (k : ℕ) → k < n → form_of inside (take k q) ≡ (Ok None)
   form_wants k h = by (form_of inside (take k q)) (form_within inside (take k q)) (rw (take-append-drop k q, is) at (form_keeps inside (take k q) (drop k q)))
     where
-      never : (g : Form) → f ≡ g → FormWithin (length (take k q)) g → g ≡ Form.More
+      never : (g : Result (Option ItemHead) Fault) → f ≡ g → FormWithin (length (take k q)) g → g ≡ (Ok None)
       never g e w = let z = ends-within n (length (take k q)) g (subst (Ends n) e whole) w in let y : ⊥ = omega (arith, z.1, length-take k q) in absurd y
 
-      by : (g : Form) → FormWithin (length (take k q)) g → FormKept g f → g ≡ Form.More
-      by Form.More w e = refl
-      by (Form.Faulty number) w e = never (Form.Faulty number) e w
-      by (Form.Primitive tag start len) w e = never (Form.Primitive tag start len) e w
-      by (Form.Definite channel start len) w e = never (Form.Definite channel start len) e w
-      by (Form.Open channel start) w e = never (Form.Open channel start) e w
+      by : (g : Result (Option ItemHead) Fault) → FormWithin (length (take k q)) g → FormKept g f → g ≡ (Ok None)
+      by (Ok None) w e = refl
+      by (Err fault) w e = never (Err fault) e w
+      by (Ok (Some (ItemHead.Primitive tag start len))) w e = never (Ok (Some (ItemHead.Primitive tag start len))) e w
+      by (Ok (Some (ItemHead.Definite channel start len))) w e = never (Ok (Some (ItemHead.Definite channel start len))) e w
+      by (Ok (Some (ItemHead.Open channel start))) w e = never (Ok (Some (ItemHead.Open channel start))) e w
 
   -- From its last octet on it is there.
   form_from : (d k : ℕ) → k + d ≡ length q → n ≤ k → form_of inside (take k q) ≡ f
@@ -146,12 +147,12 @@ module _ (inside : Bool) (q : List ℕ) (f : Form) (n : ℕ) (whole : Ends n f) 
       last : ℕ
       last = get_or q k 0
 
-      before : (g : Form) → FormExact (length (take k q) + 1) g f → FormKept g f → g ≡ f
-      before Form.More w s = let z = ends_once n (length (take k q) + 1) f whole w in let y : ⊥ = omega (arith, z, length-take-le k q (omega arith)) in absurd y
-      before (Form.Faulty number) w s = sym s
-      before (Form.Primitive tag start len) w s = sym s
-      before (Form.Definite channel start len) w s = sym s
-      before (Form.Open channel start) w s = sym s
+      before : (g : Result (Option ItemHead) Fault) → FormExact (length (take k q) + 1) g f → FormKept g f → g ≡ f
+      before (Ok None) w s = let z = ends_once n (length (take k q) + 1) f whole w in let y : ⊥ = omega (arith, z, length-take-le k q (omega arith)) in absurd y
+      before (Err fault) w s = sym s
+      before (Ok (Some (ItemHead.Primitive tag start len))) w s = sym s
+      before (Ok (Some (ItemHead.Definite channel start len))) w s = sym s
+      before (Ok (Some (ItemHead.Open channel start))) w s = sym s
 
       by : form_of inside (take (suc k) q) ≡ f → form_of inside (take k q) ≡ f
       by later =
@@ -200,32 +201,32 @@ module _ (x : Stand) (around : ℕ) (q : List ℕ) where
     in_head k v = link (from + k) x around (told_behind k v) (head (take k q))
 
     -- What the octets of a head say is what they say where they have come to.
-    seen_more : (w : Within) (k n : ℕ) → Fits w n → k < n → seen_in w k Form.More ≡ Form.More
+    seen_more : (w : Within) (k n : ℕ) → Fits w n → k < n → seen_in w k (Ok None) ≡ (Ok None)
     unfolding seen_in confined
     seen_more Within.Root k n f h = refl
     seen_more (Within.Definite channel end) k n f h = let z : end - k ≡ 0 → ⊥ = λ e. omega arith in simp (ne_eqb (end - k) 0 z)
     seen_more (Within.Open channel place) k n f h = refl
 
-    seen_primitive : (w : Within) (k n tag start len : ℕ) → Fits w n → k + len ≤ n → seen_in w k (Form.Primitive tag start len) ≡ Form.Primitive tag start len
+    seen_primitive : (w : Within) (k n tag start len : ℕ) → Fits w n → k + len ≤ n → seen_in w k (Ok (Some (ItemHead.Primitive tag start len))) ≡ Ok (Some (ItemHead.Primitive tag start len))
     unfolding seen_in confined
     seen_primitive Within.Root k n tag start len f h = refl
     seen_primitive (Within.Definite channel end) k n tag start len f h = let z : len ≤ end - k = omega arith in simp (le-ltb (end - k) len z)
     seen_primitive (Within.Open channel place) k n tag start len f h = refl
 
-    seen_definite : (w : Within) (k channel start len : ℕ) → seen_in w k (Form.Definite channel start len) ≡ Form.Definite channel start len
+    seen_definite : (w : Within) (k channel start len : ℕ) → seen_in w k (Ok (Some (ItemHead.Definite channel start len))) ≡ Ok (Some (ItemHead.Definite channel start len))
     unfolding seen_in confined
     seen_definite Within.Root k channel start len = refl
     seen_definite (Within.Definite c end) k channel start len = refl
     seen_definite (Within.Open c place) k channel start len = refl
 
-    seen_open : (w : Within) (k channel start : ℕ) → seen_in w k (Form.Open channel start) ≡ Form.Open channel start
+    seen_open : (w : Within) (k channel start : ℕ) → seen_in w k (Ok (Some (ItemHead.Open channel start))) ≡ Ok (Some (ItemHead.Open channel start))
     unfolding seen_in confined
     seen_open Within.Root k channel start = refl
     seen_open (Within.Definite c end) k channel start = refl
     seen_open (Within.Open c place) k channel start = refl
 
     -- One octet more of a head.
-    head-steps : (k : ℕ) (v : Waveform) (f : Form) → k < length q → seen_in within (from + suc k) (form_of (is_inside within) (take (suc k) q)) ≡ f
+    head-steps : (k : ℕ) (v : Waveform) (f : Result (Option ItemHead) Fault) → k < length q → seen_in within (from + suc k) (form_of (is_inside within) (take (suc k) q)) ≡ f
         → stepped (in_head k v) (get_or q k 0) ≡ headed (take (suc k) q) f (link (from + suc k) x around no_waveform (head (take k q)))
     unfolding stepped taken_in
     head-steps k v f h e =
@@ -233,14 +234,14 @@ module _ (x : Stand) (around : ℕ) (q : List ℕ) where
         let l : from + k < octets_limit = omega arith in
         simp (lt-leb octets_limit (from + k) l)
         ((λ i. headed (sym (take-suc q k 0 h) i) (seen_in within (count i) (form_of (is_inside within) (sym (take-suc q k 0 h) i))) (link (count i) x around no_waveform (head (take k q))))
-        ∙ ap (λ (g : Form). headed (take (suc k) q) g (link (from + suc k) x around no_waveform (head (take k q)))) e)
+        ∙ ap (λ (g : Result (Option ItemHead) Fault). headed (take (suc k) q) g (link (from + suc k) x around no_waveform (head (take k q)))) e)
 
     head-gives : (k : ℕ) (v : Waveform) (b : ℕ) → k < length q → gives (in_head k v) b ≡ []
     unfolding gives gives_in
     head-gives k v b h = let l : from + k < octets_limit = omega arith in simp (lt-leb octets_limit (from + k) l)
 
     -- With it the link stands at m.
-    head_octet : (k : ℕ) (v : Waveform) (f : Form) (m : Link) → k < length q → seen_in within (from + suc k) (form_of (is_inside within) (take (suc k) q)) ≡ f
+    head_octet : (k : ℕ) (v : Waveform) (f : Result (Option ItemHead) Fault) (m : Link) → k < length q → seen_in within (from + suc k) (form_of (is_inside within) (take (suc k) q)) ≡ f
         → headed (take (suc k) q) f (link (from + suc k) x around no_waveform (head (take k q))) ≡ m
         → is_decided m.phase ≡ false → ltb 0 m.frame.channels ≡ false
         → Leads (between x around v) (take k q) (in_head k v) [] → Leads (between x around v) (take (suc k) q) m []
@@ -248,7 +249,7 @@ module _ (x : Stand) (around : ℕ) (q : List ℕ) where
         subst (λ (u : List ℕ). Leads (between x around v) u m []) (sym (take-suc q k 0 h))
         (leads-both p (leads_octet (in_head k v) m (get_or q k 0) refl (head-steps k v f h e ∙ s) (head-gives k v (get_or q k 0) h) d c))
 
-    module _ (f : Form) (n : ℕ) (whole : Ends n f) (is : form_of (is_inside within) q ≡ f) where
+    module _ (f : Result (Option ItemHead) Fault) (n : ℕ) (whole : Ends n f) (is : form_of (is_inside within) q ≡ f) where
       -- All octets of a head but the last.
       head_run : (k : ℕ) (v : Waveform) → k < n → Leads (between x around v) (take k q) (in_head k v) []
       unfolding headed
@@ -258,7 +259,7 @@ module _ (x : Stand) (around : ℕ) (q : List ℕ) where
       head_run (suc k) v h =
           let t = head-inside (is_inside within) q f n whole is in
           let none = told_none (suc k) v (omega arith) in
-          head_octet k v Form.More (in_head (suc k) v) (omega (arith, t.1))
+          head_octet k v (Ok None) (in_head (suc k) v) (omega (arith, t.1))
           (ap (seen_in within (from + suc k)) (form_wants (is_inside within) q f n whole is (suc k) h) ∙ seen_more within (from + suc k) (from + length q) fits (omega (arith, t.1)))
           (ap (λ (a : Waveform). link (from + suc k) x around a (head (take (suc k) q))) (sym none)) refl (ap (λ (a : Waveform). ltb 0 a.channels) none) (head_run k v (omega arith))
 
@@ -277,7 +278,7 @@ module _ (x : Stand) (around : ℕ) (q : List ℕ) where
               d c (head_run k v (omega arith)))
 
     -- An effect that leads on.
-    module _ (c : Cursor) (e : Effect) (y : Stand) (leads : effect_turn x c from e ≡ on y) where
+    module _ (c : Cursor) (e : Result Effect Fault) (y : Stand) (leads : effect_turn x c from e ≡ on y) where
       abbrev behind : Link
       behind = link c.at y (around_behind x around c) no_waveform (head [])
 
@@ -288,7 +289,7 @@ module _ (x : Stand) (around : ℕ) (q : List ℕ) where
           ∙ ap (λ (d : Cursor). link c.at y (group_at (stands_in d.at d.within) (cut_at within from around)) no_waveform (head [])) (on-cursor x c from e y leads)
 
     -- A group's head.
-    module _ (channel start : ℕ) (w : Within) (f : Form) (whole : Ends start f) (is : form_of (is_inside within) q ≡ f) (seen : seen_in within (from + start) f ≡ f) (left : ℕ)
+    module _ (channel start : ℕ) (w : Within) (f : Result (Option ItemHead) Fault) (whole : Ends start f) (is : form_of (is_inside within) q ≡ f) (seen : seen_in within (from + start) f ≡ f) (left : ℕ)
         (begins : (p : Phase) → headed (take start q) f (link (from + start) x around no_waveform p) ≡ group_begins left channel w (link (from + start) x around no_waveform p)) where
       group_item : IsItem q x around start (cursor (from + start) w) (effect_of q x.standing (Item.Group from channel))
       unfolding effect_of
@@ -304,24 +305,24 @@ module _ (x : Stand) (around : ℕ) (q : List ℕ) where
                 refl refl;
           }
 
-    pub definite_item : (channel start len : ℕ) → form_of (is_inside within) q ≡ Form.Definite channel start len
+    pub definite_item : (channel start len : ℕ) → form_of (is_inside within) q ≡ Ok (Some (ItemHead.Definite channel start len))
         → IsItem q x around start (cursor (from + start) (Within.Definite channel (from + start + len))) (effect_of q x.standing (Item.Group from channel))
     unfolding headed
     definite_item channel start len is =
-        group_item channel start (Within.Definite channel (from + start + len)) (Form.Definite channel start len) refl is (seen_definite within (from + start) channel start len) len (λ p. refl)
+        group_item channel start (Within.Definite channel (from + start + len)) (Ok (Some (ItemHead.Definite channel start len))) refl is (seen_definite within (from + start) channel start len) len (λ p. refl)
 
-    pub open_item : (channel start : ℕ) → form_of (is_inside within) q ≡ Form.Open channel start
+    pub open_item : (channel start : ℕ) → form_of (is_inside within) q ≡ Ok (Some (ItemHead.Open channel start))
         → IsItem q x around start (cursor (from + start) (Within.Open channel from)) (effect_of q x.standing (Item.Group from channel))
     unfolding headed
     open_item channel start is =
-        group_item channel start (Within.Open channel from) (Form.Open channel start) refl is (seen_open within (from + start) channel start) 0 (λ p. refl)
+        group_item channel start (Within.Open channel from) (Ok (Some (ItemHead.Open channel start))) refl is (seen_open within (from + start) channel start) 0 (λ p. refl)
 
     -- An item with a value that is all there, and no waveform.
-    module _ (tag start len : ℕ) (is : form_of (is_inside within) q ≡ Form.Primitive tag start len) (there : start + len ≤ length q) (plain : tag ≡ 0x1E → ⊥) where
+    module _ (tag start len : ℕ) (is : form_of (is_inside within) q ≡ Ok (Some (ItemHead.Primitive tag start len))) (there : start + len ≤ length q) (plain : tag ≡ 0x1E → ⊥) where
       abbrev cursor_behind : Cursor
       cursor_behind = cursor (from + start + len) (within_after within tag len)
 
-      abbrev effect_here : Effect
+      abbrev effect_here : (Result Effect Fault)
       effect_here = effect_of q x.standing (item_here within from tag start len)
 
       abbrev value_here : List ℕ
@@ -375,14 +376,14 @@ module _ (x : Stand) (around : ℕ) (q : List ℕ) where
         at_value k p = link k x around no_waveform p
 
         -- With its head's last octet.
-        begins_none : len ≡ 0 → (p : Phase) → headed (take start q) (Form.Primitive tag start len) (at_value (from + start) p) ≡ there-behind
+        begins_none : len ≡ 0 → (p : Phase) → headed (take start q) (Ok (Some (ItemHead.Primitive tag start len))) (at_value (from + start) p) ≡ there-behind
         unfolding headed primitive_begins valued
         begins_none e p =
             let n : from + start ≡ from + start + len = omega arith in
             let none : [] ≡ take kept_limit value_here = sym (ap (λ (k : ℕ). take kept_limit (take k (drop start q))) e) in
             simp (ne_eqb tag 0x1E plain, eq-eqb len 0 e) ((λ i. done_item tag (none i) (at_value (n i) p)) ∙ done p)
 
-        begins_some : (len ≡ 0 → ⊥) → (p : Phase) → headed (take start q) (Form.Primitive tag start len) (at_value (from + start) p) ≡ at_value (from + start) (value tag len [])
+        begins_some : (len ≡ 0 → ⊥) → (p : Phase) → headed (take start q) (Ok (Some (ItemHead.Primitive tag start len))) (at_value (from + start) p) ≡ at_value (from + start) (value tag len [])
         unfolding headed primitive_begins valued
         begins_some h p = simp (ne_eqb tag 0x1E plain, ne_eqb len 0 h)
 
@@ -422,21 +423,21 @@ module _ (x : Stand) (around : ℕ) (q : List ℕ) where
         all-leads : (v : Waveform) → Leads (between x around v) (take (start + len) q) there-behind []
         all-leads v = by len refl
           where
-            whole : seen_in within (from + start) (Form.Primitive tag start len) ≡ Form.Primitive tag start len
+            whole : seen_in within (from + start) (Ok (Some (ItemHead.Primitive tag start len))) ≡ Ok (Some (ItemHead.Primitive tag start len))
             whole = seen_primitive within (from + start) (from + length q) tag start len fits (omega arith)
 
             by : (j : ℕ) → len ≡ j → Leads (between x around v) (take (start + len) q) there-behind []
             by zero e =
                 let z : start ≡ start + len = omega arith in
                 subst (λ (k : ℕ). Leads (between x around v) (take k q) there-behind []) z
-                (head_last (Form.Primitive tag start len) start refl is v there-behind whole (begins_none e) refl refl)
+                (head_last (Ok (Some (ItemHead.Primitive tag start len))) start refl is v there-behind whole (begins_none e) refl refl)
             by (suc j) e =
                 subst (λ (u : List ℕ). Leads (between x around v) u there-behind []) (sym (take-add start len q))
                 (leads-both
-                (head_last (Form.Primitive tag start len) start refl is v (at_value (from + start) (value tag len [])) whole (begins_some (λ z. omega arith)) refl refl)
+                (head_last (Ok (Some (ItemHead.Primitive tag start len))) start refl is v (at_value (from + start) (value tag len [])) whole (begins_some (λ z. omega arith)) refl refl)
                 (value-leads j e))
 
       pub primitive_item : IsItem q x around (start + len) cursor_behind effect_here
       primitive_item =
-          let t = head-inside (is_inside within) q (Form.Primitive tag start len) start refl is in
+          let t = head-inside (is_inside within) q (Ok (Some (ItemHead.Primitive tag start len))) start refl is in
           record { inside = there; some = omega (arith, t.0); place = omega arith; leads = all-leads }

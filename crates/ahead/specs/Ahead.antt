@@ -1,7 +1,9 @@
 -- Whole items at the front of octets that have come, taken at once: they lead where they lead octet by octet (link/specs/Link.antt).
-use Rattle.std.specs.Prelude.{ℕ, ◌+◌, ◌-◌, ◌≤◌, ◌<◌, ◌≡◌, List, [], eqb, length, take}
+use Rattle.heads.specs.declared.Fault.{Fault}
+use Rattle.effects.specs.declared.Effect.{Effect}
+use Rattle.heads.specs.declared.ItemHead.{ItemHead}
+use Rattle.std.specs.Prelude.{ℕ, ◌+◌, ◌-◌, ◌≤◌, ◌<◌, ◌≡◌, List, [], eqb, length, take, Result, Option}
 use Rattle.octets.specs.Pick.{pick}
-use Rattle.heads.specs.declared.Form.{Form}
 use Rattle.heads.specs.Head.{form_of}
 use Rattle.items.specs.declared.Within.{Within}
 use Rattle.items.specs.declared.Cursor.{Cursor}
@@ -9,7 +11,6 @@ use Rattle.items.specs.declared.Item.{Item}
 use Rattle.items.specs.declared.Item.TheVariants.{Plain, Member, Mark}
 use Rattle.items.specs.Walk.{stands_in, is_inside, ends_open}
 use Rattle.standing.specs.Standing.{octets_limit}
-use Rattle.effects.specs.declared.Effect.{Effect}
 use Rattle.records.specs.Records.{PastKept}
 use Rattle.walk.specs.declared.Waveform.{Waveform}
 use Rattle.walk.specs.declared.Head.{Head}
@@ -64,7 +65,7 @@ abbrev pub around_behind : Stand → ℕ → Cursor → ℕ
 around_behind x around c = group_at (stands_in c.at c.within) (cut_at (stands_in x.cursor.at x.cursor.within) x.cursor.at around)
 
 -- The first k octets are an item with this effect, behind which the cursor stands: where it leads on, so do they.
-pub record IsItem (u : List ℕ) (x : Stand) (around k : ℕ) (c : Cursor) (e : Effect) : Type 0 where
+pub record IsItem (u : List ℕ) (x : Stand) (around k : ℕ) (c : Cursor) (e : Result Effect Fault) : Type 0 where
   pub inside : k ≤ length u
   pub some : 0 < k
   pub place : c.at ≡ x.cursor.at + k
@@ -72,7 +73,7 @@ pub record IsItem (u : List ℕ) (x : Stand) (around k : ℕ) (c : Cursor) (e : 
       → Leads (between x around v) (take k u) (link c.at y (around_behind x around c) no_waveform (head [])) []
 
 -- The octets begin with a head, within 15's limit and in the definite group around.
-pub record IsHead (u : List ℕ) (h : Head) (f : Form) : Type 0 where
+pub record IsHead (u : List ℕ) (h : Head) (f : Result (Option ItemHead) Fault) : Type 0 where
   pub near : h.cursor.at + length u ≤ octets_limit
   pub fits : Fits (stands_in h.cursor.at h.cursor.within) (h.cursor.at + length u)
   pub is : form_of (is_inside (stands_in h.cursor.at h.cursor.within)) u ≡ f

@@ -10,14 +10,14 @@
 
 ghost use Rattle.std.specs.Prelude.{◌≡◌, List, true, ℕ, ◌+◌, ◌-◌, ◌≤◌, ◌<◌, length};
 ghost use Rattle.items.specs.declared.Within.TheVariants.{Root};
-ghost use Rattle.items.specs.Walk.{stands_in, is_inside, ends_open};
+ghost use Rattle.items.specs.Walk.{stands_in, is_inside};
 ghost use Rattle.standing.specs.Standing.{octets_limit};
 ghost use Rattle.walk.specs.Advance.{stand_of};
 ghost use Rattle.link.specs.Link.{cut_at, group_at, within_after};
 ghost use Rattle.ahead.specs.Ahead.{GoesAhead, Fits, reach_of, item_here, IsItem, IsHead, InGroup};
 
 use effects::Effect;
-use heads::Form;
+use heads::{Fault, ItemHead};
 use items::{Cursor, Item, Within};
 use settings::Settings;
 use standing::Standing;
@@ -42,35 +42,12 @@ fn none(h: Head, around: u64) -> Ahead
     }
 }
 
-// A definite group is left at its end.
+// What is around the item at a cursor.
 fn stands_in(c: Cursor) -> Within
     ensures { result ≡ stands_in c.at c.within }
 {
     let within = c.within;
-    match within {
-        Within::Root => Within::Root,
-        Within::Definite { channel, end } => {
-            if c.at < end {
-                Within::Definite { channel, end }
-            } else {
-                Within::Root
-            }
-        }
-        Within::Open { channel, place } => Within::Open { channel, place },
-    }
-}
-
-fn is_inside(within: Within) -> bool
-    ensures { result ≡ is_inside within }
-{
-    match within {
-        Within::Root => false,
-        Within::Definite { channel: _, end: _ } => true,
-        Within::Open {
-            channel: _,
-            place: _,
-        } => true,
-    }
+    items::stands_in(c.at, within)
 }
 
 // How many octets lie between two places.
@@ -115,13 +92,6 @@ fn around_at(within: Within, place: usize, around: u64, c: Cursor) -> u64
     }
 }
 
-// An item 00 with length 0 ends an open group.
-fn ends_open(tag: u8, len: usize) -> bool
-    ensures { result ≡ ends_open tag len }
-{
-    tag == 0 && len == 0
-}
-
 // The item at a place.
 fn item_here(within: Within, place: usize, tag: u8, start: usize, len: usize) -> Item
     ensures { result ≡ item_here within place tag start len }
@@ -141,7 +111,7 @@ fn item_here(within: Within, place: usize, tag: u8, start: usize, len: usize) ->
             len,
         },
         Within::Open { channel, place: _ } => {
-            if ends_open(tag, len) {
+            if items::ends_open(tag, len) {
                 return Item::Mark { place };
             }
             Item::Member {
@@ -163,7 +133,7 @@ fn within_after(within: Within, tag: u8, len: usize) -> Within
         Within::Root => Within::Root,
         Within::Definite { channel, end } => Within::Definite { channel, end },
         Within::Open { channel, place } => {
-            if ends_open(tag, len) {
+            if items::ends_open(tag, len) {
                 return Within::Root;
             }
             Within::Open { channel, place }
@@ -179,30 +149,32 @@ fn carried(
     t: &mut [u64],
     c: Cursor,
     k: usize,
-    effect: Effect,
+    effect: Result<Effect, Fault>,
 ) -> Ahead
     requires { IsItem u.now (stand_of h t.old) around k c effect }
     ensures { GoesAhead u.now h around t.old result t.new }
 {
     match effect {
-        Effect::Frame { start: _, len: _ } => none(h, around),
-        Effect::Refused(_) => none(h, around),
-        _ => {
-            let place = h.cursor.at;
-            let taken = taking::take(t, h, c, place, effect);
-            let head = taken.head;
-            Ahead {
-                head,
-                around: around_at(stands_in(h.cursor), place, around, c),
-                taken: k,
+        Err(_) => none(h, around),
+        Ok(asked) => match asked {
+            Effect::Frame { start: _, len: _ } => none(h, around),
+            _ => {
+                let place = h.cursor.at;
+                let taken = taking::take(t, h, c, place, effect);
+                let head = taken.head;
+                Ahead {
+                    head,
+                    around: around_at(stands_in(h.cursor), place, around, c),
+                    taken: k,
+                }
             }
-        }
+        },
     }
 }
 
 // The item with a value at the front of u.
 fn valued(u: &[u8], h: Head, around: u64, t: &mut [u64], tag: u8, start: usize, len: usize) -> Ahead
-    requires { IsHead u.now h (Form.Primitive tag start len) }
+    requires { IsHead u.now h (Ok (Some (ItemHead.Primitive tag start len))) }
     ensures { GoesAhead u.now h around t.old result t.new }
 {
     if tag == 0x1E {
@@ -228,14 +200,20 @@ fn item_in(u: &[u8], h: Head, around: u64, t: &mut [u64]) -> Ahead
     ensures { GoesAhead u.now h around t.old result t.new }
 {
     let at = h.cursor.at;
-    let inside = is_inside(stands_in(h.cursor));
+    let inside = items::is_inside(stands_in(h.cursor));
     match heads::item_form(inside, u) {
-        Form::Primitive { tag, start, len } => valued(u, h, around, t, tag, start, len),
-        Form::Definite {
-            channel,
-            start,
-            len,
-        } => {
+        Ok(Some(ItemHead::Primitive { tag, start, len })) => {
+            valued(u, h, around, t, tag, start, len)
+        }
+        Ok(
+            Some(
+                ItemHead::Definite {
+                    channel,
+                    start,
+                    len,
+                },
+            ),
+        ) => {
             // No file is that long.
             if Standing::OCTETS < len {
                 return none(h, around);
@@ -249,7 +227,7 @@ fn item_in(u: &[u8], h: Head, around: u64, t: &mut [u64]) -> Ahead
             let effect = effects::item_effect(u, h.standing, Item::Group { place: at, channel });
             carried(u, h, around, t, c, start, effect)
         }
-        Form::Open { channel, start } => {
+        Ok(Some(ItemHead::Open { channel, start })) => {
             let c = Cursor {
                 at: at + start,
                 within: Within::Open { channel, place: at },
@@ -257,7 +235,8 @@ fn item_in(u: &[u8], h: Head, around: u64, t: &mut [u64]) -> Ahead
             let effect = effects::item_effect(u, h.standing, Item::Group { place: at, channel });
             carried(u, h, around, t, c, start, effect)
         }
-        _ => none(h, around),
+        Ok(None) => none(h, around),
+        Err(_) => none(h, around),
     }
 }
 

@@ -2,10 +2,15 @@
 --     confined-none, -more, -faulty, -past, -fits, -definite, -open    what a head says in a definite group
 --     seen_small          a length that is said has no more than four octets
 --     waiting_now, waiting-on, framed_long, framed_told, waved-stage   refusals that wait, and frames
---     never_ends          no item is the end
 --     turned_on, turned-frame, turned-refused      what became of an item
 --     one_more, one_kept  the octets that are kept, and one more
 -- Assumes nothing.
+use Rattle.heads.specs.declared.Fault.{Fault}
+use Rattle.effects.specs.declared.Effect.{Effect}
+use Rattle.heads.specs.declared.Length.{Length}
+use Rattle.heads.specs.declared.ItemHead.{ItemHead}
+use Rattle.std.specs.Prelude.{Result, Ok, Err, Option, Some, None}
+use Rattle.heads.specs.Answer.{answer_of}
 use Rattle.std.proofs.Common.{◌≡◌, ℕ, zero, suc, ◌+◌, ◌-◌, ◌^◌, ◌<◌, ◌≤◌, min, Bool, true, false, eqb, ltb, leb, List, [], ◌∷◌, ◌++◌, length, get_or, take, drop, set, sym, refl, ap, ◌∙◌, subst, mod-eq_of_lt, add-one, arith, length-append, length-take, take_all, take-take, take-suc-set, ltb-false, ltb-true, le-ltb, lt-ltb, eq-eqb, ne_eqb, le-leb}
 use borrow.Author.Tests.{lt-leb}
 use native.Mathlib.Decide.{dec_lt}
@@ -14,27 +19,19 @@ use Rattle.octets.specs.Number.{Octets, number_of}
 use Rattle.octets.proofs.Pick.{pick_cases}
 use Rattle.octets.proofs.Laws.{number_first, cap, drop-octets}
 use Rattle.heads.specs.declared.Refusal.{Refusal}
-use Rattle.heads.specs.declared.Form.{Form}
-use Rattle.heads.specs.declared.Channel.{Channel}
-use Rattle.heads.specs.declared.Length.{Length}
 use Rattle.heads.specs.Head.{channel_of, length_of, unknown_context, root_only, primitive_form, group_length, group_form, form_of}
 use Rattle.heads.proofs.Forms.{form_wants}
-use Rattle.heads.specs.Refusals.{past_end, long_file}
+use Rattle.heads.specs.declared.Fault.TheVariants.{PastEnd, LongFile}
 use Rattle.items.specs.declared.Within.{Within}
 use Rattle.items.specs.declared.Cursor.{Cursor}
 use Rattle.items.specs.declared.Item.{Item}
 use Rattle.items.specs.declared.Item.TheVariants.{Member, Mark}
 use Rattle.items.specs.Walk.{cursor, refusal, stands_in, is_inside, ends_open}
 use Rattle.standing.specs.Standing.{octets_limit}
-use Rattle.effects.specs.declared.Effect.{Effect}
 use Rattle.effects.specs.Effects.{effect_of}
-use Rattle.framing.specs.declared.Framed.{Framed}
-use Rattle.verdict.specs.declared.Checked.{Checked}
 use Rattle.walk.specs.declared.Waveform.{Waveform}
-use Rattle.walk.specs.declared.Step.{Step}
 use Rattle.walk.specs.declared.Head.{Head}
-use Rattle.walk.specs.Advance.{Stand, Turn, on, stops, framed_turn, effect_turn, stand_of}
-use Rattle.taking.specs.declared.Went.{Went}
+use Rattle.walk.specs.Advance.{Turn, on, effect_turn, stand_of}
 use Rattle.taking.specs.declared.Taken.{Taken}
 use Rattle.taking.specs.Takes.{turn_by}
 use Rattle.taking.specs.Takes as T
@@ -43,7 +40,6 @@ use Rattle.settings.specs.declared.Settings.{Settings}
 use Rattle.values.proofs.Laws.{width_le}
 use Rattle.layout.specs.Frame.{width_in}
 use Rattle.words.specs.Words.{records_in}
-use Rattle.verdict.specs.Verdict.{checked_says}
 use Rattle.link.specs.Link as L
 use Rattle.link.specs.Link.{Coming, kept_limit, cut_at, lasts_in, group_at, waiting, condemned, waved, stopped_at, turned_by, item_at, within_after, confined, seen_in}
 use Rattle.held.specs.declared.Stage.{Stage}
@@ -52,7 +48,7 @@ use Rattle.arriving.specs.declared.Link.{Link}
 use Rattle.rows.specs.declared.Spot.{Spot}
 use Rattle.rows.specs.Rows.{coming_at}
 use Rattle.arriving.specs.declared.Arrived.{Arrived}
-use Rattle.arriving.specs.Arriving.{kept_of, link_by, core, link_with, in_stage, in_stand, marked_by, counted_by, further_by, untold_by, waved_stage, at_sample, ComesNext, DecidedIn, Becomes, Moves, Turns, TurnsOn, NeverEndsIn, NeverEnds, Bounded, SmallForm, Seen, Takes, Steps}
+use Rattle.arriving.specs.Arriving.{kept_of, link_by, core, link_with, in_stage, in_stand, marked_by, counted_by, further_by, untold_by, waved_stage, at_sample, ComesNext, DecidedIn, Becomes, Moves, Turns, TurnsOn, Bounded, SmallForm, Seen, Takes, Steps}
 
 -- ---- tests
 
@@ -105,7 +101,7 @@ marked_by_lem x ew ea =
 pub lasts_definite : (count left : ℕ) {w : Within} (channel end : ℕ) → w ≡ Within.Definite channel end → end - count ≡ lasts_in w count left
 lasts_definite count left channel end e = ap (λ (k : Within). lasts_in k count left) (sym e)
 
-module _ (count : ℕ) (f : Form) {w : Within} where
+module _ (count : ℕ) (f : Result (Option ItemHead) Fault) {w : Within} where
   pub seen_root : w ≡ Within.Root → f ≡ seen_in w count f
   unfolding seen_in
   seen_root e = ap (λ (k : Within). seen_in k count f) (sym e)
@@ -114,49 +110,49 @@ module _ (count : ℕ) (f : Form) {w : Within} where
   unfolding seen_in
   seen_open channel group e = ap (λ (k : Within). seen_in k count f) (sym e)
 
-  pub seen_definite : (channel end : ℕ) {r : Form} {n : ℕ} → w ≡ Within.Definite channel end → n ≡ end - count → r ≡ confined n f → r ≡ seen_in w count f
+  pub seen_definite : (channel end : ℕ) {r : Result (Option ItemHead) Fault} {n : ℕ} → w ≡ Within.Definite channel end → n ≡ end - count → r ≡ confined n f → r ≡ seen_in w count f
   unfolding seen_in
   seen_definite channel end e en er = er ∙ ap (λ (k : ℕ). confined k f) en ∙ ap (λ (k : Within). seen_in k count f) (sym e)
 
 -- ---- a head in a definite group
 
-module _ (left : ℕ) {f : Form} where
-  pub confined-none : f ≡ Form.More → left ≡ 0 → Form.Faulty past_end ≡ confined left f
+module _ (left : ℕ) {f : Result (Option ItemHead) Fault} where
+  pub confined-none : f ≡ (Ok None) → left ≡ 0 → Err PastEnd ≡ confined left f
   unfolding confined
   confined-none e z = rw (e, eq-eqb left 0 z) refl
 
-  pub confined-more : f ≡ Form.More → (left ≡ 0 → ⊥) → Form.More ≡ confined left f
+  pub confined-more : f ≡ (Ok None) → (left ≡ 0 → ⊥) → (Ok None) ≡ confined left f
   unfolding confined
   confined-more e z = rw (e, ne_eqb left 0 z) refl
 
-  pub confined_faulty : {number : ℕ} → f ≡ Form.Faulty number → Form.Faulty number ≡ confined left f
+  pub confined_faulty : {fault : Fault} → f ≡ Err fault → Err fault ≡ confined left f
   unfolding confined
   confined_faulty e = rw e refl
 
-  module _ {tag start len : ℕ} (e : f ≡ Form.Primitive tag start len) where
-    pub confined-past : left < len → Form.Faulty past_end ≡ confined left f
+  module _ {tag start len : ℕ} (e : f ≡ Ok (Some (ItemHead.Primitive tag start len))) where
+    pub confined-past : left < len → Err PastEnd ≡ confined left f
     unfolding confined
     confined-past h = rw (e, lt-ltb left len h) refl
 
-    pub confined-fits : len ≤ left → Form.Primitive tag start len ≡ confined left f
+    pub confined-fits : len ≤ left → Ok (Some (ItemHead.Primitive tag start len)) ≡ confined left f
     unfolding confined
     confined-fits h = rw (e, le-ltb left len h) refl
 
-  pub confined_definite : {channel start len : ℕ} → f ≡ Form.Definite channel start len → Form.Definite channel start len ≡ confined left f
+  pub confined_definite : {channel start len : ℕ} → f ≡ Ok (Some (ItemHead.Definite channel start len)) → Ok (Some (ItemHead.Definite channel start len)) ≡ confined left f
   unfolding confined
   confined_definite e = rw e refl
 
-  pub confined_open : {channel start : ℕ} → f ≡ Form.Open channel start → Form.Open channel start ≡ confined left f
+  pub confined_open : {channel start : ℕ} → f ≡ Ok (Some (ItemHead.Open channel start)) → Ok (Some (ItemHead.Open channel start)) ≡ confined left f
   unfolding confined
   confined_open e = rw e refl
 
 -- ---- the sizes in a head
 
-abbrev SmallLength : Length → Type 0
-SmallLength (Length.Known n octets) = n < 2 ^ 32
-SmallLength (Length.Open octets) = Unit {0}
-SmallLength Length.PastEnd = Unit {0}
-SmallLength Length.Bad = Unit {0}
+abbrev SmallLength : Result (Option Length) Fault → Type 0
+SmallLength (Ok (Some (Length.Known n octets))) = n < 2 ^ 32
+SmallLength (Ok (Some (Length.Open octets))) = Unit {0}
+SmallLength (Ok None) = Unit {0}
+SmallLength (Err fault) = Unit {0}
 
 length-small : (u : List ℕ) → Octets u → SmallLength (length_of u)
 unfolding length_of number_of
@@ -169,32 +165,32 @@ length-small (b ∷ u) o =
     (λ _. omega (arith, number_first false u (λ i. o (suc i)) (b - 128), cap (b - 128) 4 (ltb-false 4 (b - 128) t))))))
 
 -- A form's length, where it has one.
-abbrev ShortForm : Form → Type 0
-ShortForm Form.More = Unit {0}
-ShortForm (Form.Faulty number) = Unit {0}
-ShortForm (Form.Primitive tag start len) = len < 2 ^ 32
-ShortForm (Form.Definite channel start len) = len < 2 ^ 32
-ShortForm (Form.Open channel start) = Unit {0}
+abbrev ShortForm : Result (Option ItemHead) Fault → Type 0
+ShortForm (Ok None) = Unit {0}
+ShortForm (Err fault) = Unit {0}
+ShortForm (Ok (Some (ItemHead.Primitive tag start len))) = len < 2 ^ 32
+ShortForm (Ok (Some (ItemHead.Definite channel start len))) = len < 2 ^ 32
+ShortForm (Ok (Some (ItemHead.Open channel start))) = Unit {0}
 
-primitive_short : (tag : ℕ) (l : Length) → SmallLength l → ShortForm (primitive_form tag l)
+primitive_short : (tag : ℕ) (l : Result (Option Length) Fault) → SmallLength l → ShortForm (primitive_form tag l)
 unfolding primitive_form
-primitive_short tag (Length.Known n octets) h = h
-primitive_short tag (Length.Open octets) h = tt
-primitive_short tag Length.PastEnd h = tt
-primitive_short tag Length.Bad h = tt
+primitive_short tag (Ok (Some (Length.Known n octets))) h = h
+primitive_short tag (Ok (Some (Length.Open octets))) h = tt
+primitive_short tag (Ok None) h = tt
+primitive_short tag (Err fault) h = tt
 
-group_short : (channel k : ℕ) (l : Length) → SmallLength l → ShortForm (group_length channel k l)
+group_short : (channel k : ℕ) (l : Result (Option Length) Fault) → SmallLength l → ShortForm (group_length channel k l)
 unfolding group_length
-group_short channel k (Length.Known n octets) h = h
-group_short channel k (Length.Open octets) h = tt
-group_short channel k Length.PastEnd h = tt
-group_short channel k Length.Bad h = tt
+group_short channel k (Ok (Some (Length.Known n octets))) h = h
+group_short channel k (Ok (Some (Length.Open octets))) h = tt
+group_short channel k (Ok None) h = tt
+group_short channel k (Err fault) h = tt
 
-channel_short : (u : List ℕ) → Octets u → (c : Channel) → ShortForm (group_form u c)
+channel_short : (u : List ℕ) → Octets u → (c : Result (Option (ℕ × ℕ)) Fault) → ShortForm (group_form u c)
 unfolding group_form
-channel_short u o (Channel.Number channel k) = group_short channel k (length_of (drop k u)) (length-small (drop k u) (drop-octets k u o))
-channel_short u o Channel.PastEnd = tt
-channel_short u o Channel.TooLong = tt
+channel_short u o (Ok (Some (channel, k))) = group_short channel k (length_of (drop k u)) (length-small (drop k u) (drop-octets k u o))
+channel_short u o (Ok None) = tt
+channel_short u o (Err fault) = tt
 
 form_short : (inside : Bool) (u : List ℕ) → Octets u → ShortForm (form_of inside u)
 unfolding form_of
@@ -205,44 +201,44 @@ form_short inside (tag ∷ u) o =
     (λ _. pick_cases ShortForm (eqb tag 0x3F) (λ _. channel_short u (λ i. o (suc i)) (channel_of 4 0 0 u))
     (λ _. primitive_short tag (length_of u) (length-small u (λ i. o (suc i))))))
 
-small_by : (n : ℕ) (f : Form) → (f ≡ Form.More → n < 10) → ShortForm f → SmallForm n f
-small_by n Form.More w h = w refl
-small_by n (Form.Faulty number) w h = tt
-small_by n (Form.Primitive tag start len) w h = h
-small_by n (Form.Definite channel start len) w h = h
-small_by n (Form.Open channel start) w h = tt
+small_by : (n : ℕ) (f : Result (Option ItemHead) Fault) → (f ≡ (Ok None) → n < 10) → ShortForm f → SmallForm n f
+small_by n (Ok None) w h = w refl
+small_by n (Err fault) w h = tt
+small_by n (Ok (Some (ItemHead.Primitive tag start len))) w h = h
+small_by n (Ok (Some (ItemHead.Definite channel start len))) w h = h
+small_by n (Ok (Some (ItemHead.Open channel start))) w h = tt
 
-confined-small : (left n : ℕ) (f : Form) → SmallForm n f → SmallForm n (confined left f)
+confined-small : (left n : ℕ) (f : Result (Option ItemHead) Fault) → SmallForm n f → SmallForm n (confined left f)
 unfolding confined
-confined-small left n Form.More h = pick_cases (SmallForm n) (eqb left 0) (λ _. tt) (λ _. h)
-confined-small left n (Form.Faulty number) h = tt
-confined-small left n (Form.Primitive tag start len) h = pick_cases (SmallForm n) (ltb left len) (λ _. tt) (λ _. h)
-confined-small left n (Form.Definite channel start len) h = h
-confined-small left n (Form.Open channel start) h = tt
+confined-small left n (Ok None) h = pick_cases (SmallForm n) (eqb left 0) (λ _. tt) (λ _. h)
+confined-small left n (Err fault) h = tt
+confined-small left n (Ok (Some (ItemHead.Primitive tag start len))) h = pick_cases (SmallForm n) (ltb left len) (λ _. tt) (λ _. h)
+confined-small left n (Ok (Some (ItemHead.Definite channel start len))) h = h
+confined-small left n (Ok (Some (ItemHead.Open channel start))) h = tt
 
-seen_small : (w : Within) (count n : ℕ) (f : Form) → SmallForm n f → SmallForm n (seen_in w count f)
+seen_small : (w : Within) (count n : ℕ) (f : Result (Option ItemHead) Fault) → SmallForm n f → SmallForm n (seen_in w count f)
 unfolding seen_in
 seen_small Within.Root count n f h = h
 seen_small (Within.Definite channel end) count n f h = confined-small (end - count) n f h
 seen_small (Within.Open channel group) count n f h = h
 
-pub seen_by : (w : Within) (count : ℕ) (u : List ℕ) {inside : Bool} {f r : Form} → Octets u → inside ≡ is_inside w → f ≡ form_of inside u → r ≡ seen_in w count f → Seen w count u r
+pub seen_by : (w : Within) (count : ℕ) (u : List ℕ) {inside : Bool} {f r : Result (Option ItemHead) Fault} → Octets u → inside ≡ is_inside w → f ≡ form_of inside u → r ≡ seen_in w count f → Seen w count u r
 seen_by w count u o ei ef er =
     let e = er ∙ ap (seen_in w count) (ef ∙ ap (λ (b : Bool). form_of b u) ei) in
     let g = form_of (is_inside w) u in
     record { is = e; small = subst (SmallForm (length u)) (sym e) (seen_small w count (length u) g (small_by (length u) g (form_wants (is_inside w) u) (form_short (is_inside w) u o))) }
 
-pub bounded : (x : Link) (n : ℕ) (f : Form) → x.core.count ≤ octets_limit → SmallForm n f → Bounded x n f
-bounded x n Form.More c h = omega arith
-bounded x n (Form.Faulty number) c h = tt
-bounded x n (Form.Primitive tag start len) c h = record { count = c; small = h }
-bounded x n (Form.Definite channel start len) c h = record { count = c; small = h }
-bounded x n (Form.Open channel start) c h = tt
+pub bounded : (x : Link) (n : ℕ) (f : Result (Option ItemHead) Fault) → x.core.count ≤ octets_limit → SmallForm n f → Bounded x n f
+bounded x n (Ok None) c h = omega arith
+bounded x n (Err fault) c h = tt
+bounded x n (Ok (Some (ItemHead.Primitive tag start len))) c h = record { count = c; small = h }
+bounded x n (Ok (Some (ItemHead.Definite channel start len))) c h = record { count = c; small = h }
+bounded x n (Ok (Some (ItemHead.Open channel start))) c h = tt
 
 -- ---- refusals that wait, and frames
 
 module _ {x y : Link} (left : ℕ) (r : Refusal) where
-  pub waiting_now : y ≡ in_stage (Stage.Decided (Checked.Refused r)) x → left ≡ 0 → Becomes x y (waiting left r)
+  pub waiting_now : y ≡ in_stage (Stage.Decided (Err r)) x → left ≡ 0 → Becomes x y (waiting left r)
   unfolding waiting
   waiting_now e z = record { same = λ p q t. rw (e, eq-eqb left 0 z) refl }
 
@@ -260,20 +256,20 @@ waved-phase zero = refl
 waved-phase (suc left) = ap (λ (b : Bool). phase_of (pick b Stage.Head (Stage.Waveform (suc left) 0 0 0)) []) (ne_eqb (suc left) 0 (λ z. omega arith))
 
 module _ {x : Link} (left : ℕ) {h : Head} (v : Waveform) where
-  pub framed_long : {y z : Link} → ltb octets_limit (x.core.count + left) ≡ true → z ≡ in_stand h x → Becomes z y (waiting left (refusal long_file 0)) → Moves x h (stopped_at left (Step.Frame v)) y
+  pub framed_long : {y z : Link} → ltb octets_limit (x.core.count + left) ≡ true → z ≡ in_stand h x → Becomes z y (waiting left (refusal LongFile 0)) → Moves x h (stopped_at left (Ok (Some v))) y
   unfolding stopped_at
   framed_long t e b =
       record {
-        same = λ p q u w. b.same p q w ∙ ap (λ (k : Link). waiting left (refusal long_file 0) (link_by k p w)) e
-            ∙ sym (ap (λ (c : Bool). pick c (waiting left (refusal long_file 0) (link_by (in_stand h x) p w)) (L.link x.core.count (stand_of h w) x.core.around v (waved left L.first_coming))) t);
+        same = λ p q u w. b.same p q w ∙ ap (λ (k : Link). waiting left (refusal LongFile 0) (link_by k p w)) e
+            ∙ sym (ap (λ (c : Bool). pick c (waiting left (refusal LongFile 0) (link_by (in_stand h x) p w)) (L.link x.core.count (stand_of h w) x.core.around v (waved left L.first_coming))) t);
       }
 
-  pub framed_told : {s : Stage} → ltb octets_limit (x.core.count + left) ≡ false → s ≡ waved_stage left → Moves x h (stopped_at left (Step.Frame v)) (link_with (core x.core.count x.core.around 0 s) h v)
+  pub framed_told : {s : Stage} → ltb octets_limit (x.core.count + left) ≡ false → s ≡ waved_stage left → Moves x h (stopped_at left (Ok (Some v))) (link_with (core x.core.count x.core.around 0 s) h v)
   unfolding stopped_at
   framed_told t e =
       record {
         same = λ p q u w. ap (λ (k : L.Phase). L.link x.core.count (stand_of h w) x.core.around v k) (ap (λ (k : Stage). phase_of k []) e ∙ waved-phase left)
-            ∙ sym (ap (λ (c : Bool). pick c (waiting left (refusal long_file 0) (link_by (in_stand h x) p w)) (L.link x.core.count (stand_of h w) x.core.around v (waved left L.first_coming))) t);
+            ∙ sym (ap (λ (c : Bool). pick c (waiting left (refusal LongFile 0) (link_by (in_stand h x) p w)) (L.link x.core.count (stand_of h w) x.core.around v (waved left L.first_coming))) t);
       }
 
 -- ---- what became of an item
@@ -284,59 +280,26 @@ unfolding turned_by
 goes_on {x} {h} ew ea =
     record { same = λ p q u v. ap (λ (k : ℕ). L.link x.core.count (stand_of h v) k x.frame (L.head [])) (ea ∙ ap (λ (k : Within). group_at k x.core.around) ew) }
 
--- No item is the end.
-abbrev NeverStops : Turn → Type 0
-NeverStops (on y) = Unit {0}
-NeverStops (stops z) = NeverEndsIn z.step
-
-framed_never : (x : Stand) (c : Cursor) (place start len : ℕ) (f : Framed) → NeverStops (framed_turn x c place start len f)
-unfolding framed_turn
-framed_never x c place start len (Framed.Taken sequences st) = tt
-framed_never x c place start len (Framed.Refused number) = tt
-
-effect_never : (x : Stand) (c : Cursor) (place : ℕ) (e : Effect) → NeverStops (effect_turn x c place e)
-unfolding effect_turn
-effect_never x c place Effect.Pass = tt
-effect_never x c place (Effect.Order little) = tt
-effect_never x c place (Effect.Count n) = tt
-effect_never x c place (Effect.Sequences n) = tt
-effect_never x c place (Effect.Start z) = tt
-effect_never x c place (Effect.All ch) = tt
-effect_never x c place (Effect.One channel ch) = tt
-effect_never x c place (Effect.Frame start len) = framed_never x c place start len _
-effect_never x c place (Effect.Refused number) = tt
-
-went_never : (w : Went) (y : Stand) → NeverStops (turn_by w y) → NeverEnds w
-went_never Went.On y h = tt
-went_never (Went.Stops k) y h = h
-
-pub never_ends : {u v : List ℕ} {h : Head} {c : Cursor} {place : ℕ} {e : Effect} {k : Taken} → T.Takes u h c place e k v → NeverEnds k.went
-never_ends {u} {v} {h} {c} {place} {e} {k} t = went_never k.went (stand_of k.head v) (subst NeverStops (sym t.same) (effect_never (stand_of h u) c place e))
-
-module _ {x : Link} (left : ℕ) {h : Head} {w : Went} {r : Link} where
-  pub turned_on : w ≡ Went.On → Moves x h (λ y. turned_by 0 (on y)) r → Moves x h (λ y. turned_by left (turn_by w y)) r
+module _ {x : Link} (left : ℕ) {h : Head} {w : Result (Option Waveform) Refusal} {r : Link} where
+  pub turned_on : w ≡ Ok None → Moves x h (λ y. turned_by 0 (on y)) r → Moves x h (λ y. turned_by left (turn_by w y)) r
   unfolding turned_by
-  turned_on e m = record { same = λ p q u v. m.same p q u v ∙ ap (λ (k : Went). turned_by left (turn_by k (stand_of h v)) (link_by x p u)) (sym e) }
+  turned_on e m = record { same = λ p q u v. m.same p q u v ∙ ap (λ (k : Result (Option Waveform) Refusal). turned_by left (turn_by k (stand_of h v)) (link_by x p u)) (sym e) }
 
-  module _ {k : Step} (e : w ≡ Went.Stops k) where
-    pub turned-frame : (f : Waveform) → k ≡ Step.Frame f → Moves x h (stopped_at left (Step.Frame f)) r → Moves x h (λ y. turned_by left (turn_by w y)) r
-    unfolding turned_by
-    turned-frame f g m =
-        record { same = λ p q u v. m.same p q u v ∙ ap (λ (s : Went). turned_by left (turn_by s (stand_of h v)) (link_by x p u)) (sym (e ∙ ap Went.Stops g)) }
+  pub turned-frame : (f : Waveform) → w ≡ Ok (Some f) → Moves x h (stopped_at left (Ok (Some f))) r → Moves x h (λ y. turned_by left (turn_by w y)) r
+  unfolding turned_by
+  turned-frame f e m =
+      record { same = λ p q u v. m.same p q u v ∙ ap (λ (k : Result (Option Waveform) Refusal). turned_by left (turn_by k (stand_of h v)) (link_by x p u)) (sym e) }
 
-    pub turned-ended : k ≡ Step.Ended → NeverEnds w → Moves x h (λ y. turned_by left (turn_by w y)) r
-    turned-ended g n = absurd (subst NeverEnds (e ∙ ap Went.Stops g) n)
+  pub turned-refused : {z : Link} (n : Refusal) (a : Within) → w ≡ Err n → z ≡ in_stand h x → a ≡ stands_in x.head.cursor.at x.head.cursor.within → Becomes z r (condemned a left n)
+      → Moves x h (λ y. turned_by left (turn_by w y)) r
+  unfolding turned_by stopped_at
+  turned-refused n a e ez ea b =
+      record {
+        same = λ p q u v. b.same p q v ∙ (λ i. condemned (ea i) left n (link_by (ez i) p v))
+            ∙ ap (λ (k : Result (Option Waveform) Refusal). turned_by left (turn_by k (stand_of h v)) (link_by x p u)) (sym e);
+      }
 
-    pub turned-refused : {z : Link} (n : Refusal) (a : Within) → k ≡ Step.Refused n → z ≡ in_stand h x → a ≡ stands_in x.head.cursor.at x.head.cursor.within → Becomes z r (condemned a left n)
-        → Moves x h (λ y. turned_by left (turn_by w y)) r
-    unfolding turned_by stopped_at
-    turned-refused n a g ez ea b =
-        record {
-          same = λ p q u v. b.same p q v ∙ (λ i. condemned (ea i) left n (link_by (ez i) p v))
-              ∙ ap (λ (s : Went). turned_by left (turn_by s (stand_of h v)) (link_by x p u)) (sym (e ∙ ap Went.Stops g));
-        }
-
-pub effected_turns : {x m r : Link} {u v : List ℕ} (left : ℕ) (c : Cursor) (e : Effect) {k : Taken} → m ≡ marked_by x → T.Takes u m.head c m.head.cursor.at e k v
+pub effected_turns : {x m r : Link} {u v : List ℕ} (left : ℕ) (c : Cursor) (e : Result Effect Fault) {k : Taken} → m ≡ marked_by x → T.Takes u m.head c m.head.cursor.at e k v
     → Moves m k.head (λ y. turned_by left (turn_by k.went y)) r → Turns x u (L.effected left c e) r v
 effected_turns {x} {m} {u = u} {v} left c e em t b =
     record {
@@ -347,7 +310,7 @@ effected_turns {x} {m} {u = u} {v} left c e em t b =
 
 -- ---- items and their heads
 
-pub done_turns : {x r : Link} {u v : List ℕ} (s : List ℕ) (tag : ℕ) {w after : Within} {i : Item} {e : Effect} → w ≡ stands_in x.head.cursor.at x.head.cursor.within → i ≡ item_at w x.head.cursor.at tag (length s)
+pub done_turns : {x r : Link} {u v : List ℕ} (s : List ℕ) (tag : ℕ) {w after : Within} {i : Item} {e : Result Effect Fault} → w ≡ stands_in x.head.cursor.at x.head.cursor.within → i ≡ item_at w x.head.cursor.at tag (length s)
     → e ≡ effect_of s x.head.standing i → after ≡ within_after w tag (length s) → Turns x u (L.effected 0 (cursor x.core.count after) e) r v → Turns x u (L.done_item tag s) r v
 done_turns {x} {u = u} s tag ew ei ee ea t =
     let place = x.head.cursor.at in
@@ -371,12 +334,12 @@ module _ {x : Link} {u : List ℕ} (tag left n : ℕ) (p : List ℕ) where
       }
 
 module _ {x : Link} {u : List ℕ} (tag len : ℕ) {p : List ℕ} {r : Link} {v : List ℕ} where
-  pub begins_frame : tag ≡ 0x1E → Turns x u (L.effected len (cursor (x.core.count + len) Within.Root) (Effect.Frame x.core.count len)) r v → TurnsOn x u (L.primitive_begins tag len) r p v
+  pub begins_frame : tag ≡ 0x1E → Turns x u (L.effected len (cursor (x.core.count + len) Within.Root) (Ok (Effect.Frame x.core.count len))) r v → TurnsOn x u (L.primitive_begins tag len) r p v
   unfolding L.primitive_begins
   begins_frame e t =
       record {
         same = λ q. t.same q p
-            ∙ sym (ap (λ (b : Bool). pick b (L.effected len (cursor (x.core.count + len) Within.Root) (Effect.Frame x.core.count len) (link_by x q u)) (L.valued tag len [] (link_by x q u))) (eq-eqb tag 0x1E e));
+            ∙ sym (ap (λ (b : Bool). pick b (L.effected len (cursor (x.core.count + len) Within.Root) (Ok (Effect.Frame x.core.count len)) (link_by x q u)) (L.valued tag len [] (link_by x q u))) (eq-eqb tag 0x1E e));
         long = t.long;
       }
 
@@ -385,48 +348,48 @@ module _ {x : Link} {u : List ℕ} (tag len : ℕ) {p : List ℕ} {r : Link} {v 
   begins_value e t =
       record {
         same = λ q. t.same q
-            ∙ sym (ap (λ (b : Bool). pick b (L.effected len (cursor (x.core.count + len) Within.Root) (Effect.Frame x.core.count len) (link_by x q u)) (L.valued tag len [] (link_by x q u))) (ne_eqb tag 0x1E e));
+            ∙ sym (ap (λ (b : Bool). pick b (L.effected len (cursor (x.core.count + len) Within.Root) (Ok (Effect.Frame x.core.count len)) (link_by x q u)) (L.valued tag len [] (link_by x q u))) (ne_eqb tag 0x1E e));
         long = t.long;
       }
 
-pub group_turns : {x r : Link} {u v : List ℕ} (s : List ℕ) (left channel : ℕ) (w : Within) {e : Effect} → e ≡ effect_of s x.head.standing (Item.Group x.head.cursor.at channel)
+pub group_turns : {x r : Link} {u v : List ℕ} (s : List ℕ) (left channel : ℕ) (w : Within) {e : Result Effect Fault} → e ≡ effect_of s x.head.standing (Item.Group x.head.cursor.at channel)
     → Turns x u (L.effected left (cursor x.core.count w) e) r v → Turns x u (L.group_begins left channel w) r v
 unfolding effect_of
 group_turns {x} {u = u} s left channel w e t =
-    record { same = λ p q. t.same p q ∙ ap (λ (k : Effect). L.effected left (cursor x.core.count w) k (link_by x p u)) e; long = t.long }
+    record { same = λ p q. t.same p q ∙ ap (λ (k : Result Effect Fault). L.effected left (cursor x.core.count w) k (link_by x p u)) e; long = t.long }
 
 -- ---- a head
 
-module _ {x : Link} {u : List ℕ} (p : List ℕ) (n : ℕ) {f : Form} where
+module _ {x : Link} {u : List ℕ} (p : List ℕ) (n : ℕ) {f : Result (Option ItemHead) Fault} where
   -- What a head says, by what it is known to say.
-  headed_as : (g : Form) → f ≡ g → {r : Link} {v : List ℕ} → TurnsOn x u (L.headed (take n p) g) r p v → TurnsOn x u (L.headed (take n p) f) r p v
-  headed_as g e {r} {v} t = subst (λ (k : Form). TurnsOn x u (L.headed (take n p) k) r p v) (sym e) t
+  headed_as : (g : Result (Option ItemHead) Fault) → f ≡ g → {r : Link} {v : List ℕ} → TurnsOn x u (L.headed (take n p) g) r p v → TurnsOn x u (L.headed (take n p) f) r p v
+  headed_as g e {r} {v} t = subst (λ (k : Result (Option ItemHead) Fault). TurnsOn x u (L.headed (take n p) k) r p v) (sym e) t
 
-  pub headed-more : f ≡ Form.More → n ≤ kept_limit → TurnsOn x u (L.headed (take n p) f) (link_with (core x.core.count x.core.around n Stage.Head) x.head x.frame) p u
+  pub headed-more : f ≡ (Ok None) → n ≤ kept_limit → TurnsOn x u (L.headed (take n p) f) (link_with (core x.core.count x.core.around n Stage.Head) x.head x.frame) p u
   unfolding L.headed
   headed-more e h =
       let k : min n kept_limit ≡ n = omega arith in
-      headed_as Form.More e (record { same = λ q. ap (λ (m : ℕ). L.in_phase (L.head (take m p)) (link_by x q u)) k; long = refl })
+      headed_as (Ok None) e (record { same = λ q. ap (λ (m : ℕ). L.in_phase (L.head (take m p)) (link_by x q u)) k; long = refl })
 
-  pub headed_faulty : (number : ℕ) {m r : Link} {w : Within} → f ≡ Form.Faulty number → m ≡ marked_by x → w ≡ stands_in x.head.cursor.at x.head.cursor.within
-      → Becomes m r (condemned w 0 (refusal number x.head.cursor.at)) → TurnsOn x u (L.headed (take n p) f) r p u
+  pub headed_faulty : (fault : Fault) {m r : Link} {w : Within} → f ≡ Err fault → m ≡ marked_by x → w ≡ stands_in x.head.cursor.at x.head.cursor.within
+      → Becomes m r (condemned w 0 (refusal fault x.head.cursor.at)) → TurnsOn x u (L.headed (take n p) f) r p u
   unfolding L.headed
-  headed_faulty number e em ew b =
-      headed_as (Form.Faulty number) e
-      (record { same = λ q. b.same q p u ∙ (λ i. condemned (ew i) 0 (refusal number x.head.cursor.at) (link_by (em i) q u)); long = refl })
+  headed_faulty fault e em ew b =
+      headed_as (Err fault) e
+      (record { same = λ q. b.same q p u ∙ (λ i. condemned (ew i) 0 (refusal fault x.head.cursor.at) (link_by (em i) q u)); long = refl })
 
   module _ {r : Link} {v : List ℕ} where
-    pub headed_primitive : (tag start len : ℕ) → f ≡ Form.Primitive tag start len → TurnsOn x u (L.primitive_begins tag len) r p v → TurnsOn x u (L.headed (take n p) f) r p v
+    pub headed_primitive : (tag start len : ℕ) → f ≡ Ok (Some (ItemHead.Primitive tag start len)) → TurnsOn x u (L.primitive_begins tag len) r p v → TurnsOn x u (L.headed (take n p) f) r p v
     unfolding L.headed
-    headed_primitive tag start len e t = headed_as (Form.Primitive tag start len) e (record { same = t.same; long = t.long })
+    headed_primitive tag start len e t = headed_as (Ok (Some (ItemHead.Primitive tag start len))) e (record { same = t.same; long = t.long })
 
-    pub headed_definite : (channel start len : ℕ) → f ≡ Form.Definite channel start len → Turns x u (L.group_begins len channel (Within.Definite channel (x.core.count + len))) r v → TurnsOn x u (L.headed (take n p) f) r p v
+    pub headed_definite : (channel start len : ℕ) → f ≡ Ok (Some (ItemHead.Definite channel start len)) → Turns x u (L.group_begins len channel (Within.Definite channel (x.core.count + len))) r v → TurnsOn x u (L.headed (take n p) f) r p v
     unfolding L.headed
-    headed_definite channel start len e t = headed_as (Form.Definite channel start len) e (record { same = λ q. t.same q p; long = t.long })
+    headed_definite channel start len e t = headed_as (Ok (Some (ItemHead.Definite channel start len))) e (record { same = λ q. t.same q p; long = t.long })
 
-    pub headed_open : (channel start : ℕ) → f ≡ Form.Open channel start → Turns x u (L.group_begins 0 channel (Within.Open channel x.head.cursor.at)) r v → TurnsOn x u (L.headed (take n p) f) r p v
+    pub headed_open : (channel start : ℕ) → f ≡ Ok (Some (ItemHead.Open channel start)) → Turns x u (L.group_begins 0 channel (Within.Open channel x.head.cursor.at)) r v → TurnsOn x u (L.headed (take n p) f) r p v
     unfolding L.headed
-    headed_open channel start e t = headed_as (Form.Open channel start) e (record { same = λ q. t.same q p; long = t.long })
+    headed_open channel start e t = headed_as (Ok (Some (ItemHead.Open channel start))) e (record { same = λ q. t.same q p; long = t.long })
 
 -- ---- one octet more
 
@@ -457,7 +420,7 @@ module _ (x : Link) (u p : List ℕ) (b : ℕ) {n : ℕ} (en : n ≡ min x.core.
   kept-is : take n p ≡ kept_of x p
   kept-is = ap (λ (k : ℕ). take k p) en
 
-  pub head_takes : {y link : Link} {v part : List ℕ} {w : Within} {f : Form} → y ≡ untold_by x → w ≡ stands_in y.head.cursor.at y.head.cursor.within → part ≡ take (n + 1) (set p n b) → Seen w y.core.count part f
+  pub head_takes : {y link : Link} {v part : List ℕ} {w : Within} {f : Result (Option ItemHead) Fault} → y ≡ untold_by x → w ≡ stands_in y.head.cursor.at y.head.cursor.within → part ≡ take (n + 1) (set p n b) → Seen w y.core.count part f
       → TurnsOn y u (L.headed (take (n + 1) (set p n b)) f) link (set p n b) v → Takes x p u b (L.head (kept_of x p)) (record { link = link; octets = set p n b }) v
   unfolding L.taken_in
   head_takes {y} {part = part} {w} ey ew ep s t =
@@ -559,14 +522,14 @@ pub waits_takes : {x link : Link} (u p : List ℕ) (b left : ℕ) (r : Refusal) 
 unfolding L.taken_in
 waits_takes {x} u p b left r e w = record { same = w.same p p u ∙ ap (λ (m : ℕ). waiting m r (link_by x p u)) e; long = refl }
 
-pub decided_takes : (x : Link) (u p : List ℕ) (b : ℕ) (a : Checked) → Takes x p u b (L.decided (checked_says a)) (record { link = x; octets = p }) u
+pub decided_takes : (x : Link) (u p : List ℕ) (b : ℕ) (a : Result ℕ Refusal) → Takes x p u b (L.decided (answer_of a)) (record { link = x; octets = p }) u
 unfolding L.taken_in
 decided_takes x u p b a = record { same = refl; long = refl }
 
 module _ (x : Link) (u p : List ℕ) (b : ℕ) {d : Bool} (ed : DecidedIn x.core.stage d) where
   abbrev steps_by : Bool → Bool → L.Link
   steps_by t h =
-      pick t (link_by x p u) (pick h (L.refused_in (refusal long_file 0) (link_by x p u)) (L.taken_in b (phase_of x.core.stage (kept_of x p)) (link_by (counted_by x) p u)))
+      pick t (link_by x p u) (pick h (L.refused_in (refusal LongFile 0) (link_by x p u)) (L.taken_in b (phase_of x.core.stage (kept_of x p)) (link_by (counted_by x) p u)))
 
   steps_by_lem : {r : Arrived} {v : List ℕ} (t h : Bool) → d ≡ t → leb octets_limit x.core.count ≡ h → link_by r.link r.octets v ≡ steps_by t h → length v ≡ length u → Steps x p u b r v
   unfolding L.stepped
@@ -575,7 +538,7 @@ module _ (x : Link) (u p : List ℕ) (b : ℕ) {d : Bool} (ed : DecidedIn x.core
   pub steps-decided : d ≡ true → Steps x p u b (record { link = x; octets = p }) u
   steps-decided t = steps_by_lem true (leb octets_limit x.core.count) t refl refl refl
 
-  pub steps-past : {link : Link} → d ≡ false → octets_limit ≤ x.core.count → link ≡ in_stage (Stage.Decided (Checked.Refused (refusal long_file 0))) x → Steps x p u b (record { link = link; octets = p }) u
+  pub steps-past : {link : Link} → d ≡ false → octets_limit ≤ x.core.count → link ≡ in_stage (Stage.Decided (Err (refusal LongFile 0))) x → Steps x p u b (record { link = link; octets = p }) u
   steps-past t h e = steps_by_lem false true t (le-leb octets_limit x.core.count h) (ap (λ (y : Link). link_by y p u) e) refl
 
   pub steps-taken : {y : Link} {r : Arrived} {v : List ℕ} → d ≡ false → x.core.count < octets_limit → y ≡ counted_by x → Takes y p u b (phase_of y.core.stage (kept_of y p)) r v → Steps x p u b r v

@@ -1,18 +1,17 @@
 -- A link that goes by value, with the octets that it keeps beside it and the channels' records in words. Any numbers at all are some link. None of it is a rule
 -- of document 01.
-use Rattle.std.specs.Prelude.{◌≡◌, ℕ, ◌+◌, ◌%◌, ◌^◌, ◌<◌, ◌≤◌, min, Bool, List, [], length, take, ◌==◌}
+use Rattle.heads.specs.declared.Fault.{Fault}
+use Rattle.heads.specs.declared.ItemHead.{ItemHead}
+use Rattle.std.specs.Prelude.{◌≡◌, ℕ, ◌+◌, ◌%◌, ◌^◌, ◌<◌, ◌≤◌, min, Bool, List, [], length, take, ◌==◌, Result, Ok, Err, Option, Some, None}
 use Rattle.octets.specs.Pick.{pick}
-use Rattle.heads.specs.declared.Form.{Form}
 use Rattle.heads.specs.Head.{form_of}
 use Rattle.items.specs.declared.Within.{Within}
 use Rattle.items.specs.Walk.{stands_in, is_inside}
 use Rattle.standing.specs.Standing.{octets_limit}
 use Rattle.walk.specs.declared.Waveform.{Waveform}
-use Rattle.walk.specs.declared.Step.{Step}
 use Rattle.walk.specs.declared.Head.{Head}
 use Rattle.walk.specs.Advance.{Stand, stand_of}
 use Rattle.walking.specs.Steps.{no_waveform}
-use Rattle.taking.specs.declared.Went.{Went}
 use Rattle.link.specs.Link as L
 use Rattle.link.specs.Link.{Phase, cut_at, kept_limit, seen_in, next_coming, taken_in, is_decided, stepped}
 use Rattle.held.specs.declared.Stage.{Stage}
@@ -98,38 +97,28 @@ ComesNext block channels at r = (u : List ℕ) → coming_at r [] ≡ next_comin
 abbrev pub DecidedIn : Stage → Bool → Type 0
 DecidedIn s r = (p : List ℕ) → r ≡ is_decided (phase_of s p)
 
--- No item is the end.
-abbrev pub NeverEndsIn : Step → Type 0
-NeverEndsIn (Step.Frame v) = Unit {0}
-NeverEndsIn Step.Ended = ⊥
-NeverEndsIn (Step.Refused r) = Unit {0}
-
-abbrev pub NeverEnds : Went → Type 0
-NeverEnds Went.On = Unit {0}
-NeverEnds (Went.Stops k) = NeverEndsIn k
-
 -- The octets that have come are no more than a file may have, and a length is one.
 pub record Near (x : Link) (len : ℕ) : Type 0 where
   pub count : x.core.count ≤ octets_limit
   pub small : len < 2 ^ 32
 
 -- What the first n octets of a head say: where more are wanted, they can be kept.
-abbrev pub Bounded : Link → ℕ → Form → Type 0
-Bounded x n Form.More = n ≤ kept_limit
-Bounded x n (Form.Faulty number) = Unit {0}
-Bounded x n (Form.Primitive tag start len) = Near x len
-Bounded x n (Form.Definite channel start len) = Near x len
-Bounded x n (Form.Open channel start) = Unit {0}
+abbrev pub Bounded : Link → ℕ → Result (Option ItemHead) Fault → Type 0
+Bounded x n (Ok None) = n ≤ kept_limit
+Bounded x n (Err fault) = Unit {0}
+Bounded x n (Ok (Some (ItemHead.Primitive tag start len))) = Near x len
+Bounded x n (Ok (Some (ItemHead.Definite channel start len))) = Near x len
+Bounded x n (Ok (Some (ItemHead.Open channel start))) = Unit {0}
 
 -- What n octets of a head say of it: where more are wanted they are few, and a length has no more than four octets.
-abbrev pub SmallForm : ℕ → Form → Type 0
-SmallForm n Form.More = n < 10
-SmallForm n (Form.Faulty number) = Unit {0}
-SmallForm n (Form.Primitive tag start len) = len < 2 ^ 32
-SmallForm n (Form.Definite channel start len) = len < 2 ^ 32
-SmallForm n (Form.Open channel start) = Unit {0}
+abbrev pub SmallForm : ℕ → Result (Option ItemHead) Fault → Type 0
+SmallForm n (Ok None) = n < 10
+SmallForm n (Err fault) = Unit {0}
+SmallForm n (Ok (Some (ItemHead.Primitive tag start len))) = len < 2 ^ 32
+SmallForm n (Ok (Some (ItemHead.Definite channel start len))) = len < 2 ^ 32
+SmallForm n (Ok (Some (ItemHead.Open channel start))) = Unit {0}
 
-pub record Seen (w : Within) (count : ℕ) (u : List ℕ) (r : Form) : Type 0 where
+pub record Seen (w : Within) (count : ℕ) (u : List ℕ) (r : Result (Option ItemHead) Fault) : Type 0 where
   pub is : r ≡ seen_in w count (form_of (is_inside w) u)
   pub small : SmallForm (length u) r
 

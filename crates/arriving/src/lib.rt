@@ -14,17 +14,16 @@ ghost use Rattle.walk.specs.Advance.{on};
 ghost use Rattle.link.specs.Link.{head, value, waveform, kept_limit, cut_at, group_at, lasts_in, waiting, condemned, stopped_at, turned_by, effected, item_at, within_after, done_item, valued, primitive_begins, group_begins, confined, seen_in, headed};
 ghost use Rattle.held.specs.Words.{phase_of};
 ghost use Rattle.rows.specs.Rows.{coming_at};
-ghost use Rattle.arriving.specs.Arriving.{kept_of, in_stage, in_stand, marked_by, counted_by, further_by, untold_by, waved_stage, at_sample, Becomes, Moves, ComesNext, DecidedIn, Turns, TurnsOn, NeverEnds, Near, Bounded, Seen, Takes, Steps};
+ghost use Rattle.arriving.specs.Arriving.{kept_of, in_stage, in_stand, marked_by, counted_by, further_by, untold_by, waved_stage, at_sample, Becomes, Moves, ComesNext, DecidedIn, Turns, TurnsOn, Near, Bounded, Seen, Takes, Steps};
 
 use effects::Effect;
-use heads::{Form, Refusal};
+use heads::{Fault, ItemHead, Refusal};
 use held::{Core, Held, Stage};
 use items::{Cursor, Item, Within};
 use rows::Spot;
 use standing::Standing;
-use taking::{Taken, Went};
-use verdict::Checked;
-use walk::{Head, Step, Waveform};
+use taking::Taken;
+use walk::{Head, Waveform};
 
 // A link, besides the octets that it keeps and the channels' records.
 #[derive(Clone, Copy)]
@@ -122,7 +121,7 @@ fn waiting(x: Link, left: u64, r: Refusal) -> Link
     ensures { Becomes x result (waiting left r) }
 {
     if left == 0 {
-        return in_stage(x, Stage::Decided(Checked::Refused(r)));
+        return in_stage(x, Stage::Decided(Err(r)));
     }
     in_stage(x, Stage::Waits { left, refusal: r })
 }
@@ -209,11 +208,11 @@ fn passes(count: u64, left: u64) -> bool
 
 // A frame whose waveform has so many octets: it is told, unless it ends past the limit.
 fn framed(x: Link, left: u64, head: Head, frame: Waveform) -> Link
-    ensures { Moves x head (stopped_at left (Step.Frame frame)) result }
+    ensures { Moves x head (stopped_at left (Ok (Some frame))) result }
 {
     if passes(x.core.count, left) {
         let r = Refusal {
-            number: Refusal::LONG_FILE,
+            fault: Fault::LongFile,
             place: 0,
         };
         return waiting(in_stand(x, head), left, r);
@@ -232,23 +231,24 @@ fn framed(x: Link, left: u64, head: Head, frame: Waveform) -> Link
 
 // What became of an item of which so many octets are still to come.
 fn turned(x: Link, left: u64, k: Taken) -> Link
-    requires { NeverEnds k.went }
     ensures { Moves x k.head (λ y. turned_by left (turn_by k.went y)) result }
 {
-    let went = k.went;
     let head = k.head;
-    match went {
-        Went::On => goes_on(x, head),
-        Went::Stops(step) => match step {
-            Step::Frame(v) => framed(x, left, head, v),
-            Step::Ended => x,
-            Step::Refused(r) => condemned(in_stand(x, head), within_of(x.head), left, r),
-        },
+    match k.went {
+        Ok(None) => goes_on(x, head),
+        Ok(Some(v)) => framed(x, left, head, v),
+        Err(r) => condemned(in_stand(x, head), within_of(x.head), left, r),
     }
 }
 
 // An item with this effect, behind which the cursor stands, of which so many octets are still to come.
-fn effected(t: &mut [u64], x: Link, left: u64, cursor: Cursor, effect: Effect) -> Link
+fn effected(
+    t: &mut [u64],
+    x: Link,
+    left: u64,
+    cursor: Cursor,
+    effect: Result<Effect, Fault>,
+) -> Link
     ensures { Turns x t.old (effected left cursor effect) result t.new }
 {
     let m = marked(x);
@@ -356,7 +356,13 @@ fn primitive_begins(t: &mut [u64], x: Link, tag: u8, len: usize, p: [u8; Held::R
             at: at + len,
             within: Within::Root,
         };
-        return effected(t, x, len as u64, cursor, Effect::Frame { start: at, len });
+        return effected(
+            t,
+            x,
+            len as u64,
+            cursor,
+            Ok(Effect::Frame { start: at, len }),
+        );
     }
     valued(t, x, tag, len as u64, p, 0)
 }
@@ -381,41 +387,43 @@ fn group_begins(t: &mut [u64], x: Link, left: u64, channel: u32, within: Within)
 }
 
 // In a definite group of which so many octets are still to come: 3 where the head or the value runs past it.
-fn confined(left: u64, form: Form) -> Form
+fn confined(left: u64, form: Result<Option<ItemHead>, Fault>) -> Result<Option<ItemHead>, Fault>
     ensures { result ≡ confined left form }
 {
-    let past = Form::Faulty {
-        number: Refusal::PAST_END,
-    };
-    match form {
-        Form::More => {
+    match form? {
+        None => {
             if left == 0 {
-                return past;
+                return Err(Fault::PastEnd);
             }
-            Form::More
+            Ok(None)
         }
-        Form::Faulty { number } => Form::Faulty { number },
-        Form::Primitive { tag, start, len } => {
+        Some(ItemHead::Primitive { tag, start, len }) => {
             if left < len as u64 {
-                return past;
+                return Err(Fault::PastEnd);
             }
-            Form::Primitive { tag, start, len }
+            Ok(Some(ItemHead::Primitive { tag, start, len }))
         }
-        Form::Definite {
+        Some(
+            ItemHead::Definite {
+                channel,
+                start,
+                len,
+            },
+        ) => Ok(Some(ItemHead::Definite {
             channel,
             start,
             len,
-        } => Form::Definite {
-            channel,
-            start,
-            len,
-        },
-        Form::Open { channel, start } => Form::Open { channel, start },
+        })),
+        Some(ItemHead::Open { channel, start }) => Ok(Some(ItemHead::Open { channel, start })),
     }
 }
 
 // What the octets of a head say, where they have come to.
-fn seen_in(within: Within, count: u64, form: Form) -> Form
+fn seen_in(
+    within: Within,
+    count: u64,
+    form: Result<Option<ItemHead>, Fault>,
+) -> Result<Option<ItemHead>, Fault>
     ensures { result ≡ seen_in within count form }
 {
     match within {
@@ -429,14 +437,20 @@ fn seen_in(within: Within, count: u64, form: Form) -> Form
 }
 
 // The same, by the octets.
-fn seen(within: Within, count: u64, u: &[u8]) -> Form
+fn seen(within: Within, count: u64, u: &[u8]) -> Result<Option<ItemHead>, Fault>
     ensures { Seen within count u.now result }
 {
     seen_in(within, count, heads::item_form(items::is_inside(within), u))
 }
 
 // A head of which n octets have come says this.
-fn headed(t: &mut [u64], x: Link, p: [u8; Held::ROOM], n: usize, form: Form) -> Link
+fn headed(
+    t: &mut [u64],
+    x: Link,
+    p: [u8; Held::ROOM],
+    n: usize,
+    form: Result<Option<ItemHead>, Fault>,
+) -> Link
     requires { Bounded x n form }
     ensures { TurnsOn x t.old (headed (take n p) form) result p t.new }
 {
@@ -444,7 +458,7 @@ fn headed(t: &mut [u64], x: Link, p: [u8; Held::ROOM], n: usize, form: Form) -> 
     let c = head.cursor;
     let count = x.core.count as usize;
     match form {
-        Form::More => {
+        Ok(None) => {
             let frame = x.frame;
             Link {
                 core: Core {
@@ -457,21 +471,24 @@ fn headed(t: &mut [u64], x: Link, p: [u8; Held::ROOM], n: usize, form: Form) -> 
                 frame,
             }
         }
-        Form::Faulty { number } => condemned(
+        Err(fault) => condemned(
             marked(x),
             within_of(head),
             0,
-            Refusal {
-                number,
-                place: c.at,
-            },
+            Refusal { fault, place: c.at },
         ),
-        Form::Primitive { tag, start: _, len } => primitive_begins(t, x, tag, len, p),
-        Form::Definite {
-            channel,
-            start: _,
-            len,
-        } => group_begins(
+        Ok(Some(ItemHead::Primitive { tag, start: _, len })) => {
+            primitive_begins(t, x, tag, len, p)
+        }
+        Ok(
+            Some(
+                ItemHead::Definite {
+                    channel,
+                    start: _,
+                    len,
+                },
+            ),
+        ) => group_begins(
             t,
             x,
             len as u64,
@@ -481,7 +498,7 @@ fn headed(t: &mut [u64], x: Link, p: [u8; Held::ROOM], n: usize, form: Form) -> 
                 end: count + len,
             },
         ),
-        Form::Open { channel, start: _ } => group_begins(
+        Ok(Some(ItemHead::Open { channel, start: _ })) => group_begins(
             t,
             x,
             0,
@@ -732,11 +749,11 @@ pub fn octet(t: &mut [u64], x: Link, p: [u8; Held::ROOM], b: u8) -> Arrived
     }
     if Standing::OCTETS as u64 <= x.core.count {
         let r = Refusal {
-            number: Refusal::LONG_FILE,
+            fault: Fault::LongFile,
             place: 0,
         };
         return Arrived {
-            link: in_stage(x, Stage::Decided(Checked::Refused(r))),
+            link: in_stage(x, Stage::Decided(Err(r))),
             octets: p,
         };
     }

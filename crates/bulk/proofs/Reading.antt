@@ -4,6 +4,7 @@
 --     read_located, values_located    the answers for a frame of the file
 --     read_refused, read_asked, read-many, read_bits, read_count, read_left    the answer for a channel that is seen
 -- Assumes nothing.
+use Rattle.std.specs.Prelude.{Result, Ok, Err}
 use mathlib.Core.Path.{◌≡◌, refl, sym, ap, ◌∙◌}
 use mathlib.Core.Bool.{Bool, true, false}
 use mathlib.Core.List.{List}
@@ -17,15 +18,12 @@ use lib.Seq.{sets}
 use Rattle.octets.specs.Pick.{pick}
 use Rattle.octets.proofs.Pick.{pick_cases}
 use Rattle.heads.specs.declared.Refusal.{Refusal}
-use Rattle.heads.specs.Refusals.{no_frame, no_sample}
-use Rattle.heads.specs.Answer.{Answer, answered, refused_as, refused_by, map_answer, left_by}
+use Rattle.heads.specs.declared.Fault.TheVariants.{NoFrame, NoSample}
+use Rattle.heads.specs.Answer.{Answer, answered, refused_as, refused_by, map_answer, left_by, answer_of}
 use Rattle.layout.specs.Frame.{Frame, channel_in}
 use Rattle.laid.specs.Laid.{sample_bits}
 use Rattle.there.specs.There.{there_in}
 use Rattle.spread.specs.Spread.{bits_spread}
-use Rattle.strides.specs.declared.Read.{Read}
-use Rattle.strides.specs.declared.Read.TheVariants.{Samples}
-use Rattle.strides.specs.Channels.{read_says}
 use Rattle.strides.specs.Laying.{bits_from, lays_in}
 use Rattle.strides.specs.Walked.{Layable}
 use Rattle.strides.proofs.Walks.{length-bits, bits-same}
@@ -46,7 +44,7 @@ use Rattle.bulk.specs.Samples.{there_at, bits_seen, read_of, read_seen, values_b
 pub there-is : (s : List ℕ) (frame channel : ℕ) → map_answer there_seen (seen_of s frame channel) ≡ there_at s frame channel
 unfolding there_at seen_of
 there-is s frame channel =
-    asked-both (λ (a : Answer View) (b : Answer ℕ). map_answer there_seen a ≡ b) (λ number place. refl) frame channel (λ (f : Frame). answered (view_of channel f))
+    asked-both (λ (a : Answer View) (b : Answer ℕ). map_answer there_seen a ≡ b) (λ fault place. refl) frame channel (λ (f : Frame). answered (view_of channel f))
     (λ (f : Frame). answered (there_in channel f)) (verdict s)
     (λ fs v i c. ap answered (view_there channel (get_or fs frame zero_frame) c))
 
@@ -54,20 +52,20 @@ there-is s frame channel =
 
 -- The answer where no such sample is declared, and where the samples do not lie in the file.
 module _ {A : Type 0} (size : ℕ) (v : View) (first : ℕ) (a : A) where
-  pub none-asked : count_seen v ≤ first → refused_as no_sample 0 ≡ asked_seen size v first a
+  pub none-asked : count_seen v ≤ first → refused_as NoSample 0 ≡ asked_seen size v first a
   none-asked h = simp (le-ltb _ _ h)
 
   pub laid-asked : first < count_seen v → lies_in size v ≡ true → answered a ≡ asked_seen size v first a
   laid-asked h e = simp (lt-ltb _ _ h, e)
 
-  pub unlaid_asked : first < count_seen v → lies_in size v ≡ false → refused_as no_frame 0 ≡ asked_seen size v first a
+  pub unlaid_asked : first < count_seen v → lies_in size v ≡ false → refused_as NoFrame 0 ≡ asked_seen size v first a
   unlaid_asked h e = simp (lt-ltb _ _ h, e)
 
   -- An answer is one for a sample that is declared, of a view that lies in the file.
   asked_is : {b : A} → answered b ≡ asked_seen size v first a → AskedIn size v first × (b ≡ a)
   asked_is {b} = by (ltb first (count_seen v)) (lies_in size v) refl refl
     where
-      by : (s t : Bool) → ltb first (count_seen v) ≡ s → lies_in size v ≡ t → answered b ≡ pick s (pick t (answered a) (refused_as no_frame 0)) (refused_as no_sample 0) → AskedIn size v first × (b ≡ a)
+      by : (s t : Bool) → ltb first (count_seen v) ≡ s → lies_in size v ≡ t → answered b ≡ pick s (pick t (answered a) (refused_as NoFrame 0)) (refused_as NoSample 0) → AskedIn size v first × (b ≡ a)
       by true true x y q = (record { lies = seen_lies y; number = ltb-true first (count_seen v) x }, (cc))
       by true false x y q = let z : ◌≡◌ {A = ℕ} 0 1 = cc in let w : ⊥ = omega arith in absurd w
       by false t x y q = let z : ◌≡◌ {A = ℕ} 0 1 = cc in let w : ⊥ = omega arith in absurd w
@@ -98,20 +96,20 @@ module _ {s : List ℕ} {frame channel : ℕ} {v : View} (l : Located s frame ch
 -- ---- the answer for a channel that is seen
 
 -- Over how many samples are read.
-module _ (s : List ℕ) (v : View) (first room : ℕ) {r : Read} (e : read_says r ≡ asked_seen (length s) v first (min room (there_seen v - first))) where
-  read_is : {y : Read} → r ≡ y → map_answer (bits_from (bits_seen s v) first) (read_says y) ≡ read_seen s v first room
+module _ (s : List ℕ) (v : View) (first room : ℕ) {r : Result ℕ Refusal} (e : answer_of r ≡ asked_seen (length s) v first (min room (there_seen v - first))) where
+  read_is : {y : Result ℕ Refusal} → r ≡ y → map_answer (bits_from (bits_seen s v) first) (answer_of y) ≡ read_seen s v first room
   unfolding read_seen
   read_is f =
-      ap (λ (x : Read). map_answer (bits_from (bits_seen s v) first) (read_says x)) (sym f)
+      ap (λ (x : Result ℕ Refusal). map_answer (bits_from (bits_seen s v) first) (answer_of x)) (sym f)
       ∙ ap (map_answer (bits_from (bits_seen s v) first)) e
       ∙ map_seen (bits_from (bits_seen s v) first) (length s) v first (min room (there_seen v - first))
 
-  pub read_refused : {x : Refusal} → r ≡ Read.Refused x → refused_by x ≡ read_seen s v first room
+  pub read_refused : {x : Refusal} → r ≡ Err x → refused_by x ≡ read_seen s v first room
   read_refused f = read_is f
 
-  module _ {n : ℕ} (f : r ≡ Samples n) where
+  module _ {n : ℕ} (f : r ≡ Ok n) where
     pub read_asked : AskedIn (length s) v first × (n ≡ min room (there_seen v - first))
-    read_asked = asked_is (length s) v first (min room (there_seen v - first)) (ap read_says (sym f) ∙ e)
+    read_asked = asked_is (length s) v first (min room (there_seen v - first)) (ap answer_of (sym f) ∙ e)
 
     pub read_bits : answered (bits_from (bits_seen s v) first n) ≡ read_seen s v first room
     read_bits = read_is f
@@ -120,7 +118,7 @@ module _ (s : List ℕ) (v : View) (first room : ℕ) {r : Read} (e : read_says 
     read_count = ap answered (sym (length-bits (bits_seen s v) first n)) ∙ ap (map_answer length) read_bits
 
 -- Laid at the front of the buffer; where none is read, the buffer stays as it is.
-module _ (s : List ℕ) (v : View) (first : ℕ) (out : List ℕ) {r : Read} (e : read_says r ≡ asked_seen (length s) v first (min (length out) (there_seen v - first))) {n : ℕ} (f : r ≡ Samples n) where
+module _ (s : List ℕ) (v : View) (first : ℕ) (out : List ℕ) {r : Result ℕ Refusal} (e : answer_of r ≡ asked_seen (length s) v first (min (length out) (there_seen v - first))) {n : ℕ} (f : r ≡ Ok n) where
   abbrev bits : List ℕ
   bits = bits_from (bits_spread s (spread_of v)) first n
 

@@ -23,7 +23,7 @@ use Rattle.values.specs.Sample.{Said, value_of}
 use Rattle.values.specs.Told.{told_as, told_of}
 use Rattle.values.proofs.Told.{told_is}
 use Rattle.layout.specs.Frame.{width_in}
-use Rattle.heads.specs.Refusals.{no_frame, no_sample}
+use Rattle.heads.specs.declared.Fault.TheVariants.{NoFrame, NoSample}
 use Rattle.heads.specs.Answer.{Answer, answered, refused_as, left_by}
 use Rattle.view.specs.declared.View.{View}
 use Rattle.there.proofs.Counts.{count-few}
@@ -135,7 +135,7 @@ seen_long s v m bits e = ap length e ∙ by (ltb m (count_seen v)) (lies_in (len
     x : List ℕ
     x = bits_from (bits_seen s v) m (min (length bits) (there_seen v - m))
 
-    by : (a b : Bool) → length (left_by (pick a (pick b (answered x) (refused_as no_frame 0)) (refused_as no_sample 0)) bits) ≡ length bits
+    by : (a b : Bool) → length (left_by (pick a (pick b (answered x) (refused_as NoFrame 0)) (refused_as NoSample 0)) bits) ≡ length bits
     by true true = simp (length-append, length-drop) (omega (arith, length-bits (bits_seen s v) m (min (length bits) (there_seen v - m))))
     by true false = refl
     by false b = refl

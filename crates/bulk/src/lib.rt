@@ -9,75 +9,68 @@
 
 ghost use Rattle.std.specs.Prelude.{◌≡◌, ◌+◌, ◌-◌, ◌≤◌, min, length, take};
 ghost use Rattle.std.proofs.lemmas.List.Edits.{sets};
-ghost use Rattle.heads.specs.Answer.{map_answer, left_by};
-ghost use Rattle.strides.specs.Channels.{read_says};
+ghost use Rattle.heads.specs.Answer.{map_answer, left_by, answer_of};
 ghost use Rattle.view.specs.View.{there_seen, asked_seen};
 ghost use Rattle.bulk.specs.Samples.{there_at, read_of, read_seen, values_of, values_seen, kinds_in, wholes_in, count_read};
 ghost use Rattle.bulk.specs.Walked.{ToTell, kinds_told, wholes_told, kinds_seen, wholes_seen};
 
-use heads::Refusal;
-use reader::LookedUp;
-use strides::Read;
+use heads::{Fault, Refusal};
 use values::Meaning;
 use view::View;
 
 // How many samples of a channel are there.
-pub fn there(s: &[u8], frame: u32, channel: u32) -> Read
-    ensures { read_says result ≡ there_at s.now frame channel }
+pub fn there(s: &[u8], frame: u32, channel: u32) -> Result<usize, Refusal>
+    ensures { answer_of result ≡ there_at s.now frame channel }
 {
-    match reader::look_up(s, frame, channel) {
-        LookedUp::Refused(x) => Read::Refused(x),
-        LookedUp::Channel(v) => {
-            let x = v.spread();
-            Read::Samples(x.there() as usize)
-        }
-    }
+    let v = reader::look_up(s, frame, channel)?;
+    let x = v.spread();
+    Ok(x.there() as usize)
 }
 
 // How many samples of a channel that is seen are read from number `first` on, in a file of `size` octets: as many as there is room for or are there; 22,
 // then 20.
-fn readable(size: usize, v: View, first: u64, room: usize) -> Read
-    ensures { read_says result ≡ asked_seen size v first (min room (there_seen v - first)) }
+fn readable(size: usize, v: View, first: u64, room: usize) -> Result<usize, Refusal>
+    ensures { answer_of result ≡ asked_seen size v first (min room (there_seen v - first)) }
 {
     let x = v.spread();
     if x.count() <= first {
-        return Read::Refused(Refusal {
-            number: Refusal::NO_SAMPLE,
+        return Err(Refusal {
+            fault: Fault::NoSample,
             place: 0,
         });
     }
     if x.lies(size) {
-        return Read::Samples(x.readable(first, room));
+        return Ok(x.readable(first, room));
     }
-    Read::Refused(Refusal {
-        number: Refusal::NO_FRAME,
+    Err(Refusal {
+        fault: Fault::NoFrame,
         place: 0,
     })
 }
 
 // The bits of the samples of a channel that is seen, from number `first` on, at the front of the buffer: as many as fit or are there.
-pub fn seen(s: &[u8], v: View, first: u64, out: &mut [u64]) -> Read
-    ensures result_value { read_says result ≡ map_answer length (read_seen s.now v first (length out.old)) }
+pub fn seen(s: &[u8], v: View, first: u64, out: &mut [u64]) -> Result<usize, Refusal>
+    ensures result_value { answer_of result ≡ map_answer length (read_seen s.now v first (length out.old)) }
     ensures out_after { out.new ≡ left_by (read_seen s.now v first (length out.old)) out.old }
 {
-    match readable(s.len(), v, first, out.len()) {
-        Read::Refused(x) => Read::Refused(x),
-        Read::Samples(n) => {
-            strides::lay(s, v.spread(), first, n, out, 0);
-            Read::Samples(n)
-        }
-    }
+    let n = readable(s.len(), v, first, out.len())?;
+    strides::lay(s, v.spread(), first, n, out, 0);
+    Ok(n)
 }
 
 // The same by frame and channel: one pass over the file finds the channel.
-pub fn samples(s: &[u8], frame: u32, channel: u32, first: u64, out: &mut [u64]) -> Read
-    ensures result_value { read_says result ≡ count_read s.now frame channel first (length out.old) }
+pub fn samples(
+    s: &[u8],
+    frame: u32,
+    channel: u32,
+    first: u64,
+    out: &mut [u64],
+) -> Result<usize, Refusal>
+    ensures result_value { answer_of result ≡ count_read s.now frame channel first (length out.old) }
     ensures out_after { out.new ≡ left_by (read_of s.now frame channel first (length out.old)) out.old }
 {
-    match reader::look_up(s, frame, channel) {
-        LookedUp::Refused(x) => Read::Refused(x),
-        LookedUp::Channel(v) => seen(s, v, first, out),
-    }
+    let v = reader::look_up(s, frame, channel)?;
+    seen(s, v, first, out)
 }
 
 // How many samples are told at a time.
@@ -113,7 +106,7 @@ fn tell_samples(s: &[u8], v: View, first: u64, n: usize, kinds: &mut [u8], whole
     let mut done = 0usize;
     while done < n {
         let k = spread::smaller(PIECE, n - done);
-        seen(s, v, first + done as u64, &mut bits);
+        let _ = seen(s, v, first + done as u64, &mut bits);
         tell(&bits, k, m, kinds, wholes, done);
         done += k;
     }
@@ -121,23 +114,21 @@ fn tell_samples(s: &[u8], v: View, first: u64, n: usize, kinds: &mut [u8], whole
 
 // The values of the samples of a channel that is seen, from number `first` on: kinds and whole numbers at the fronts of the buffers, as many as
 // fit in both or are there.
-pub fn values_seen(s: &[u8], v: View, first: u64, kinds: &mut [u8], wholes: &mut [i64]) -> Read
-    ensures result_value { read_says result ≡ map_answer length (values_seen s.now v first (min (length kinds.old) (length wholes.old))) }
+pub fn values_seen(
+    s: &[u8],
+    v: View,
+    first: u64,
+    kinds: &mut [u8],
+    wholes: &mut [i64],
+) -> Result<usize, Refusal>
+    ensures result_value { answer_of result ≡ map_answer length (values_seen s.now v first (min (length kinds.old) (length wholes.old))) }
     ensures kinds_after { kinds.new ≡ left_by (kinds_in (values_seen s.now v first (min (length kinds.old) (length wholes.old)))) kinds.old }
     ensures wholes_after { wholes.new ≡ left_by (wholes_in (values_seen s.now v first (min (length kinds.old) (length wholes.old)))) wholes.old }
 {
-    match readable(
-        s.len(),
-        v,
-        first,
-        spread::smaller(kinds.len(), wholes.len()),
-    ) {
-        Read::Refused(x) => Read::Refused(x),
-        Read::Samples(n) => {
-            tell_samples(s, v, first, n, kinds, wholes);
-            Read::Samples(n)
-        }
-    }
+    let room = spread::smaller(kinds.len(), wholes.len());
+    let n = readable(s.len(), v, first, room)?;
+    tell_samples(s, v, first, n, kinds, wholes);
+    Ok(n)
 }
 
 // The same by frame and channel.
@@ -148,13 +139,11 @@ pub fn values(
     first: u64,
     kinds: &mut [u8],
     wholes: &mut [i64],
-) -> Read
-    ensures result_value { read_says result ≡ map_answer length (values_of s.now frame channel first (min (length kinds.old) (length wholes.old))) }
+) -> Result<usize, Refusal>
+    ensures result_value { answer_of result ≡ map_answer length (values_of s.now frame channel first (min (length kinds.old) (length wholes.old))) }
     ensures kinds_after { kinds.new ≡ left_by (kinds_in (values_of s.now frame channel first (min (length kinds.old) (length wholes.old)))) kinds.old }
     ensures wholes_after { wholes.new ≡ left_by (wholes_in (values_of s.now frame channel first (min (length kinds.old) (length wholes.old)))) wholes.old }
 {
-    match reader::look_up(s, frame, channel) {
-        LookedUp::Refused(x) => Read::Refused(x),
-        LookedUp::Channel(v) => values_seen(s, v, first, kinds, wholes),
-    }
+    let v = reader::look_up(s, frame, channel)?;
+    values_seen(s, v, first, kinds, wholes)
 }

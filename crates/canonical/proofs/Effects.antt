@@ -16,6 +16,7 @@ use lib.IntN.{ℤ}
 use lib.Signed.{mag}
 use lib.ListN.{length, get_or, take}
 use lib.Seq.{take_all}
+use Rattle.std.specs.Prelude.{Ok}
 use Rattle.octets.specs.Pick.{pick}
 use Rattle.octets.specs.Number.{number_of}
 use Rattle.stores.specs.Number.{be, length-be}
@@ -27,13 +28,12 @@ use Rattle.settings.specs.declared.Scale.{Scale}
 use Rattle.settings.specs.declared.Settings.{Settings}
 use Rattle.definitions.specs.declared.Attribute.{Attribute}
 use Rattle.settings.specs.declared.Change.{Change}
-use Rattle.definitions.specs.declared.Defined.TheVariants.{Changed}
 use Rattle.settings.specs.Settings.{block_limit, channel_limit, last_data_type, last_interval_unit, last_resolution_unit, default_settings}
 use Rattle.definitions.specs.Define.{length_fits, bits_length, bits_of, scale_of, scale_fits, change_of, in_range, defined}
 use Rattle.definitions.proofs.Laws.{define_back, define_changed}
 use Rattle.layout.specs.Frame.{width_in}
 use Rattle.standing.specs.declared.Standing.{Standing}
-use Rattle.effects.specs.declared.Effect.TheVariants.{Order, Count, Sequences, Start}
+use Rattle.effects.specs.declared.Effect.{Effect}
 use Rattle.effects.specs.Effects.{root_effect, order_effect, count_effect, sequences_effect, start_effect}
 use Rattle.groups.specs.Item.{item_octets, number_item, unsigned_of}
 use Rattle.groups.specs.Group.{scale_item, null_item, group_items}
@@ -43,8 +43,8 @@ use Rattle.canonical.proofs.Steps.{tag_of, Definition, definitions_octets, chang
 
 -- ---- one definition
 
-defines : (a : Attribute) (base : Settings) (v : List ℕ) (c : Change) → change_of a false v ≡ c → length_fits a (length v) ≡ true → (length v ≡ 0 → ⊥) → in_range c ≡ true → defined a false base v ≡ Changed c
-defines a base v c e f n r = sym (define_changed a false base v f n (rw e r)) ∙ ap Changed e
+defines : (a : Attribute) (base : Settings) (v : List ℕ) (c : Change) → change_of a false v ≡ c → length_fits a (length v) ≡ true → (length v ≡ 0 → ⊥) → in_range c ≡ true → defined a false base v ≡ Ok c
+defines a base v c e f n r = sym (define_changed a false base v f n (rw e r)) ∙ ap Ok e
 
 -- The octets of a number, none of them cut off.
 be-taken : (k w n : ℕ) → w ≤ k → take k (be w n) ≡ be w n
@@ -53,7 +53,7 @@ be-taken k w n h = take_all k (be w n) (rw length-be h)
 number-taken : (k w n : ℕ) → w ≤ k → n < 256 ^ w → number_of false (take k (be w n)) ≡ n
 number-taken k w n h l = rw (be-taken k w n h) (number_back w n l)
 
-be_defines : (a : Attribute) (base : Settings) (w n : ℕ) (c : Change) → change_of a false (be w n) ≡ c → length_fits a w ≡ true → 0 < w → in_range c ≡ true → defined a false base (be w n) ≡ Changed c
+be_defines : (a : Attribute) (base : Settings) (w n : ℕ) (c : Change) → change_of a false (be w n) ≡ c → length_fits a w ≡ true → 0 < w → in_range c ≡ true → defined a false base (be w n) ≡ Ok c
 be_defines a base w n c e f h r = defines a base (be w n) c e (rw length-be f) (λ z. omega (arith, length-be w n)) r
 
 -- One octet.
@@ -90,7 +90,7 @@ module _ (last : ℕ) (x : Scale) (g : GoodScale last x) where
       let m = signed_back 4 x.mantissa mantissa-fits in
       rw (scale_octets_lem, be-taken 4 4 (unsigned_of 4 x.mantissa) (lit≤ tt)) (λ i. record { unit = x.unit; exponent = e i; mantissa = m i })
 
-  scale_defines : (a : Attribute) (base : Settings) (make : Scale → Change) → change_of a false (scale_octets x) ≡ make (scale_of false (scale_octets x)) → length_fits a 6 ≡ true → in_range (make x) ≡ scale_fits last x → defined a false base (scale_octets x) ≡ Changed (make x)
+  scale_defines : (a : Attribute) (base : Settings) (make : Scale → Change) → change_of a false (scale_octets x) ≡ make (scale_of false (scale_octets x)) → length_fits a 6 ≡ true → in_range (make x) ≡ scale_fits last x → defined a false base (scale_octets x) ≡ Ok (make x)
   scale_defines a base make e f r =
       let fits : scale_fits last x ≡ true = simp (le-leb x.unit last g.unit, g.mantissa, lt-ltb 0 g.value g.low) in
       defines a base (scale_octets x) (make x) (e ∙ ap make scale_back) (rw scale_long f) (λ z. omega (arith, scale_long)) (r ∙ fits)
@@ -144,16 +144,16 @@ pub changes_are : (b c : Settings) → changed (definitions c) b ≡ c
 unfolding definitions
 changes_are b c = refl
 
-null_defines : (c : Settings) → GoodReported c → defined Attribute.Null false default_settings (null_octets c) ≡ Changed (Change.Null c.null)
+null_defines : (c : Settings) → GoodReported c → defined Attribute.Null false default_settings (null_octets c) ≡ Ok (Change.Null c.null)
 unfolding null_octets
 null_defines c g = by g.null_width
   where
-    by : (c.null.width ≡ 0) ⊎ (c.null.width ≡ width_in c) → defined Attribute.Null false default_settings (pick (eqb c.null.width 0) [] (be (width_in c) c.null.bits)) ≡ Changed (Change.Null c.null)
+    by : (c.null.width ≡ 0) ⊎ (c.null.width ≡ width_in c) → defined Attribute.Null false default_settings (pick (eqb c.null.width 0) [] (be (width_in c) c.null.bits)) ≡ Ok (Change.Null c.null)
     by (inl z) =
         let l : c.null.bits < 256 ^ 0 = rw z at g.null in
         let b : 0 ≡ c.null.bits = omega arith in
         simp (eq-eqb c.null.width 0 z)
-        (sym (define_back Attribute.Null false default_settings [] refl refl) ∙ ap (λ (x : Bits). Changed (Change.Null x)) (λ i. record { width = sym z i; bits = b i }))
+        (sym (define_back Attribute.Null false default_settings [] refl refl) ∙ ap (λ (x : Bits). Ok (Change.Null x)) (λ i. record { width = sym z i; bits = b i }))
     by (inr e) =
         let w = width_good c.datatype g.datatype in
         let n : c.null.width ≡ 0 → ⊥ = λ z. omega (arith, w.some) in
@@ -187,25 +187,25 @@ standing counted sequences start continued =
     record { little = false; counted = counted; sequences = sequences; start = start; continued = continued; root = default_settings }
 
 module _ (counted sequences : ℕ) (start continued : ℤ) (at : ℕ) where
-  pub order_is : root_effect (standing counted sequences start continued) 0x01 at (0 ∷ []) ≡ Order false
+  pub order_is : root_effect (standing counted sequences start continued) 0x01 at (0 ∷ []) ≡ Ok (Effect.Order false)
   unfolding root_effect order_effect
   order_is = refl
 
-  pub count-is : (n : ℕ) → 0 < n → n ≤ channel_limit → root_effect (standing counted sequences start continued) 0x05 at (be 4 n) ≡ Count n
+  pub count-is : (n : ℕ) → 0 < n → n ≤ channel_limit → root_effect (standing counted sequences start continued) 0x05 at (be 4 n) ≡ Ok (Effect.Count n)
   unfolding root_effect count_effect
   count-is n h l =
       let z : n ≡ 0 → ⊥ = λ e. omega arith in
       let b : n < 256 ^ 4 = omega arith in
       rw (length-be, number-taken 4 4 n (lit≤ tt) b, ne_eqb n 0 z, le-ltb channel_limit n l)
 
-  pub sequences-is : (n : ℕ) → n < 2 ^ 32 → root_effect (standing counted sequences start continued) 0x06 at (pick (eqb n 0) [] (be 4 n)) ≡ Sequences n
+  pub sequences-is : (n : ℕ) → n < 2 ^ 32 → root_effect (standing counted sequences start continued) 0x06 at (pick (eqb n 0) [] (be 4 n)) ≡ Ok (Effect.Sequences n)
   unfolding root_effect sequences_effect
   sequences-is n h = by (ℕ_discrete n 0)
     where
-      by : Dec (n ≡ 0) → root_effect (standing counted sequences start continued) 0x06 at (pick (eqb n 0) [] (be 4 n)) ≡ Sequences n
+      by : Dec (n ≡ 0) → root_effect (standing counted sequences start continued) 0x06 at (pick (eqb n 0) [] (be 4 n)) ≡ Ok (Effect.Sequences n)
       by (yes z) = rw z
       by (no z) = simp (ne_eqb n 0 z) (rw (length-be, number-taken 4 4 n (lit≤ tt) h, ne_eqb n 0 z))
 
-  pub start_is : (z : ℤ) → mag z < 2147483648 → root_effect (standing counted sequences start continued) 0x07 at (be 4 (unsigned_of 4 z)) ≡ Start z
+  pub start_is : (z : ℤ) → mag z < 2147483648 → root_effect (standing counted sequences start continued) 0x07 at (be 4 (unsigned_of 4 z)) ≡ Ok (Effect.Start z)
   unfolding root_effect start_effect
   start_is z h = rw (length-be, be-taken 4 4 (unsigned_of 4 z) (lit≤ tt), signed_back 4 z (omega arith))

@@ -15,6 +15,7 @@ use lib.Dec.{eqb}
 use lib.IntN.{ℤ}
 use lib.ListN.{length, set, take, drop, length-set}
 use lib.Seq.{sets, sets-eq, take-append_seam}
+use Rattle.std.specs.Prelude.{Ok}
 use Rattle.octets.specs.Pick.{pick}
 use Rattle.stores.specs.Number.{be}
 use Rattle.items.specs.declared.Within.TheVariants.{Root}
@@ -25,7 +26,6 @@ use Rattle.definitions.specs.Define.{tagged}
 use Rattle.layout.specs.Frame.{Frame, sequence_octets, all_agree}
 use Rattle.there.proofs.Places.{there_declared}
 use Rattle.standing.specs.declared.Standing.{Standing}
-use Rattle.framing.specs.declared.Framed.TheVariants.{Taken}
 use Rattle.standing.specs.Standing.{octets_limit, frames_limit, with_continued}
 use Rattle.effects.specs.Effects.{root_effect}
 use Rattle.framing.specs.Framing.{channels_of, pointer_after, framed_as}
@@ -117,7 +117,7 @@ module _ (s : List ℕ) (short : length s ≤ octets_limit) (fs : List Frame) wh
           rw (ne_eqb (length r.channels) 0 none) known
 
       -- The tests 11 to 13 pass.
-      frame-taken : framed_as (length fs) (standing_at r continued) (all_agree r.channels) (sequence_octets r.channels) (length (waveform_of r)) ≡ Taken r.sequences (standing_behind r continued)
+      frame-taken : framed_as (length fs) (standing_at r continued) (all_agree r.channels) (sequence_octets r.channels) (length (waveform_of r)) ≡ Ok (r.sequences, standing_behind r continued)
       frame-taken =
           let octets = sequence_octets r.channels in
           let inside : length (waveform_of r) ≤ r.sequences * octets = omega (arith, waveform-long r good, there_declared r.channels r.sequences good.long) in
@@ -133,7 +133,7 @@ module _ (s : List ℕ) (short : length s ≤ octets_limit) (fs : List Frame) wh
           let x = state (standing_at r continued) table fs in
           let behind = standing_behind r continued in
           let waveform = value_known s short at 0x1E v post e in
-          let framed : framed_as (length fs) x.standing (all_agree (frame_channels x)) (sequence_octets (frame_channels x)) (length v) ≡ Taken r.sequences behind = rw channels_known frame-taken in
+          let framed : framed_as (length fs) x.standing (all_agree (frame_channels x)) (sequence_octets (frame_channels x)) (length v) ≡ Ok (r.sequences, behind) = rw channels_known frame-taken in
           plain_led s short x (state behind table (fs ++ (frame_of r place ∷ []))) at 0x1E v post e refl refl
           (ap (with_frame s x place (length v)) framed ∙ λ i. goes (state behind table (fs ++ (recorded_at r place (channels_known i) (waveform i) ∷ []))))
 

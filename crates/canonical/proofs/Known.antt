@@ -20,23 +20,21 @@ use borrow.Author.Tests.{lt-ltb, le-ltb, ne_eqb}
 use lib.Dec.{eqb}
 use lib.ListN.{length, take, drop, length-append, length-drop}
 use lib.Seq.{take_at, drop-drop, take-append_seam, drop-append_seam, drop-append-add}
+use Rattle.std.specs.Prelude.{Ok, Err, Some, None}
 use Rattle.octets.specs.Pick.{pick, both}
 use Rattle.octets.specs.Number.{big_from, number_of}
 use Rattle.stores.specs.Number.{be, length-be}
 use Rattle.stores.proofs.Number.{number_back}
 use Rattle.stores.proofs.Length.{holding-between, holding-holds}
 use Rattle.stores.specs.Length.{holding, shortest, shortest_short, shortest-long}
-use Rattle.heads.specs.declared.Channel.TheVariants.{Number}
-use Rattle.heads.specs.declared.Length.TheVariants.{Known}
-use Rattle.heads.specs.declared.Form.{Form}
-use Rattle.heads.specs.declared.Head.TheVariants.{Primitive, Definite}
+use Rattle.heads.specs.declared.Length.{Length}
+use Rattle.heads.specs.declared.ItemHead.{ItemHead}
 use Rattle.items.specs.declared.Within.{Within}
 use Rattle.items.specs.declared.Within.TheVariants.{Root}
 use Rattle.items.specs.declared.Item.{Item}
 use Rattle.items.specs.declared.Item.TheVariants.{Plain, Member}
-use Rattle.items.specs.declared.Next.TheVariants.{Found, End}
 use Rattle.heads.specs.Head.{channel_of, length_of, unknown_context, root_only, primitive_form, group_length, group_form, form_of, head_of}
-use Rattle.heads.specs.Refusals.{context_tag, barred_tag}
+use Rattle.heads.specs.declared.Fault.TheVariants.{ContextTag, BarredTag}
 use Rattle.heads.proofs.Heads.{primitive_fits, definite_fits}
 use Rattle.items.specs.Walk.{cursor, item_of, next_in, next_of}
 use Rattle.effects.specs.Effects.{value_at}
@@ -51,11 +49,11 @@ big_known : (w n : ℕ) (rest : List ℕ) → n < 256 ^ w → big_from 0 (take w
 unfolding number_of
 big_known w n rest h = rw (take_at (be w n) rest w (length-be w n)) (number_back w n h)
 
-pub length_known : (n : ℕ) (rest : List ℕ) → n < 2 ^ 32 → length_of (shortest n ++ rest) ≡ Known n (length (shortest n))
+pub length_known : (n : ℕ) (rest : List ℕ) → n < 2 ^ 32 → length_of (shortest n ++ rest) ≡ Ok (Some (Length.Known n (length (shortest n))))
 unfolding length_of
 length_known n rest h = by (dec_lt n 128)
   where
-    by : Dec (n < 128) → length_of (shortest n ++ rest) ≡ Known n (length (shortest n))
+    by : Dec (n < 128) → length_of (shortest n ++ rest) ≡ Ok (Some (Length.Known n (length (shortest n))))
     by (yes a) = rw (shortest_short n a) (simp lt-ltb)
     by (no a) =
         let k = holding n in
@@ -66,16 +64,16 @@ length_known n rest h = by (dec_lt n 128)
         rw (shortest-long n (omega arith), length-be)
         (simp (le-ltb (128 + k) 128 (omega arith), e, ne_eqb k 0 z, le-ltb 4 k o.1, le-ltb (length (be k n ++ rest)) k v, big_known k n rest (holding-holds n h), add-one))
 
-pub channel_known : (k : ℕ) (rest : List ℕ) → k < 16384 → channel_of 4 0 0 (channel_octets k ++ rest) ≡ Number k (length (channel_octets k))
+pub channel_known : (k : ℕ) (rest : List ℕ) → k < 16384 → channel_of 4 0 0 (channel_octets k ++ rest) ≡ Ok (Some (k, length (channel_octets k)))
 unfolding channel_of channel_octets
 channel_known k rest h = by (dec_lt k 128)
   where
-    by : Dec (k < 128) → channel_of 4 0 0 (channel_octets k ++ rest) ≡ Number k (length (channel_octets k))
-    by (yes a) = simp lt-ltb (ap (λ (v : ℕ). Number v 1) (omega arith))
+    by : Dec (k < 128) → channel_of 4 0 0 (channel_octets k ++ rest) ≡ Ok (Some (k, length (channel_octets k)))
+    by (yes a) = simp lt-ltb (ap (λ (v : ℕ). Ok (Some (v, 1))) (omega arith))
     by (no a) =
         let l : k % 128 < 128 = omega arith in
         simp (le-ltb k 128 (omega arith), le-ltb (128 + k / 128) 128 (omega arith), lt-ltb (k % 128) 128 l)
-        (ap (λ (v : ℕ). Number v 2) (omega arith))
+        (ap (λ (v : ℕ). Ok (Some (v, 2))) (omega arith))
 
 -- ---- heads
 
@@ -94,10 +92,10 @@ last_picked x y z w false false false t = refl
 form_usual : (inside : Bool) (tag : ℕ) (u : List ℕ) → usual inside tag ≡ true → form_of inside (tag ∷ u) ≡ primitive_form tag (length_of u)
 unfolding form_of usual
 form_usual inside tag u t =
-    last_picked (Form.Faulty context_tag) (Form.Faulty barred_tag) (group_form u (channel_of 4 0 0 u)) (primitive_form tag (length_of u))
+    last_picked (Err ContextTag) (Err BarredTag) (group_form u (channel_of 4 0 0 u)) (primitive_form tag (length_of u))
     (unknown_context tag) (both inside (root_only tag)) (eqb tag 0x3F) t
 
-pub head_known : (inside : Bool) (tag n : ℕ) (rest : List ℕ) → usual inside tag ≡ true → n < 2 ^ 32 → n ≤ length rest → head_of inside (tag ∷ (shortest n ++ rest)) ≡ Primitive tag (length (shortest n) + 1) n
+pub head_known : (inside : Bool) (tag n : ℕ) (rest : List ℕ) → usual inside tag ≡ true → n < 2 ^ 32 → n ≤ length rest → head_of inside (tag ∷ (shortest n ++ rest)) ≡ Ok (ItemHead.Primitive tag (length (shortest n) + 1) n)
 unfolding primitive_form
 head_known inside tag n rest t h l =
     primitive_fits inside (tag ∷ (shortest n ++ rest)) (length (shortest n) + 1) n (rw length-append (omega arith)) tag
@@ -111,7 +109,7 @@ group k u = 0x3F ∷ (channel_octets k ++ (shortest (length u) ++ u))
 abbrev pub head_octets : ℕ → ℕ → ℕ
 head_octets k n = length (channel_octets k) + length (shortest n) + 1
 
-pub group_known : (k n : ℕ) (rest : List ℕ) → k < 16384 → n < 2 ^ 32 → n ≤ length rest → head_of false (0x3F ∷ (channel_octets k ++ (shortest n ++ rest))) ≡ Definite k (head_octets k n) n
+pub group_known : (k n : ℕ) (rest : List ℕ) → k < 16384 → n < 2 ^ 32 → n ≤ length rest → head_of false (0x3F ∷ (channel_octets k ++ (shortest n ++ rest))) ≡ Ok (ItemHead.Definite k (head_octets k n) n)
 unfolding form_of unknown_context group_form group_length
 group_known k n rest b h l =
     definite_fits false (0x3F ∷ (channel_octets k ++ (shortest n ++ rest))) (head_octets k n) n (simp length-append (omega arith)) k
@@ -151,7 +149,7 @@ module _ (s : List ℕ) (short : length s ≤ octets_limit) (at tag : ℕ) (v po
       let x : drop (start_at at (length v)) s ≡ v ++ post = rw (← drop-drop (length n + 1) at s, e ∙ item-ahead tag v post, add-one) (drop-append_seam n (v ++ post)) in
       rw x (take-append_seam v post)
 
-  pub next_plain : usual false tag ≡ true → next_of s (cursor at Root) ≡ Found (Plain at tag (start_at at (length v)) (length v)) (cursor (at + length (item_octets tag v)) Root)
+  pub next_plain : usual false tag ≡ true → next_of s (cursor at Root) ≡ Ok (Some (Plain at tag (start_at at (length v)) (length v), cursor (at + length (item_octets tag v)) Root))
   unfolding next_of next_in item_of
   next_plain t = rw (e ∙ item-ahead tag v post, head_known false tag (length v) (v ++ post) t value_short (value-behind v post), value_end at tag v)
 
@@ -169,7 +167,7 @@ module _ (s : List ℕ) (short : length s ≤ octets_limit) (at k : ℕ) (small 
   items_short : length u < 2 ^ 32
   items_short = omega (arith, simp length-append at (part_inside s at (group k u) post e))
 
-  pub next_group : next_of s (cursor at Root) ≡ Found (Item.Group at k) (cursor (at + head_octets k (length u)) (Within.Definite k (at + head_octets k (length u) + length u)))
+  pub next_group : next_of s (cursor at Root) ≡ Ok (Some (Item.Group at k, cursor (at + head_octets k (length u)) (Within.Definite k (at + head_octets k (length u) + length u))))
   unfolding next_of next_in item_of
   next_group = rw (e ∙ group_ahead k u post, group_known k (length u) (u ++ post) small items_short (value-behind u post))
 
@@ -187,7 +185,7 @@ module _ (s : List ℕ) (short : length s ≤ octets_limit) (at end k tag : ℕ)
   pub member_rest : drop at s ≡ item_octets tag v ++ (u ++ post)
   member_rest = i.rest ∙ append_assoc (item_octets tag v) u post
 
-  pub next_member : usual true tag ≡ true → next_of s (cursor at (Within.Definite k end)) ≡ Found (Member at k tag (start_at at (length v)) (length v)) (cursor (at + length (item_octets tag v)) (Within.Definite k end))
+  pub next_member : usual true tag ≡ true → next_of s (cursor at (Within.Definite k end)) ≡ Ok (Some (Member at k tag (start_at at (length v)) (length v), cursor (at + length (item_octets tag v)) (Within.Definite k end)))
   unfolding next_of next_in item_of
   next_member t =
       let l : at < end = omega (arith, i.stop, length-append (item_octets tag v) u, length-item tag v) in
@@ -202,6 +200,6 @@ pub next-left : (s : List ℕ) (at end k : ℕ) (post : List ℕ) → Inside s a
 unfolding next_of
 next-left s at end k post i = simp (le-ltb at end (omega arith))
 
-pub next_end : (s : List ℕ) (at : ℕ) → drop at s ≡ [] → next_of s (cursor at Root) ≡ End
+pub next_end : (s : List ℕ) (at : ℕ) → drop at s ≡ [] → next_of s (cursor at Root) ≡ Ok None
 unfolding next_of next_in
 next_end s at e = rw e

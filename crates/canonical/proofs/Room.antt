@@ -13,7 +13,8 @@ use native.Mathlib.Decide.{dec_le}
 use borrow.Author.Tests.{le-leb, lt-leb}
 use lib.ListN.{length}
 use Rattle.octets.proofs.Pick.{both_false}
-use Rattle.heads.specs.Refusals.{no_room}
+use Rattle.heads.specs.declared.Fault.{Fault}
+use Rattle.heads.specs.declared.Fault.TheVariants.{NoRoom}
 use Rattle.heads.specs.Answer.{Answer, answered, refused_as, map_answer}
 use Rattle.layout.specs.Frame.{Frame}
 use Rattle.standing.specs.Standing.{octets_limit}
@@ -53,8 +54,8 @@ fits_no x room (inr h) = simp (lt-leb (length x) octets_limit h, both_false)
 
 -- What is answered of an accepted file whose frames are fs.
 pub record Writes (a : Answer ℕ) (room : ℕ) (fs : List Frame) : Type 0 where
-  pub short : (a ≡ refused_as no_room 0) ↔ TooLong (canonical (recording fs)) room
-  pub late : (number place : ℕ) → a ≡ refused_as number place → (number ≡ no_room) × (place ≡ 0)
+  pub short : (a ≡ refused_as NoRoom 0) ↔ TooLong (canonical (recording fs)) room
+  pub late : (fault : Fault) (place : ℕ) → a ≡ refused_as fault place → (fault ≡ NoRoom) × (place ≡ 0)
   pub octets : (m : ℕ) → (a ≡ answered m) ↔ ((length (canonical (recording fs)) ≡ m) × (m ≤ room) × (m ≤ octets_limit))
 
 module _ (s : List ℕ) (room : ℕ) (fs : List Frame) (e : verdict s ≡ accepted fs) where
@@ -66,7 +67,7 @@ module _ (s : List ℕ) (room : ℕ) (fs : List Frame) (e : verdict s ≡ accept
   unfolding output_in
   output_fits h = ap (output_in room) e ∙ rw (fits_yes file room h)
 
-  pub output_short : TooLong file room → output_in room (verdict s) ≡ refused_as no_room 0
+  pub output_short : TooLong file room → output_in room (verdict s) ≡ refused_as NoRoom 0
   unfolding output_in
   output_short h = ap (output_in room) e ∙ rw (fits_no file room h)
 
@@ -78,13 +79,13 @@ module _ (s : List ℕ) (room : ℕ) (fs : List Frame) (e : verdict s ≡ accept
           let w = ap (map_answer length) (output_fits t) in
           record {
             short = (λ h. let z : ◌≡◌ {A = ℕ} 0 1 = cc in let n : ⊥ = omega arith in absurd n, λ h. absurd (not-both file room t h));
-            late = λ number place h. let z : ◌≡◌ {A = ℕ} 0 1 = cc in let n : ⊥ = omega arith in absurd n;
+            late = λ fault place h. let z : ◌≡◌ {A = ℕ} 0 1 = cc in let n : ⊥ = omega arith in absurd n;
             octets = λ m. (λ h. let k : length file ≡ m = cc in (k, omega arith, omega arith), λ h. w ∙ ap answered h.0);
           }
       by (inr t) =
           let w = ap (map_answer length) (output_short t) in
           record {
             short = (λ h. t, λ h. w);
-            late = λ number place h. (cc, cc);
+            late = λ fault place h. (cc, cc);
             octets = λ m. (λ h. let z : ◌≡◌ {A = ℕ} 0 1 = cc in let n : ⊥ = omega arith in absurd n, λ h. absurd (not-both file room (omega arith) t));
           }

@@ -12,18 +12,16 @@ use native.Mathlib.Omega.{arith}
 use borrow.Author.Tests.{lt-ltb, ne_eqb}
 use lib.ListN.{length, get_or, set, drop}
 use lib.Seq.{set-set, set-get_or, get_or-set_same}
+use Rattle.std.specs.Prelude.{Ok, Some, None}
 use Rattle.items.specs.declared.Item.{Item}
 use Rattle.items.specs.declared.Within.{Within}
 use Rattle.items.specs.declared.Within.TheVariants.{Root}
 use Rattle.items.specs.declared.Cursor.{Cursor}
-use Rattle.items.specs.declared.Next.TheVariants.{Found, End}
 use Rattle.items.specs.Walk.{cursor, follow, walk, next_of, items_from}
 use Rattle.items.proofs.Walks.{items_found, items_end}
 use Rattle.settings.specs.declared.Settings.{Settings}
 use Rattle.definitions.specs.declared.Attribute.{Attribute}
 use Rattle.settings.specs.declared.Change.{Change}
-use Rattle.definitions.specs.declared.Tagged.TheVariants.{Defines, Other}
-use Rattle.definitions.specs.declared.Defined.TheVariants.{Changed}
 use Rattle.settings.specs.Settings.{zero_settings, applied}
 use Rattle.definitions.specs.Define.{tagged, defined}
 use Rattle.layout.specs.Frame.{Frame}
@@ -39,12 +37,12 @@ abbrev pub from : List ℕ → State → Cursor → Verdict
 from s x c = interpret s x (items_from s c)
 
 module _ (s : List ℕ) (x : State) (c : Cursor) where
-  pub goes_on : (y : State) (i : Item) (d : Cursor) → next_of s c ≡ Found i d → carried s x (effect_of s x.standing i) ≡ goes y → from s x c ≡ from s y d
+  pub goes_on : (y : State) (i : Item) (d : Cursor) → next_of s c ≡ Ok (Some (i, d)) → carried s x (effect_of s x.standing i) ≡ goes y → from s x c ≡ from s y d
   unfolding interpret after_item
   goes_on y i d e h =
       ap (interpret s x) (items_found s c i d e) ∙ ap (after_item (λ z. interpret s z (items_from s d)) (place_at i)) h
 
-  pub ends : next_of s c ≡ End → from s x c ≡ accepted x.frames
+  pub ends : next_of s c ≡ Ok None → from s x c ≡ accepted x.frames
   unfolding interpret
   ends e = ap (interpret s x) (items_end s c e)
 
@@ -87,7 +85,7 @@ tag_usual Attribute.Resolution = refl
 tag_usual Attribute.Offset = refl
 tag_usual Attribute.Null = refl
 
-tag_defines : (a : Attribute) → tagged (tag_of a) ≡ Defines a
+tag_defines : (a : Attribute) → tagged (tag_of a) ≡ Some a
 unfolding tag_of tagged
 tag_defines Attribute.Block = refl
 tag_defines Attribute.Class = refl
@@ -117,7 +115,7 @@ changed (p ∷ ps) c = changed ps (applied p.change c)
 -- Each value says what its definition asks for, big-endian.
 abbrev pub AllDefine : Settings → List Definition → Type 0
 AllDefine base [] = Unit {0}
-AllDefine base (p ∷ ps) = (defined p.attribute false base p.value ≡ Changed p.change) × AllDefine base ps
+AllDefine base (p ∷ ps) = (defined p.attribute false base p.value ≡ Ok p.change) × AllDefine base ps
 
 -- A state in which the record of channel k is c.
 abbrev pub with_channel : Standing → List Settings → List Frame → ℕ → Settings → State
@@ -126,7 +124,7 @@ with_channel st table fs k c = state st (set table k c) fs
 -- ---- what the items lead to
 
 module _ (s : List ℕ) (short : length s ≤ octets_limit) where
-  pub plain_led : (x y : State) (at tag : ℕ) (v post : List ℕ) → drop at s ≡ item_octets tag v ++ post → usual false tag ≡ true → tagged tag ≡ Other → carried s x (root_effect x.standing tag (start_at at (length v)) v) ≡ goes y → Led s x (cursor at Root) y post
+  pub plain_led : (x y : State) (at tag : ℕ) (v post : List ℕ) → drop at s ≡ item_octets tag v ++ post → usual false tag ≡ true → tagged tag ≡ None → carried s x (root_effect x.standing tag (start_at at (length v)) v) ≡ goes y → Led s x (cursor at Root) y post
   unfolding effect_of plain_effect
   plain_led x y at tag v post e t o h =
       record {
@@ -141,7 +139,7 @@ module _ (s : List ℕ) (short : length s ≤ octets_limit) where
     unfolding one_changed
     one_again f c = rw (get_or-set_same table k c zero_settings known) (set-set table k c (f c))
 
-    member_goes : (at end : ℕ) (p : Definition) (u post : List ℕ) (c : Settings) → Inside s at end (item_octets (tag_of p.attribute) p.value ++ u) post → defined p.attribute false st.root p.value ≡ Changed p.change → from s (with_channel st table fs k c) (cursor at (Within.Definite k end)) ≡ from s (with_channel st table fs k (applied p.change c)) (cursor (at + length (item_octets (tag_of p.attribute) p.value)) (Within.Definite k end))
+    member_goes : (at end : ℕ) (p : Definition) (u post : List ℕ) (c : Settings) → Inside s at end (item_octets (tag_of p.attribute) p.value ++ u) post → defined p.attribute false st.root p.value ≡ Ok p.change → from s (with_channel st table fs k c) (cursor at (Within.Definite k end)) ≡ from s (with_channel st table fs k (applied p.change c)) (cursor (at + length (item_octets (tag_of p.attribute) p.value)) (Within.Definite k end))
     unfolding effect_of member_effect one_effect carried
     member_goes at end p u post c i d =
         let a = p.attribute in

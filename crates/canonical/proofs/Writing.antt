@@ -3,7 +3,7 @@
 --     narrow_fits, narrow_is    a start pointer within 32 bits, as it is handed on
 --     Writing         the loop's invariant
 --     writing_first, writing_later, writing_frame    before the first item, further on, after a frame
---     written_done    after the last frame
+--     written_done, never_done    after the last frame; a refusal, which does not come
 -- Assumes nothing.
 use mathlib.Core.Path.{◌≡◌, refl, sym, ap, subst, ◌∙◌}
 use mathlib.Core.List.{List, [], ◌∷◌, ◌++◌, map, append_assoc, append-nil, map-append}
@@ -11,8 +11,6 @@ use mathlib.Core.Bool.{Bool, true, false}
 use Prim.Native.Nat.{min, ℕ, suc, ◌+◌, ◌^◌, ◌≤◌, ◌<◌}
 use native.Mathlib.Nat.{zero-add, add_assoc}
 use native.Mathlib.Omega.{arith}
-use types.Run.{OneOf, miss}
-use denote.Enum.Declared.{tag_of}
 use lib.ListN.{length, get_or, take, drop, length-append, length-map}
 use lib.Seq.{get_or-append_seam, take-append_seam}
 use lib.IntN.{ℤ}
@@ -20,10 +18,10 @@ use lib.Signed.{mag}
 use mir.Syntax.{w32, w64}
 use mir.Val.{SFits, to_z, of_z}
 use mir.Facts.{to_z-of_z}
+use Rattle.std.specs.Prelude.{Result, Ok, Err, Option, Some, None}
 use Rattle.octets.specs.Number.{Octets}
 use Rattle.octets.proofs.Laws.{take-octets, drop-octets}
 use Rattle.heads.specs.declared.Refusal.{Refusal}
-use Rattle.items.specs.Walk.{cursor}
 use Rattle.stores.specs.Storing.{Put, Putting, put_fits}
 use Rattle.stores.proofs.Stores.{put_then, put_long}
 use Rattle.settings.specs.declared.Settings.{Settings}
@@ -43,8 +41,6 @@ use Rattle.dated.specs.Dated.{held}
 use Rattle.dated.proofs.Refreshed.{held-long}
 use Rattle.layout.proofs.Laws.{take-few}
 use Rattle.walk.specs.declared.Waveform.{Waveform}
-use Rattle.walk.specs.declared.Step.{Step}
-use Rattle.walk.specs.contracts.Step.{the_type}
 use Rattle.walk.specs.Advance.{Stand, Stop, stop, advance_of}
 use Rattle.walk.specs.Joined.{frame_by}
 use Rattle.walk.proofs.Joins.{Reaches, StepReaches, reaches_grown, advance_reaches}
@@ -158,7 +154,7 @@ module _ {s d : List ℕ} {x : Stand} {at : ℕ} {e : List ℕ} (p : Writing s d
   all = frames_in (verdict s)
 
   -- What an advance comes to.
-  comes : {k : Step} {y : Stand} → stop k y ≡ advance_of s x → StepReaches s p.met x.cursor.at k y
+  comes : {k : Result (Option Waveform) Refusal} {y : Stand} → stop k y ≡ advance_of s x → StepReaches s p.met x.cursor.at k y
   comes q = subst (λ (z : Stop). StepReaches s p.met x.cursor.at z.step z.at) (sym q) (advance_reaches p.reaches)
 
   -- The end.
@@ -177,16 +173,17 @@ module _ {s d : List ℕ} {x : Stand} {at : ℕ} {e : List ℕ} (p : Writing s d
       omega arith
 
   -- So the walk ends where the items do.
-  pub written_done : (k : Step) {y : Stand} {o : List ℕ} {n : ℕ} → OneOf (1 ∷ 2 ∷ []) (tag_of the_type k) → stop k y ≡ advance_of s x → Put o 0 (0x01 ∷ 0x01 ∷ 0x00 ∷ []) n d → Put o 0 (canonical_of s) at e
-  written_done (Step.Frame v) h a q = absurd (miss (1 ∷ 2 ∷ []) 0 tt h)
-  written_done Step.Ended h a q = written_end (comes a) q
-  written_done (Step.Refused r) h a q = absurd (never_refused r (comes a))
+  pub written_done : {k : Result (Option Waveform) Refusal} {y : Stand} {o : List ℕ} {n : ℕ} → k ≡ Ok None → stop k y ≡ advance_of s x → Put o 0 (0x01 ∷ 0x01 ∷ 0x00 ∷ []) n d → Put o 0 (canonical_of s) at e
+  written_done {y = y} b a q = written_end (comes (ap (λ (k : Result (Option Waveform) Refusal). stop k y) (sym b) ∙ a)) q
+
+  pub never_done : {A : Type 0} {k : Result (Option Waveform) Refusal} {y : Stand} (r : Refusal) → k ≡ Err r → stop k y ≡ advance_of s x → A
+  never_done {y = y} r b a = absurd (never_refused r (comes (ap (λ (k : Result (Option Waveform) Refusal). stop k y) (sym b) ∙ a)))
 
   -- ---- a frame
 
-  module _ {k : Step} {v : Waveform} {y : Stand} (b : k ≡ Step.Frame v) (stops : stop k y ≡ advance_of s x) where
-    a : stop (Step.Frame v) y ≡ advance_of s x
-    a = ap (λ (j : Step). stop j y) (sym b) ∙ stops
+  module _ {k : Result (Option Waveform) Refusal} {v : Waveform} {y : Stand} (b : k ≡ Ok (Some v)) (stops : stop k y ≡ advance_of s x) where
+    a : stop (Ok (Some v)) y ≡ advance_of s x
+    a = ap (λ (j : Result (Option Waveform) Refusal). stop j y) (sym b) ∙ stops
 
     abbrev frame-there : Frame
     frame-there = frame_by s v y

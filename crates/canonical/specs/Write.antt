@@ -3,13 +3,12 @@
 use Rattle.std.specs.Prelude.{List, [], Bool, ℕ, ◌+◌, ◌≤◌, ◌≡◌, leb, length}
 use Rattle.octets.specs.Number.{Octets}
 use Rattle.octets.specs.Pick.{pick, both}
-use Rattle.heads.specs.Refusals.{no_room}
+use Rattle.heads.specs.declared.Fault.TheVariants.{NoRoom}
 use Rattle.heads.specs.Answer.{Answer, answered, refused_as, refused_by, map_answer, left_by}
 use Rattle.layout.specs.Frame.{Frame}
 use Rattle.standing.specs.Standing.{octets_limit}
 use Rattle.pass.specs.Scan.{sizes}
 use Rattle.verdict.specs.Verdict.{Verdict, accepted, refused, verdict}
-use Rattle.canonical.specs.declared.Written.{Written}
 use Rattle.canonical.specs.Recording.{Recorded, recording}
 use Rattle.canonical.specs.Canonical.{canonical}
 
@@ -30,17 +29,12 @@ canonical_of s = canonical (recording_of s)
 unfoldable pub fits : List ℕ → ℕ → Bool
 fits octets room = both (leb (length octets) room) (leb (length octets) octets_limit)
 
--- What a writer's answer says: how many octets it writes, which of the canonical writer is the canonical file's length; or the refusal.
-abbrev pub written_says : Written → Answer ℕ
-written_says (Written.Octets n) = answered n
-written_says (Written.Refused r) = refused_by r
-
 -- What is written where there is room for so many octets: the file's own refusal; else 23 where the canonical file does not fit; else that file.
 unfoldable pub output_in : ℕ → Verdict → Answer (List ℕ)
 output_in room (refused r) = refused_by r
 output_in room (accepted fs) =
     let octets = canonical (recording fs) in
-    pick (fits octets room) (answered octets) (refused_as no_room 0)
+    pick (fits octets room) (answered octets) (refused_as NoRoom 0)
 
 -- The answer is its length.
 abbrev pub output_length : ℕ → List ℕ → Answer ℕ

@@ -11,23 +11,15 @@
 
 ghost use Rattle.std.specs.Prelude.{◌≡◌, ◌∷◌, [], ◌≤◌, length};
 ghost use Rattle.stores.specs.Storing.{Put};
-ghost use Rattle.heads.specs.Refusals.{no_room};
-ghost use Rattle.heads.specs.Answer.{refused_as};
-ghost use Rattle.canonical.specs.Write.{canonical_of, canonical_length_of, Ready, written_says, Wrote};
+ghost use Rattle.heads.specs.declared.Fault.TheVariants.{NoRoom};
+ghost use Rattle.heads.specs.Answer.{refused_as, answer_of};
+ghost use Rattle.canonical.specs.Write.{canonical_of, canonical_length_of, Ready, Wrote};
 
-use heads::Refusal;
+use heads::{Fault, Refusal};
 use pass::Asked;
 use standing::Standing;
-use verdict::Checked;
-use walk::{Head, Step};
+use walk::Head;
 use words::Records;
-
-// How many octets a writer writes, or a refusal.
-#[derive(Clone, Copy)]
-pub enum Written {
-    Octets(usize),
-    Refused(Refusal),
-}
 
 // 01 01 00.
 fn put_order(out: &mut [u8]) -> usize
@@ -52,7 +44,7 @@ fn write_frames(s: &[u8], out: &mut [u8]) -> usize
         let step = m.step;
         h = m.head;
         match step {
-            Step::Frame(v) => {
+            Ok(Some(v)) => {
                 let w = octets::part(s, v.place, v.len);
                 at = frames::put_frame(
                     w,
@@ -65,7 +57,10 @@ fn write_frames(s: &[u8], out: &mut [u8]) -> usize
                     at,
                 );
             }
-            _ => {
+            Ok(None) => {
+                return at;
+            }
+            Err(_) => {
                 return at;
             }
         }
@@ -73,18 +68,18 @@ fn write_frames(s: &[u8], out: &mut [u8]) -> usize
 }
 
 // The canonical file is longer than there is room.
-fn no_room() -> Written
-    ensures { written_says result ≡ refused_as no_room 0 }
+fn no_room() -> Result<usize, Refusal>
+    ensures { answer_of result ≡ refused_as NoRoom 0 }
 {
-    Written::Refused(Refusal {
-        number: Refusal::NO_ROOM,
+    Err(Refusal {
+        fault: Fault::NoRoom,
         place: 0,
     })
 }
 
 // The length of a file's canonical file, from one pass over the file; nothing is written.
-pub fn canonical_length(s: &[u8]) -> Written
-    ensures { written_says result ≡ canonical_length_of s.now }
+pub fn canonical_length(s: &[u8]) -> Result<usize, Refusal>
+    ensures { answer_of result ≡ canonical_length_of s.now }
 {
     let pass = pass::scan_file(
         s,
@@ -93,36 +88,27 @@ pub fn canonical_length(s: &[u8]) -> Written
             channel: 0,
         },
     );
-    let checked = pass.checked;
-    let Checked::Frames(n) = checked else {
-        let Checked::Refused(x) = checked else {
-            return Written::Octets(0);
-        };
-        return Written::Refused(x);
-    };
+    let n = pass.checked?;
     if n == 0 {
-        return Written::Octets(0);
+        return Ok(0);
     }
     let size = pass.size as usize;
     if Standing::OCTETS - 3 < size {
         return no_room();
     }
-    Written::Octets(size + 3)
+    Ok(size + 3)
 }
 
 // Writes the canonical file of a file into the front of a buffer.
-pub fn write_canonical(s: &[u8], out: &mut [u8]) -> Written
-    ensures { Wrote s.now out.old (written_says result) out.new }
+pub fn write_canonical(s: &[u8], out: &mut [u8]) -> Result<usize, Refusal>
+    ensures { Wrote s.now out.old (answer_of result) out.new }
 {
-    let answer = canonical_length(s);
-    let Written::Octets(octets) = answer else {
-        return answer;
-    };
+    let octets = canonical_length(s)?;
     if octets == 0 {
-        return answer;
+        return Ok(0);
     }
     if out.len() < octets {
         return no_room();
     }
-    Written::Octets(write_frames(s, out))
+    Ok(write_frames(s, out))
 }

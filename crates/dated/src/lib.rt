@@ -12,8 +12,7 @@ ghost use Rattle.std.specs.Prelude.{◌≡◌};
 ghost use Rattle.octets.specs.Pick.{pick};
 ghost use Rattle.dated.specs.Dated.{noted, dated_table, first_dates, timed, root_defined, all_cleared, settled_from, settled_at};
 
-use settings::{Change, Scale, Settings};
-use values::Bits;
+use settings::{Change, Settings};
 
 // What stood for a channel at a time.
 #[derive(Clone, Copy)]
@@ -116,7 +115,7 @@ impl Dates {
         Dates {
             times,
             cleared: self.cleared,
-            now: std::num::wrapping_add_u32(self.now, 1),
+            now: self.now.wrapping_add(1),
         }
     }
 
@@ -128,7 +127,7 @@ impl Dates {
         Dates {
             times,
             cleared: self.now,
-            now: std::num::wrapping_add_u32(self.now, 1),
+            now: self.now.wrapping_add(1),
         }
     }
 
@@ -143,31 +142,8 @@ impl Dates {
     }
 }
 
-fn either_number(first: bool, a: u32, b: u32) -> u32
-    ensures { result ≡ pick first a b }
-{
-    if first { a } else { b }
-}
-
-fn either_code(first: bool, a: u16, b: u16) -> u16
-    ensures { result ≡ pick first a b }
-{
-    if first { a } else { b }
-}
-
-fn either_octet(first: bool, a: u8, b: u8) -> u8
-    ensures { result ≡ pick first a b }
-{
-    if first { a } else { b }
-}
-
-fn either_scale(first: bool, a: Scale, b: Scale) -> Scale
-    ensures { result ≡ pick first a b }
-{
-    if first { a } else { b }
-}
-
-fn either_bits(first: bool, a: Bits, b: Bits) -> Bits
+// The first of two, or the second.
+fn either<T: Copy>(first: bool, a: T, b: T) -> T
     ensures { result ≡ pick first a b }
 {
     if first { a } else { b }
@@ -179,14 +155,14 @@ fn settled_from(root: Settings, t: Times, x: Dated) -> Settings
 {
     let s = x.settings;
     Settings {
-        block: either_number(x.at <= t.block, root.block, s.block),
-        class: either_code(x.at <= t.class, root.class, s.class),
-        lead: either_code(x.at <= t.lead, root.lead, s.lead),
-        datatype: either_octet(x.at <= t.datatype, root.datatype, s.datatype),
-        interval: either_scale(x.at <= t.interval, root.interval, s.interval),
-        resolution: either_scale(x.at <= t.resolution, root.resolution, s.resolution),
-        offset: either_bits(x.at <= t.offset, root.offset, s.offset),
-        null: either_bits(x.at <= t.null, root.null, s.null),
+        block: either(x.at <= t.block, root.block, s.block),
+        class: either(x.at <= t.class, root.class, s.class),
+        lead: either(x.at <= t.lead, root.lead, s.lead),
+        datatype: either(x.at <= t.datatype, root.datatype, s.datatype),
+        interval: either(x.at <= t.interval, root.interval, s.interval),
+        resolution: either(x.at <= t.resolution, root.resolution, s.resolution),
+        offset: either(x.at <= t.offset, root.offset, s.offset),
+        null: either(x.at <= t.null, root.null, s.null),
     }
 }
 

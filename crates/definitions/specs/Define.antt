@@ -1,37 +1,29 @@
 -- A definition of an attribute (document 01, the table of "Attributes"): its lengths, its value, and what it asks for.
-use Rattle.std.specs.Prelude.{List, Bool, true, not, ℕ, eqb, leb, pos, length, get_or, take, drop}
+use Rattle.std.specs.Prelude.{List, Bool, true, not, ℕ, eqb, leb, pos, length, get_or, take, drop, Result, Ok, Err, Option, Some, None}
+use Rattle.heads.specs.declared.Fault.{Fault}
 use Rattle.std.specs.Int.Signed.{lt_z}
 use Rattle.octets.specs.Pick.{pick, both, either}
 use Rattle.octets.specs.Number.{number_of, signed_of, twos}
 use Rattle.values.specs.declared.Bits.{Bits}
-use Rattle.heads.specs.Refusals.{unfit_length, unfit_value}
+use Rattle.heads.specs.declared.Fault.TheVariants.{UnfitLength, UnfitValue}
 use Rattle.settings.specs.declared.Scale.{Scale}
 use Rattle.settings.specs.declared.Settings.{Settings}
 use Rattle.definitions.specs.declared.Attribute.{Attribute}
 use Rattle.settings.specs.declared.Change.{Change}
-use Rattle.definitions.specs.declared.Tagged.{Tagged}
-use Rattle.definitions.specs.declared.Tagged.TheVariants.{Defines, Other}
-use Rattle.definitions.specs.declared.Defined.{Defined}
-use Rattle.definitions.specs.declared.Defined.TheVariants.{Changed, Refused}
-use Rattle.definitions.specs.declared.BlockRead.{BlockRead}
-use Rattle.definitions.specs.declared.CodeRead.{CodeRead}
-use Rattle.definitions.specs.declared.TypeRead.{TypeRead}
-use Rattle.definitions.specs.declared.ScaleRead.{ScaleRead}
-use Rattle.definitions.specs.declared.BitsRead.{BitsRead}
 use Rattle.settings.specs.Settings.{block_limit, last_data_type, last_interval_unit, last_resolution_unit}
 
 -- The column "Tag": 04, 08, 09, 0A, 0B, 0C, 0D, 12 may stand in a group.
-unfoldable pub tagged : ℕ → Tagged
+unfoldable pub tagged : ℕ → (Option Attribute)
 tagged tag =
-    pick (eqb tag 0x04) (Defines Attribute.Block)
-    (pick (eqb tag 0x08) (Defines Attribute.Class)
-    (pick (eqb tag 0x09) (Defines Attribute.Lead)
-    (pick (eqb tag 0x0A) (Defines Attribute.DataType)
-    (pick (eqb tag 0x0B) (Defines Attribute.Interval)
-    (pick (eqb tag 0x0C) (Defines Attribute.Resolution)
-    (pick (eqb tag 0x0D) (Defines Attribute.Offset)
-    (pick (eqb tag 0x12) (Defines Attribute.Null)
-    Other)))))))
+    pick (eqb tag 0x04) (Some Attribute.Block)
+    (pick (eqb tag 0x08) (Some Attribute.Class)
+    (pick (eqb tag 0x09) (Some Attribute.Lead)
+    (pick (eqb tag 0x0A) (Some Attribute.DataType)
+    (pick (eqb tag 0x0B) (Some Attribute.Interval)
+    (pick (eqb tag 0x0C) (Some Attribute.Resolution)
+    (pick (eqb tag 0x0D) (Some Attribute.Offset)
+    (pick (eqb tag 0x12) (Some Attribute.Null)
+    None)))))))
 
 -- 0, 3 to 6
 abbrev pub scale_length : ℕ → Bool
@@ -108,11 +100,11 @@ in_range (Change.Null x) = true
 
 -- What a definition asks for: 6 for its length, 7 for its value; length 0 goes back to what stands in `base`: the
 -- defaults outside a group, the root settings inside one.
-unfoldable pub defined : Attribute → Bool → Settings → List ℕ → Defined
+unfoldable pub defined : Attribute → Bool → Settings → List ℕ → (Result Change Fault)
 defined a little base v =
-    pick (not (length_fits a (length v))) (Refused unfit_length)
-    (pick (eqb (length v) 0) (Changed (standing_in a base))
-    (pick (in_range (change_of a little v)) (Changed (change_of a little v)) (Refused unfit_value)))
+    pick (not (length_fits a (length v))) (Err UnfitLength)
+    (pick (eqb (length v) 0) (Ok (standing_in a base))
+    (pick (in_range (change_of a little v)) (Ok (change_of a little v)) (Err UnfitValue)))
 
 -- What a definition of n octets gives of one attribute, by the same three tests: nothing, what stands, or its value x.
 unfoldable pub read_as : {A R : Type 0} → (A → R) → R → Bool → ℕ → Bool → A → A → R
@@ -122,21 +114,21 @@ read_as value refused fits n ranged base x =
     (pick ranged (value x) refused))
 
 -- A block length.
-abbrev pub block_read : Bool → ℕ → List ℕ → BlockRead
-block_read little base v = let n = number_of little (take 4 v) in read_as BlockRead.Value BlockRead.Refused (length_fits Attribute.Block (length v)) (length v) (block_fits n) base n
+abbrev pub block_read : Bool → ℕ → List ℕ → (Option ℕ)
+block_read little base v = let n = number_of little (take 4 v) in read_as Some None (length_fits Attribute.Block (length v)) (length v) (block_fits n) base n
 
 -- A class or a lead code.
-abbrev pub code_read : Bool → ℕ → List ℕ → CodeRead
-code_read little base v = read_as CodeRead.Value CodeRead.Refused (length_fits Attribute.Class (length v)) (length v) true base (code_of little v)
+abbrev pub code_read : Bool → ℕ → List ℕ → (Option ℕ)
+code_read little base v = read_as Some None (length_fits Attribute.Class (length v)) (length v) true base (code_of little v)
 
 -- A data type.
-abbrev pub type_read : ℕ → List ℕ → TypeRead
-type_read base v = let n = get_or v 0 0 in read_as TypeRead.Value TypeRead.Refused (length_fits Attribute.DataType (length v)) (length v) (leb n last_data_type) base n
+abbrev pub type_read : ℕ → List ℕ → (Option ℕ)
+type_read base v = let n = get_or v 0 0 in read_as Some None (length_fits Attribute.DataType (length v)) (length v) (leb n last_data_type) base n
 
 -- An interval or a resolution, whose last unit is `last`.
-abbrev pub scale_read : ℕ → Bool → Scale → List ℕ → ScaleRead
-scale_read last little base v = let x = scale_of little v in read_as ScaleRead.Value ScaleRead.Refused (scale_length (length v)) (length v) (scale_fits last x) base x
+abbrev pub scale_read : ℕ → Bool → Scale → List ℕ → (Option Scale)
+scale_read last little base v = let x = scale_of little v in read_as Some None (scale_length (length v)) (length v) (scale_fits last x) base x
 
 -- An offset or a null.
-abbrev pub bits_read : Bool → Bits → List ℕ → BitsRead
-bits_read little base v = read_as BitsRead.Value BitsRead.Refused (bits_length (length v)) (length v) true base (bits_of little v)
+abbrev pub bits_read : Bool → Bits → List ℕ → (Option Bits)
+bits_read little base v = read_as Some None (bits_length (length v)) (length v) true base (bits_of little v)

@@ -8,7 +8,7 @@
 ghost use Rattle.std.specs.Prelude.{◌≡◌, get_or};
 ghost use Rattle.definitions.specs.Define.{tagged, scale_length, bits_length, length_fits, standing_in, scale_of, bits_of, change_of, block_fits, scale_fits, in_range, defined, block_read, code_read, type_read, scale_read, bits_read};
 
-use heads::Refusal;
+use heads::Fault;
 use settings::{Change, Scale, Settings};
 use values::Bits;
 
@@ -25,26 +25,20 @@ pub enum Attribute {
     Null,
 }
 
-// The attribute that a tag defines, if it defines one of these.
-#[derive(Clone, Copy)]
-pub enum Tagged {
-    Defines(Attribute),
-    Other,
-}
-
-pub fn attribute_of(tag: u8) -> Tagged
+#[tactic(auto, unfolding(crate::specs::Define::tagged))]
+pub fn attribute_of(tag: u8) -> Option<Attribute>
     ensures { result ≡ tagged tag }
 {
     match tag {
-        0x04 => Tagged::Defines(Attribute::Block),
-        0x08 => Tagged::Defines(Attribute::Class),
-        0x09 => Tagged::Defines(Attribute::Lead),
-        0x0A => Tagged::Defines(Attribute::DataType),
-        0x0B => Tagged::Defines(Attribute::Interval),
-        0x0C => Tagged::Defines(Attribute::Resolution),
-        0x0D => Tagged::Defines(Attribute::Offset),
-        0x12 => Tagged::Defines(Attribute::Null),
-        _ => Tagged::Other,
+        0x04 => Some(Attribute::Block),
+        0x08 => Some(Attribute::Class),
+        0x09 => Some(Attribute::Lead),
+        0x0A => Some(Attribute::DataType),
+        0x0B => Some(Attribute::Interval),
+        0x0C => Some(Attribute::Resolution),
+        0x0D => Some(Attribute::Offset),
+        0x12 => Some(Attribute::Null),
+        _ => None,
     }
 }
 
@@ -106,6 +100,7 @@ fn octet(v: &[u8], at: usize) -> u8
 }
 
 // A unit octet, a signed exponent octet and a mantissa, which alone is turned by the byte order.
+#[tactic(auto, unfolding(crate::specs::Define::scale_of))]
 fn scale_of(v: &[u8], little: bool) -> Scale
     ensures { result ≡ scale_of «little» v.now }
 {
@@ -172,142 +167,102 @@ fn in_range(c: Change) -> bool
     }
 }
 
-// What a definition asks for.
-#[derive(Clone, Copy)]
-pub enum Defined {
-    Changed(Change),
-    Refused(u8),
-}
-
 // The definition of an attribute by the octets v; length 0 goes back to what stands in `base`.
-pub fn define(a: Attribute, v: &[u8], little: bool, base: Settings) -> Defined
+#[tactic(auto, unfolding(crate::specs::Define::defined))]
+pub fn define(a: Attribute, v: &[u8], little: bool, base: Settings) -> Result<Change, Fault>
     ensures { result ≡ defined a «little» base v.now }
 {
     if !length_fits(a, v.len()) {
-        return Defined::Refused(Refusal::UNFIT_LENGTH);
+        return Err(Fault::UnfitLength);
     }
     if v.len() == 0 {
-        return Defined::Changed(standing_in(a, base));
+        return Ok(standing_in(a, base));
     }
     let c = change_of(a, v, little);
     if in_range(c) {
-        Defined::Changed(c)
+        Ok(c)
     } else {
-        Defined::Refused(Refusal::UNFIT_VALUE)
+        Err(Fault::UnfitValue)
     }
-}
-
-// What a definition gives of one attribute, for each kind of value; `Refused` where `define` refuses. Nothing but the value is handed on, so that a
-// pass keeps a record in place and copies none.
-#[derive(Clone, Copy)]
-pub enum BlockRead {
-    Value(u32),
-    Refused,
-}
-
-#[derive(Clone, Copy)]
-pub enum CodeRead {
-    Value(u16),
-    Refused,
-}
-
-#[derive(Clone, Copy)]
-pub enum TypeRead {
-    Value(u8),
-    Refused,
-}
-
-#[derive(Clone, Copy)]
-pub enum ScaleRead {
-    Value(Scale),
-    Refused,
-}
-
-#[derive(Clone, Copy)]
-pub enum BitsRead {
-    Value(Bits),
-    Refused,
 }
 
 // The block length that v gives; length 0 goes back to `base`, here and below.
-pub fn block_read(v: &[u8], little: bool, base: u32) -> BlockRead
+#[tactic(auto, unfolding(crate::specs::Define::read_as))]
+pub fn block_read(v: &[u8], little: bool, base: u32) -> Option<u32>
     ensures { result ≡ block_read «little» base v.now }
 {
     if !length_fits(Attribute::Block, v.len()) {
-        return BlockRead::Refused;
+        return None;
     }
     if v.len() == 0 {
-        return BlockRead::Value(base);
+        return Some(base);
     }
     let n = digits::four(v, little);
-    if block_fits(n) {
-        BlockRead::Value(n)
-    } else {
-        BlockRead::Refused
-    }
+    if block_fits(n) { Some(n) } else { None }
 }
 
 // The code of a class or a lead.
-pub fn code_read(v: &[u8], little: bool, base: u16) -> CodeRead
+#[tactic(auto, unfolding(crate::specs::Define::read_as))]
+pub fn code_read(v: &[u8], little: bool, base: u16) -> Option<u16>
     ensures { result ≡ code_read «little» base v.now }
 {
     if !length_fits(Attribute::Class, v.len()) {
-        return CodeRead::Refused;
+        return None;
     }
     if v.len() == 0 {
-        return CodeRead::Value(base);
+        Some(base)
+    } else {
+        Some(digits::two(v, little))
     }
-    CodeRead::Value(digits::two(v, little))
 }
 
 // The data type.
-pub fn type_read(v: &[u8], base: u8) -> TypeRead
+#[tactic(auto, unfolding(crate::specs::Define::read_as))]
+pub fn type_read(v: &[u8], base: u8) -> Option<u8>
     ensures { result ≡ type_read base v.now }
 {
     if !length_fits(Attribute::DataType, v.len()) {
-        return TypeRead::Refused;
+        return None;
     }
     if v.len() == 0 {
-        return TypeRead::Value(base);
+        return Some(base);
     }
     let n = octet(v, 0);
     if n <= Settings::LAST_DATA_TYPE {
-        TypeRead::Value(n)
+        Some(n)
     } else {
-        TypeRead::Refused
+        None
     }
 }
 
 // An interval or a resolution, whose last unit is `last`.
-pub fn scale_read(v: &[u8], little: bool, last: u8, base: Scale) -> ScaleRead
+#[tactic(auto, unfolding(crate::specs::Define::read_as))]
+pub fn scale_read(v: &[u8], little: bool, last: u8, base: Scale) -> Option<Scale>
     ensures { result ≡ scale_read last «little» base v.now }
 {
     if !scale_length(v.len()) {
-        return ScaleRead::Refused;
+        return None;
     }
     if v.len() == 0 {
-        return ScaleRead::Value(base);
+        return Some(base);
     }
     let x = scale_of(v, little);
-    if scale_fits(last, x) {
-        ScaleRead::Value(x)
-    } else {
-        ScaleRead::Refused
-    }
+    if scale_fits(last, x) { Some(x) } else { None }
 }
 
 // An offset or a null. It is put together from its parts, so that what lies between them is not copied.
-pub fn bits_read(v: &[u8], little: bool, base: Bits) -> BitsRead
+#[tactic(auto, unfolding(crate::specs::Define::read_as))]
+pub fn bits_read(v: &[u8], little: bool, base: Bits) -> Option<Bits>
     ensures { result ≡ bits_read «little» base v.now }
 {
     if !bits_length(v.len()) {
-        return BitsRead::Refused;
+        return None;
     }
     if v.len() == 0 {
-        return BitsRead::Value(Bits {
+        return Some(Bits {
             width: base.width,
             bits: base.bits,
         });
     }
-    BitsRead::Value(bits_of(v, little))
+    Some(bits_of(v, little))
 }

@@ -54,18 +54,11 @@ fn extended(n: u64, w: usize) -> i32
     }
 }
 
-// A width of at most four octets.
-fn at_most_four(w: usize) -> usize
-    ensures { result ≡ min w 4 }
-{
-    if w < 4 { w } else { 4 }
-}
-
 // Two's complement at the lowest w octets of a number, at most four.
 pub fn lowest_signed(n: u64, w: usize) -> i32
     ensures { result ≡ twos (min w 4) (low_of (min w 4) n) }
 {
-    let k = at_most_four(w);
+    let k = w.min(4);
     extended(lowest(n, k), k)
 }
 
@@ -81,9 +74,5 @@ pub fn signed(s: &[u8], little: bool) -> i32
 pub fn signed_octet(b: u8) -> i8
     ensures { result ≡ twos 1 b }
 {
-    if b < 128 {
-        b as i8
-    } else {
-        !((u8::MAX - b) as i8)
-    }
+    b.cast_signed()
 }

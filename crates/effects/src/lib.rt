@@ -1,3 +1,4 @@
+// What an item asks for, and what stands after it.
 //
 // Promises, for any octets at all: `item_effect` answers what an item asks for where this stands before it, or its refusal (6 to 9);
 // `standing_after` answers what stands after an effect. No record is changed here.
@@ -6,10 +7,9 @@
 
 ghost use Rattle.std.specs.Prelude.{◌≡◌};
 ghost use Rattle.definitions.specs.Define.{tagged};
-ghost use Rattle.effects.specs.Effects.{order_effect, count_effect, sequences_effect, start_effect, compressed_effect, all_effect, one_effect, root_effect, plain_effect, member_effect, group_effect, effect_of, standing_after};
+ghost use Rattle.effects.specs.Effects.{order_effect, count_effect, sequences_effect, start_effect, compressed_effect, root_effect, plain_effect, member_effect, group_effect, effect_of, standing_after};
 
-use definitions::{Defined, Tagged};
-use heads::Refusal;
+use heads::Fault;
 use items::Item;
 use settings::{Change, Settings};
 use standing::Standing;
@@ -33,109 +33,95 @@ pub enum Effect {
     One(u32, Change),
     // A frame with this waveform.
     Frame { start: usize, len: usize },
-    // A refusal.
-    Refused(u8),
 }
 
 // 01, byte order.
-fn order_effect(v: &[u8]) -> Effect
+#[tactic(auto, unfolding(crate::specs::Effects::order_effect))]
+fn order_effect(v: &[u8]) -> Result<Effect, Fault>
     ensures { result ≡ order_effect v.now }
 {
     if 1 < v.len() {
-        return Effect::Refused(Refusal::UNFIT_LENGTH);
+        return Err(Fault::UnfitLength);
     }
     if v.len() == 0 {
-        return Effect::Order(false);
+        return Ok(Effect::Order(false));
     }
     let b = v[0];
     if 1 < b {
-        return Effect::Refused(Refusal::UNFIT_VALUE);
+        return Err(Fault::UnfitValue);
     }
-    Effect::Order(b == 1)
+    Ok(Effect::Order(b == 1))
 }
 
 // 05, channels.
-fn count_effect(little: bool, v: &[u8]) -> Effect
+#[tactic(auto, unfolding(crate::specs::Effects::count_effect))]
+fn count_effect(little: bool, v: &[u8]) -> Result<Effect, Fault>
     ensures { result ≡ count_effect «little» v.now }
 {
     if 4 < v.len() {
-        return Effect::Refused(Refusal::UNFIT_LENGTH);
+        return Err(Fault::UnfitLength);
     }
     if v.len() == 0 {
-        return Effect::Count(0);
+        return Ok(Effect::Count(0));
     }
     let n = digits::four(v, little);
     if n == 0 {
-        return Effect::Refused(Refusal::UNFIT_VALUE);
+        return Err(Fault::UnfitValue);
     }
     if Settings::CHANNELS < n as usize {
-        return Effect::Refused(Refusal::UNFIT_VALUE);
+        return Err(Fault::UnfitValue);
     }
-    Effect::Count(n)
+    Ok(Effect::Count(n))
 }
 
 // 06, sequences.
-fn sequences_effect(little: bool, v: &[u8]) -> Effect
+#[tactic(auto, unfolding(crate::specs::Effects::sequences_effect))]
+fn sequences_effect(little: bool, v: &[u8]) -> Result<Effect, Fault>
     ensures { result ≡ sequences_effect «little» v.now }
 {
     if 4 < v.len() {
-        return Effect::Refused(Refusal::UNFIT_LENGTH);
+        return Err(Fault::UnfitLength);
     }
     if v.len() == 0 {
-        return Effect::Sequences(0);
+        return Ok(Effect::Sequences(0));
     }
     let n = digits::four(v, little);
     if n == 0 {
-        return Effect::Refused(Refusal::UNFIT_VALUE);
+        return Err(Fault::UnfitValue);
     }
-    Effect::Sequences(n)
+    Ok(Effect::Sequences(n))
 }
 
 // 07, start pointer.
-fn start_effect(little: bool, continued: i64, v: &[u8]) -> Effect
+#[tactic(auto, unfolding(crate::specs::Effects::start_effect))]
+fn start_effect(little: bool, continued: i64, v: &[u8]) -> Result<Effect, Fault>
     ensures { result ≡ start_effect «little» continued v.now }
 {
     if 4 < v.len() {
-        return Effect::Refused(Refusal::UNFIT_LENGTH);
+        return Err(Fault::UnfitLength);
     }
     if v.len() == 0 {
-        return Effect::Start(continued);
+        return Ok(Effect::Start(continued));
     }
     let z = digits::signed(v, little);
-    Effect::Start(z as i64)
+    Ok(Effect::Start(z as i64))
 }
 
 // 0E, compression.
-fn compressed_effect(v: &[u8]) -> Effect
+#[tactic(auto, unfolding(crate::specs::Effects::compressed_effect))]
+fn compressed_effect(v: &[u8]) -> Result<Effect, Fault>
     ensures { result ≡ compressed_effect v.now }
 {
     if v.len() == 0 {
-        Effect::Pass
+        Ok(Effect::Pass)
     } else {
-        Effect::Refused(Refusal::COMPRESSED)
-    }
-}
-
-fn all_effect(d: Defined) -> Effect
-    ensures { result ≡ all_effect d }
-{
-    match d {
-        Defined::Changed(c) => Effect::All(c),
-        Defined::Refused(number) => Effect::Refused(number),
-    }
-}
-
-fn one_effect(channel: u32, d: Defined) -> Effect
-    ensures { result ≡ one_effect channel d }
-{
-    match d {
-        Defined::Changed(c) => Effect::One(channel, c),
-        Defined::Refused(number) => Effect::Refused(number),
+        Err(Fault::Compressed)
     }
 }
 
 // The tags that stand only outside groups; every other one is stepped over.
-fn root_effect(st: Standing, tag: u8, start: usize, v: &[u8]) -> Effect
+#[tactic(auto, unfolding(crate::specs::Effects::root_effect))]
+fn root_effect(st: Standing, tag: u8, start: usize, v: &[u8]) -> Result<Effect, Fault>
     ensures { result ≡ root_effect st tag start v.now }
 {
     match tag {
@@ -144,55 +130,61 @@ fn root_effect(st: Standing, tag: u8, start: usize, v: &[u8]) -> Effect
         0x06 => sequences_effect(st.little, v),
         0x07 => start_effect(st.little, st.continued, v),
         0x0E => compressed_effect(v),
-        0x1E => Effect::Frame {
+        0x1E => Ok(Effect::Frame {
             start,
             len: v.len(),
-        },
-        _ => Effect::Pass,
+        }),
+        _ => Ok(Effect::Pass),
     }
 }
 
 // An item outside a group.
-fn plain_effect(st: Standing, tag: u8, start: usize, v: &[u8]) -> Effect
+#[tactic(auto, unfolding(crate::specs::Effects::plain_effect, crate::specs::Effects::all_effect))]
+fn plain_effect(st: Standing, tag: u8, start: usize, v: &[u8]) -> Result<Effect, Fault>
     ensures { result ≡ plain_effect st tag start v.now (tagged tag) }
 {
     match definitions::attribute_of(tag) {
-        Tagged::Defines(a) => {
+        Some(a) => {
             let base = Settings::default();
-            all_effect(definitions::define(a, v, st.little, base))
+            let change = definitions::define(a, v, st.little, base)?;
+            Ok(Effect::All(change))
         }
-        Tagged::Other => root_effect(st, tag, start, v),
+        None => root_effect(st, tag, start, v),
     }
 }
 
 // An item inside a group that is not ignored.
-fn member_effect(st: Standing, channel: u32, tag: u8, v: &[u8]) -> Effect
+#[tactic(auto, unfolding(crate::specs::Effects::member_effect, crate::specs::Effects::one_effect))]
+fn member_effect(st: Standing, channel: u32, tag: u8, v: &[u8]) -> Result<Effect, Fault>
     ensures { result ≡ member_effect st channel v.now (tagged tag) }
 {
     match definitions::attribute_of(tag) {
-        Tagged::Defines(a) => {
+        Some(a) => {
             let base = st.root;
-            one_effect(channel, definitions::define(a, v, st.little, base))
+            let change = definitions::define(a, v, st.little, base)?;
+            Ok(Effect::One(channel, change))
         }
-        Tagged::Other => Effect::Pass,
+        None => Ok(Effect::Pass),
     }
 }
 
 // A group's channel number.
-fn group_effect(st: Standing, channel: u32) -> Effect
+#[tactic(auto, unfolding(crate::specs::Effects::group_effect))]
+fn group_effect(st: Standing, channel: u32) -> Result<Effect, Fault>
     ensures { result ≡ group_effect st channel }
 {
     if st.counted == 0 {
-        return Effect::Pass;
+        return Ok(Effect::Pass);
     }
     if channel < st.counted {
-        return Effect::Pass;
+        return Ok(Effect::Pass);
     }
-    Effect::Refused(Refusal::CHANNEL_NUMBER)
+    Err(Fault::ChannelNumber)
 }
 
 // What an item of the file s asks for.
-pub fn item_effect(s: &[u8], st: Standing, item: Item) -> Effect
+#[tactic(auto, unfolding(crate::specs::Effects::effect_of))]
+pub fn item_effect(s: &[u8], st: Standing, item: Item) -> Result<Effect, Fault>
     ensures { result ≡ effect_of s.now st item }
 {
     match item {
@@ -211,17 +203,17 @@ pub fn item_effect(s: &[u8], st: Standing, item: Item) -> Effect
             len,
         } => {
             if st.counted == 0 {
-                return Effect::Pass;
+                return Ok(Effect::Pass);
             }
             member_effect(st, channel, tag, octets::part(s, start, len))
         }
-        Item::Mark { place: _ } => Effect::Pass,
+        Item::Mark { place: _ } => Ok(Effect::Pass),
     }
 }
 
 // What stands after an effect that gives no frame.
 pub fn standing_after(st: Standing, e: Effect) -> Standing
-    ensures { result ≡ standing_after st e }
+    ensures { result ≡ standing_after st (Ok e) }
 {
     let mut x = st;
     match e {

@@ -16,72 +16,59 @@ ghost use Rattle.laid.specs.Turned.{Even, turned_all};
 ghost use Rattle.there.specs.There.{part_octets, partial_octets, there_octets};
 ghost use Rattle.there.specs.Turned.{turned_part, turned_there};
 ghost use Rattle.groups.specs.Group.{groups_octets};
-ghost use Rattle.frames.specs.Parts.{Few, samples_turned, waveform_head, frame_parts, frame_given};
+ghost use Rattle.frames.specs.Channels.{settings_of};
+ghost use Rattle.frames.specs.Parts.{samples_turned, waveform_head, frame_parts, frame_given};
 ghost use Rattle.settings.specs.Settings.{channel_limit};
 ghost use Rattle.words.specs.Words.{held_in};
 ghost use Rattle.standing.specs.Standing.{octets_limit};
 
+use channels::Channels;
 use standing::Standing;
 
+mod channels;
+
 // The groups of the first `count` channels.
-fn put_groups(out: &mut [u8], at: usize, t: &[u64], count: usize) -> usize
-    requires { Few count t.now × (at + groups_size 0 (take count (held_in t.now)) ≤ length out.old) }
-    ensures { Put out.old at (groups_octets 0 (map reported (take count (held_in t.now)))) result out.new }
+fn put_groups(out: &mut [u8], at: usize, channels: Channels) -> usize
+    requires { at + groups_size 0 (settings_of channels) ≤ length out.old }
+    ensures { Put out.old at (groups_octets 0 (map reported (settings_of channels.entry))) result out.new }
 {
-    let mut i = 0usize;
     let mut next = at;
-    while i < count {
-        let c = words::held(t, i);
-        next = groups::put_group(out, next, i as u8, c);
-        i += 1;
+    for i in 0..channels.count {
+        next = groups::put_group(out, next, i as u8, channels.settings(i));
     }
     next
 }
 
 // The width of all channels where it is one, else 0.
-fn even_width(t: &[u64], count: usize) -> usize
-    requires { Few count t.now }
-    ensures { 0 < result → Even result (take count (held_in t.now)) }
+fn even_width(channels: Channels) -> usize
+    ensures { 0 < result → Even result (settings_of channels.entry) }
 {
-    let first = words::held(t, 0);
+    let first = channels.settings(0);
     let v = values::width(first.datatype);
-    let mut i = 0usize;
-    while i < count {
-        let c = words::held(t, i);
+    for i in 0..channels.count {
+        let c = channels.settings(i);
         if values::width(c.datatype) != v {
             return 0;
         }
-        i += 1;
     }
     v
 }
 
 // The samples of so many sequences of a waveform, each turned round, block by block.
-fn put_blocks(
-    w: &[u8],
-    sequences: usize,
-    t: &[u64],
-    count: usize,
-    out: &mut [u8],
-    at: usize,
-) -> usize
-    requires few { Few count t.now × (samples_octets (take count (held_in t.now)) sequences ≤ length w.now) }
-    requires sequences_in_bounds { at + samples_octets (take count (held_in t.now)) sequences ≤ length out.old }
-    ensures { Put out.old at (turned_all (take count (held_in t.now)) sequences w.now) result out.new }
+fn put_blocks(w: &[u8], sequences: usize, channels: Channels, out: &mut [u8], at: usize) -> usize
+    requires inside { samples_octets (settings_of channels) sequences ≤ length w.now }
+    requires sequences_in_bounds { at + samples_octets (settings_of channels) sequences ≤ length out.old }
+    ensures { Put out.old at (turned_all (settings_of channels.entry) sequences w.now) result out.new }
 {
-    let mut q = 0usize;
-    let mut place = 0usize;
+    let mut place = 0;
     let mut next = at;
-    while q < sequences {
-        let mut i = 0usize;
-        while i < count {
-            let c = words::held(t, i);
+    for _sequence in 0..sequences {
+        for i in 0..channels.count {
+            let c = channels.settings(i);
             let v = values::width(c.datatype);
             next = runs::turn(w, place, c.block as usize, v, out, next);
-            place = place + c.block as usize * v;
-            i += 1;
+            place += c.block as usize * v;
         }
-        q += 1;
     }
     next
 }
@@ -91,21 +78,19 @@ fn put_part(
     w: &[u8],
     from: usize,
     rest: usize,
-    t: &[u64],
-    count: usize,
+    channels: Channels,
     out: &mut [u8],
     at: usize,
 ) -> usize
-    requires few { Few count t.now × (from + rest ≤ length w.now) }
-    requires rest_in_bounds { at + part_octets (take count (held_in t.now)) rest ≤ length out.old }
-    ensures { Put out.old at (turned_part (take count (held_in t.now)) rest (drop from w.now)) result out.new }
+    requires inside { from + rest ≤ length w.now }
+    requires rest_in_bounds { at + part_octets (settings_of channels) rest ≤ length out.old }
+    ensures { Put out.old at (turned_part (settings_of channels.entry) rest (drop from w.now)) result out.new }
 {
-    let mut i = 0usize;
     let mut place = from;
     let mut left = rest;
     let mut next = at;
-    while i < count {
-        let c = words::held(t, i);
+    for i in 0..channels.count {
+        let c = channels.settings(i);
         let v = values::width(c.datatype);
         let block = c.block as usize * v;
         if left < block {
@@ -114,7 +99,6 @@ fn put_part(
         next = runs::turn(w, place, c.block as usize, v, out, next);
         place += block;
         left -= block;
-        i += 1;
     }
     next
 }
@@ -124,21 +108,20 @@ fn put_mixed(
     w: &[u8],
     octets: usize,
     sequence: usize,
-    t: &[u64],
-    count: usize,
+    channels: Channels,
     out: &mut [u8],
     at: usize,
 ) -> usize
-    requires few { Few count t.now × (sequence ≡ sequence_octets (take count (held_in t.now))) }
-    requires octets_in_bounds { (octets ≤ length w.now) × (part_octets (take count (held_in t.now)) (octets % sequence) ≡ octets % sequence) × (at + octets ≤ length out.old) }
-    ensures { Put out.old at (turned_there (take count (held_in t.now)) octets w.now) result out.new }
+    requires whole { sequence ≡ sequence_octets (settings_of channels) }
+    requires octets_in_bounds { (octets ≤ length w.now) × (part_octets (settings_of channels) (octets % sequence) ≡ octets % sequence) × (at + octets ≤ length out.old) }
+    ensures { Put out.old at (turned_there (settings_of channels.entry) octets w.now) result out.new }
 {
     if sequence == 0 {
         return at;
     }
     let whole = octets / sequence;
-    let next = put_blocks(w, whole, t, count, out, at);
-    put_part(w, whole * sequence, octets % sequence, t, count, out, next)
+    let next = put_blocks(w, whole, channels, out, at);
+    put_part(w, whole * sequence, octets % sequence, channels, out, next)
 }
 
 // The samples in the first octets of a waveform, which end with a sample, big-endian: as they stand where their order is big or no sample has two octets,
@@ -148,24 +131,23 @@ fn put_samples(
     little: bool,
     octets: usize,
     sequence: usize,
-    t: &[u64],
-    count: usize,
+    channels: Channels,
     out: &mut [u8],
     at: usize,
 ) -> usize
-    requires few { Few count t.now × (sequence ≡ sequence_octets (take count (held_in t.now))) }
-    requires octets_in_bounds { (octets ≤ length w.now) × (part_octets (take count (held_in t.now)) (octets % sequence) ≡ octets % sequence) × (at + octets ≤ length out.old) }
-    ensures { Put out.old at (samples_turned «little» (take count (held_in t.now)) octets w.now) result out.new }
+    requires whole { sequence ≡ sequence_octets (settings_of channels) }
+    requires octets_in_bounds { (octets ≤ length w.now) × (part_octets (settings_of channels) (octets % sequence) ≡ octets % sequence) × (at + octets ≤ length out.old) }
+    ensures { Put out.old at (samples_turned «little» (settings_of channels.entry) octets w.now) result out.new }
 {
     if !little {
         return runs::copy(w, 0, octets, out, at);
     }
-    let v = even_width(t, count);
+    let v = even_width(channels);
     if v == 1 {
         return runs::copy(w, 0, octets, out, at);
     }
     if v == 0 {
-        return put_mixed(w, octets, sequence, t, count, out, at);
+        return put_mixed(w, octets, sequence, channels, out, at);
     }
     runs::turn(w, 0, octets / v, v, out, at)
 }
@@ -189,51 +171,47 @@ fn store_frame(
     sequences: u32,
     octets: usize,
     sequence: usize,
-    t: &[u64],
-    count: usize,
+    channels: Channels,
     out: &mut [u8],
     at: usize,
 ) -> usize
-    requires few { Few count t.now × (sequence ≡ sequence_octets (take count (held_in t.now))) }
-    requires octets_value { (octets ≡ there_octets (take count (held_in t.now)) sequences (length w.now)) × (octets ≤ octets_limit) }
-    requires octets_in_bounds { at + frame_size sequences (groups_size 0 (take count (held_in t.now))) octets ≤ length out.old }
-    ensures { Put out.old at (frame_parts start sequences (take count (held_in t.now)) (samples_turned «little» (take count (held_in t.now)) octets w.now)) result out.new }
+    requires whole { sequence ≡ sequence_octets (settings_of channels) }
+    requires octets_value { (octets ≡ there_octets (settings_of channels) sequences (length w.now)) × (octets ≤ octets_limit) }
+    requires octets_in_bounds { at + frame_size sequences (groups_size 0 (settings_of channels)) octets ≤ length out.old }
+    ensures { Put out.old at (frame_parts start sequences (settings_of channels.entry) (samples_turned «little» (settings_of channels.entry) octets w.now)) result out.new }
 {
-    let a = groups::put_head(out, at, count as u32, sequences, start);
-    let b = put_groups(out, a, t, count);
+    let a = groups::put_head(out, at, channels.count as u32, sequences, start);
+    let b = put_groups(out, a, channels);
     let c = open_waveform(out, b, octets as u32);
-    put_samples(w, little, octets, sequence, t, count, out, c)
+    put_samples(w, little, octets, sequence, channels, out, c)
 }
 
 // The octets of a sample that is cut off, of the first `rest` octets of a sequence.
-fn partial_octets(t: &[u64], count: usize, rest: usize) -> usize
-    requires { Few count t.now }
-    ensures { result ≡ partial_octets (take count (held_in t.now)) rest }
+fn partial_octets(channels: Channels, rest: usize) -> usize
+    ensures { result ≡ partial_octets (settings_of channels.entry) rest }
 {
-    let mut i = 0usize;
     let mut left = rest;
-    while i < count {
-        let c = words::held(t, i);
+    for i in 0..channels.count {
+        let c = channels.settings(i);
         let v = values::width(c.datatype);
         let block = c.block as usize * v;
         if left < block {
             return left % v;
         }
         left -= block;
-        i += 1;
     }
     left
 }
 
 // The octets of the samples there, of a waveform of `long` octets.
-fn there_octets(t: &[u64], count: usize, sequences: u32, sequence: u64, long: usize) -> usize
-    requires { Few count t.now × (sequence ≡ sequence_octets (take count (held_in t.now))) }
-    ensures { result ≡ there_octets (take count (held_in t.now)) sequences long }
+fn there_octets(channels: Channels, sequences: u32, sequence: u64, long: usize) -> usize
+    requires { sequence ≡ sequence_octets (settings_of channels) }
+    ensures { result ≡ there_octets (settings_of channels.entry) sequences long }
 {
     if sizes::holds(long as u64, sequences, sequence) {
         return sequences as usize * sequence as usize;
     }
-    long - partial_octets(t, count, long % sequence as usize)
+    long - partial_octets(channels, long % sequence as usize)
 }
 
 // Stores the frame of a waveform, whose channels' settings are what the first `count` records that words hold say.
@@ -249,9 +227,12 @@ pub fn put_frame(
 ) -> usize
     ensures { Putting out.old at (frame_given start «little» sequences (take (min count channel_limit) (held_in t.now)) w.now) result out.new }
 {
-    let k = records::at_most(t, count);
+    let channels = Channels {
+        words: t,
+        count: records::at_most(t, count),
+    };
     let l = records::layout_in(t, count);
-    let octets = there_octets(t, k, sequences, l.octets, w.len());
+    let octets = there_octets(channels, sequences, l.octets, w.len());
     if Standing::OCTETS < octets {
         return at;
     }
@@ -266,8 +247,7 @@ pub fn put_frame(
         sequences,
         octets,
         l.octets as usize,
-        t,
-        k,
+        channels,
         out,
         at,
     )

@@ -2,6 +2,7 @@
 --     sequences-..      the ways of the number of sequences, and that it is small
 --     framed-..         the ways of a frame, and that for all that a file has `frame_of` answers document 01's rule
 -- Assumes nothing.
+use Rattle.std.specs.Prelude.{Ok, Err}
 use mathlib.Core.Path.{◌≡◌, refl}
 use mathlib.Core.Bool.{Bool, true, false, not, cond}
 use Prim.Native.Nat.{ℕ, suc, ◌+◌, ◌-◌, ◌/◌, ◌^◌, ◌≤◌, ◌<◌}
@@ -15,9 +16,8 @@ use Rattle.octets.specs.Pick.{both}
 use Rattle.octets.specs.Number.{range}
 use Rattle.octets.proofs.Pick.{pick_cases}
 use Rattle.settings.specs.Settings.{block_limit}
-use Rattle.heads.specs.Refusals.{long_file, many_frames, sample_width, start_range}
+use Rattle.heads.specs.declared.Fault.TheVariants.{LongFile, ManyFrames, SampleWidth, StartRange}
 use Rattle.standing.specs.declared.Standing.{Standing}
-use Rattle.framing.specs.declared.Framed.TheVariants.{Taken, Refused}
 use Rattle.standing.specs.Standing.{octets_limit, frames_limit, with_continued}
 use Rattle.framing.specs.Framing.{sequences_of, pointer_fits, pointer_after, framed_as}
 use Rattle.framing.specs.AnyNumbers.{framed_by}
@@ -57,15 +57,15 @@ sequences-small set long octets h l =
     pick_cases (λ (n : ℕ). n < range 4) (eqb set 0) (λ _. omega (arith, div-le_self long octets)) (λ _. h)
 
 module _ (frames : ℕ) (st : Standing) (agree : Bool) (octets long : ℕ) where
-  pub framed_empty : octets ≡ 0 → Refused long_file ≡ framed_by frames st agree octets long
+  pub framed_empty : octets ≡ 0 → Err LongFile ≡ framed_by frames st agree octets long
   unfolding framed_by
   framed_empty z = simp (eq-eqb octets 0 z)
 
-  pub framed_large : 0 < octets → octets_limit < long → Refused long_file ≡ framed_by frames st agree octets long
+  pub framed_large : 0 < octets → octets_limit < long → Err LongFile ≡ framed_by frames st agree octets long
   unfolding framed_by
   framed_large z h = simp (ne_eqb octets 0 (λ e. omega arith), lt-ltb octets_limit long h)
 
-  pub framed_block : 0 < octets → long ≤ octets_limit → block_limit < st.root.block → Refused long_file ≡ framed_by frames st agree octets long
+  pub framed_block : 0 < octets → long ≤ octets_limit → block_limit < st.root.block → Err LongFile ≡ framed_by frames st agree octets long
   unfolding framed_by
   framed_block z h b = simp (ne_eqb octets 0 (λ e. omega arith), le-ltb octets_limit long h, lt-ltb block_limit st.root.block b)
 
@@ -74,19 +74,19 @@ module _ (frames : ℕ) (st : Standing) (agree : Bool) (octets long : ℕ) where
   unfolding framed_by
   framed_same z h b = simp (ne_eqb octets 0 (λ e. omega arith), le-ltb octets_limit long h, le-ltb block_limit st.root.block b)
 
-  pub framed_limit : frames_limit ≤ frames → Refused many_frames ≡ framed_as frames st agree octets long
+  pub framed_limit : frames_limit ≤ frames → Err ManyFrames ≡ framed_as frames st agree octets long
   unfolding framed_as
   framed_limit k = simp (le-leb frames_limit frames k)
 
   module _ (k : frames < frames_limit) where
-    pub framed_width : not agree ≡ true → Refused sample_width ≡ framed_as frames st agree octets long
+    pub framed_width : not agree ≡ true → Err SampleWidth ≡ framed_as frames st agree octets long
     unfolding framed_as
     framed_width a = simp (lt-leb frames_limit frames k, a)
 
-    pub framed_pointer : not agree ≡ false → pointer_fits st.start ≡ false → Refused start_range ≡ framed_as frames st agree octets long
+    pub framed_pointer : not agree ≡ false → pointer_fits st.start ≡ false → Err StartRange ≡ framed_as frames st agree octets long
     unfolding framed_as
     framed_pointer a p = simp (lt-leb frames_limit frames k, a, p)
 
-    pub framed_taken : not agree ≡ false → pointer_fits st.start ≡ true → (n : ℕ) → n ≡ sequences_of st.sequences long octets → Taken n (with_continued (pointer_after st n) st) ≡ framed_as frames st agree octets long
+    pub framed_taken : not agree ≡ false → pointer_fits st.start ≡ true → (n : ℕ) → n ≡ sequences_of st.sequences long octets → Ok (n, with_continued (pointer_after st n) st) ≡ framed_as frames st agree octets long
     unfolding framed_as
     framed_taken a p n e = rw e (simp (lt-leb frames_limit frames k, a, p))

@@ -1,12 +1,11 @@
 -- What a waveform gives (document 01, "Frames and samples"): sequences, start pointer, and the refusals 11 to 13. That a
 -- waveform is shorter than its sequences is no refusal any more (document 02, request 2).
-use Rattle.std.specs.Prelude.{Bool, not, ℕ, ◌*◌, ◌/◌, eqb, leb, ℤ, pos, negsuc, ◌+ℤ◌}
+use Rattle.std.specs.Prelude.{Bool, not, ℕ, ◌*◌, ◌/◌, eqb, leb, ℤ, pos, negsuc, ◌+ℤ◌, Result, Ok, Err}
+use Rattle.heads.specs.declared.Fault.{Fault}
 use Rattle.std.specs.Int.Signed.{le_z}
 use Rattle.octets.specs.Pick.{pick, both}
-use Rattle.heads.specs.Refusals.{many_frames, sample_width, start_range}
+use Rattle.heads.specs.declared.Fault.TheVariants.{ManyFrames, SampleWidth, StartRange}
 use Rattle.standing.specs.declared.Standing.{Standing}
-use Rattle.framing.specs.declared.Framed.{Framed}
-use Rattle.framing.specs.declared.Framed.TheVariants.{Taken, Refused}
 use Rattle.standing.specs.Standing.{frames_limit, with_continued}
 
 -- How many channels a frame has: as counted; 1 where no count stands.
@@ -27,10 +26,10 @@ pointer_after st sequences = st.start +ℤ pos (st.root.block * sequences)
 
 -- What a waveform of `long` octets gives after `frames` frames, where a sequence takes `octets` octets: 11, 12, 13, or a frame with its
 -- sequences and what stands after it.
-unfoldable pub framed_as : ℕ → Standing → Bool → ℕ → ℕ → Framed
+unfoldable pub framed_as : ℕ → Standing → Bool → ℕ → ℕ → Result (ℕ × Standing) Fault
 framed_as frames st agree octets long =
     let sequences = sequences_of st.sequences long octets in
-    pick (leb frames_limit frames) (Refused many_frames)
-    (pick (not agree) (Refused sample_width)
-    (pick (not (pointer_fits st.start)) (Refused start_range)
-    (Taken sequences (with_continued (pointer_after st sequences) st))))
+    pick (leb frames_limit frames) (Err ManyFrames)
+    (pick (not agree) (Err SampleWidth)
+    (pick (not (pointer_fits st.start)) (Err StartRange)
+    (Ok (sequences, with_continued (pointer_after st sequences) st))))

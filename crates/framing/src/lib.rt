@@ -12,16 +12,9 @@ ghost use Rattle.settings.specs.Settings.{block_limit};
 ghost use Rattle.framing.specs.Framing.{channels_of, sequences_of, pointer_fits};
 ghost use Rattle.framing.specs.AnyNumbers.{framed_by};
 
-use heads::Refusal;
+use heads::Fault;
 use settings::Settings;
 use standing::Standing;
-
-// What a waveform gives: the frame's sequences and what stands after it, or a refusal.
-#[derive(Clone, Copy)]
-pub enum Framed {
-    Taken(u32, Standing),
-    Refused(u8),
-}
 
 // How many channels a frame has where this count stands.
 pub fn channels_of(counted: u32) -> u32
@@ -57,29 +50,35 @@ fn pointer_after(start: i64, block: u32, sequences: u64) -> i64
 }
 
 // A waveform of `long` octets after `frames` frames, where a sequence takes `octets` octets.
-pub fn frame_of(frames: u32, st: Standing, agree: bool, octets: u64, long: usize) -> Framed
+pub fn frame_of(
+    frames: u32,
+    st: Standing,
+    agree: bool,
+    octets: u64,
+    long: usize,
+) -> Result<(u32, Standing), Fault>
     ensures { result ≡ framed_by frames st agree octets long }
 {
     if octets == 0 {
-        return Framed::Refused(Refusal::LONG_FILE);
+        return Err(Fault::LongFile);
     }
     if Standing::OCTETS < long {
-        return Framed::Refused(Refusal::LONG_FILE);
+        return Err(Fault::LongFile);
     }
     if Settings::BLOCK_LIMIT < st.root.block {
-        return Framed::Refused(Refusal::LONG_FILE);
+        return Err(Fault::LongFile);
     }
     if Standing::FRAMES <= frames {
-        return Framed::Refused(Refusal::MANY_FRAMES);
+        return Err(Fault::ManyFrames);
     }
     if !agree {
-        return Framed::Refused(Refusal::SAMPLE_WIDTH);
+        return Err(Fault::SampleWidth);
     }
     let start = st.start;
     if !pointer_fits(start) {
-        return Framed::Refused(Refusal::START_RANGE);
+        return Err(Fault::StartRange);
     }
     let sequences = sequences_of(st.sequences, long, octets);
     let z = pointer_after(start, st.root.block, sequences);
-    Framed::Taken(sequences as u32, st.with_continued(z))
+    Ok((sequences as u32, st.with_continued(z)))
 }

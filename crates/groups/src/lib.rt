@@ -23,9 +23,9 @@ fn unsigned(z: i64, full: u64) -> u64
     ensures { result ≡ unsigned_by full z }
 {
     if z < 0 {
-        return full - 1 - (!z) as u64;
+        return full - z.unsigned_abs();
     }
-    z as u64
+    z.unsigned_abs()
 }
 
 // 0B or 0C.
@@ -33,8 +33,8 @@ fn put_scale(out: &mut [u8], at: usize, tag: u8, x: Scale) -> usize
     requires { at + length (scale_item tag x) ≤ length out.old }
     ensures { Put out.old at (scale_item tag x) result out.new }
 {
-    let exponent = unsigned(x.exponent as i64, octets::ONE_OCTET);
-    let mantissa = unsigned(x.mantissa as i64, octets::FOUR_OCTETS);
+    let exponent = unsigned(i64::from(x.exponent), octets::ONE_OCTET);
+    let mantissa = unsigned(i64::from(x.mantissa), octets::FOUR_OCTETS);
     let a = stores::put_two(out, at, tag, 6);
     let b = stores::put_octet(out, a, x.unit);
     let c = stores::put_number(out, b, 1, exponent);
@@ -46,10 +46,10 @@ fn put_first(out: &mut [u8], at: usize, c: Settings) -> usize
     requires { at + length (first_items c) ≤ length out.old }
     ensures { Put out.old at (first_items c) result out.new }
 {
-    let a = stores::put_field(out, at, 0x04, 4, c.block as u64);
-    let b = stores::put_field(out, a, 0x08, 2, c.class as u64);
-    let d = stores::put_field(out, b, 0x09, 2, c.lead as u64);
-    stores::put_field(out, d, 0x0A, 1, c.datatype as u64)
+    let a = stores::put_field(out, at, 0x04, 4, u64::from(c.block));
+    let b = stores::put_field(out, a, 0x08, 2, u64::from(c.class));
+    let d = stores::put_field(out, b, 0x09, 2, u64::from(c.lead));
+    stores::put_field(out, d, 0x0A, 1, u64::from(c.datatype))
 }
 
 // 0B and 0C.
@@ -113,7 +113,7 @@ pub fn put_group(out: &mut [u8], at: usize, k: u8, c: Settings) -> usize
 {
     let w = values::width(c.datatype) as u8;
     let null = c.null;
-    if stores::overruns(out.len(), at, sizes::group_size(k as usize, w, null)) {
+    if stores::overruns(out.len(), at, sizes::group_size(usize::from(k), w, null)) {
         return at;
     }
     store_group(out, at, k, sizes::content_size(w, null) as u8, c)
@@ -126,7 +126,7 @@ fn put_sequences(out: &mut [u8], at: usize, sequences: u32) -> usize
     if sequences == 0 {
         return stores::put_two(out, at, 0x06, 0);
     }
-    stores::put_field(out, at, 0x06, 4, sequences as u64)
+    stores::put_field(out, at, 0x06, 4, u64::from(sequences))
 }
 
 // 05, 06 and 07.
@@ -134,8 +134,8 @@ fn store_head(out: &mut [u8], at: usize, count: u32, sequences: u32, start: i32)
     requires { at + length (head_items count sequences start) ≤ length out.old }
     ensures { Put out.old at (head_items count sequences start) result out.new }
 {
-    let z = unsigned(start as i64, octets::FOUR_OCTETS);
-    let a = stores::put_field(out, at, 0x05, 4, count as u64);
+    let z = unsigned(i64::from(start), octets::FOUR_OCTETS);
+    let a = stores::put_field(out, at, 0x05, 4, u64::from(count));
     let b = put_sequences(out, a, sequences);
     stores::put_field(out, b, 0x07, 4, z)
 }

@@ -1,3 +1,3 @@
-pub mod Refusals
+pub mod Faults
 pub mod Answer
 pub mod Head

@@ -1,13 +1,14 @@
 -- A link kept in words that a caller lends: its own numbers and the octets that it keeps, and behind them its walk. Any words at all are some link. None of it
 -- is a rule of document 01.
-use Rattle.std.specs.Prelude.{◌≡◌, Bool, List, ◌++◌, map, ℕ, ◌+◌, ◌≤◌, ◌<◌, min, leb, eqb, length, take, drop, replicate}
+use Rattle.std.specs.Prelude.{◌≡◌, Bool, List, ◌++◌, map, ℕ, ◌+◌, ◌≤◌, ◌<◌, min, leb, eqb, length, take, drop, replicate, Ok, Err, unwrap_or}
+use Rattle.heads.specs.declared.Fault.{Fault}
+use Rattle.heads.specs.Faults.{fault_of}
+use Rattle.heads.specs.Answer.{answer_of}
 use Rattle.octets.specs.Pick.{pick}
 use Rattle.octets.specs.Number.{low_of}
 use Rattle.heads.specs.declared.Refusal.{Refusal}
 use Rattle.items.specs.Walk.{refusal}
 use Rattle.words.specs.Words.{words_at}
-use Rattle.verdict.specs.declared.Checked.{Checked}
-use Rattle.verdict.specs.Verdict.{checked_says}
 use Rattle.walk.specs.declared.Waveform.{Waveform}
 use Rattle.walk.specs.Advance.{Stand}
 use Rattle.kept.specs.Words.{waveform_in}
@@ -33,15 +34,19 @@ phase_of Stage.Head p = head p
 phase_of (Stage.Value tag left) p = value tag left p
 phase_of (Stage.Waveform left sequence channel index) p = waveform left (coming sequence channel index p)
 phase_of (Stage.Waits left r) p = waits left r
-phase_of (Stage.Decided a) p = decided (checked_says a)
+phase_of (Stage.Decided a) p = decided (answer_of a)
 
 -- The link of its own numbers and octets, and of its walk.
 abbrev pub link_of : Core → List ℕ → Stand → Waveform → Link
 link_of c p x v = link c.count x c.around v (phase_of c.stage p)
 
--- A refusal, of the words g 5 and g 6: its number and its place.
+-- The fault of a number; a number that no fault has is 15's.
+unfoldable pub fault_by : ℕ → Fault
+fault_by n = unwrap_or (fault_of n) Fault.LongFile
+
+-- A refusal, of the words g 5 and g 6: the number of its fault, and its place.
 abbrev pub refusal_by : (ℕ → ℕ) → Refusal
-refusal_by g = refusal (low_of 1 (g 5)) (g 6)
+refusal_by g = refusal (fault_by (low_of 1 (g 5))) (g 6)
 
 -- A stage, of the words g 3 to g 9: its kind, so many octets still to come, a tag or a refusal's number, a place or the frames, and a sample's sequence,
 -- channel and index. The answer has two kinds.
@@ -51,8 +56,8 @@ stage_by g =
     (pick (eqb (g 3) 1) (Stage.Value (low_of 1 (g 5)) (g 4))
     (pick (eqb (g 3) 2) (Stage.Waveform (g 4) (low_of 4 (g 7)) (low_of 4 (g 8)) (low_of 4 (g 9)))
     (pick (eqb (g 3) 3) (Stage.Waits (g 4) (refusal_by g))
-    (pick (eqb (g 3) 4) (Stage.Decided (Checked.Frames (low_of 4 (g 6))))
-    (Stage.Decided (Checked.Refused (refusal_by g)))))))
+    (pick (eqb (g 3) 4) (Stage.Decided (Ok (low_of 4 (g 6))))
+    (Stage.Decided (Err (refusal_by g)))))))
 
 -- The numbers, of the words g 0 to g 9. No more octets are kept than a value needs.
 abbrev pub core_by : (ℕ → ℕ) → Core

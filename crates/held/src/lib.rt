@@ -10,10 +10,9 @@ ghost use Rattle.std.specs.Prelude.{◌≡◌, ◌++◌, ◌+◌, ◌-◌, ◌�
 ghost use Rattle.octets.specs.Number.{low_of};
 ghost use Rattle.words.specs.Words.{words_at, Overlaid};
 ghost use Rattle.link.specs.Link.{kept_limit};
-ghost use Rattle.held.specs.Words.{kept_place, refusal_by, stage_by, core_by, core_in, octets_in, with_held, Keeping};
+ghost use Rattle.held.specs.Words.{kept_place, fault_by, refusal_by, stage_by, core_by, core_in, octets_in, with_held, Keeping};
 
-use heads::Refusal;
-use verdict::Checked;
+use heads::{Fault, Refusal};
 use walking::Walking;
 
 // The sizes of a link kept in words.
@@ -55,7 +54,7 @@ pub enum Stage {
         left: u64,
         refusal: Refusal,
     },
-    Decided(Checked),
+    Decided(Result<u32, Refusal>),
 }
 
 // A link's own numbers; `held` octets are kept.
@@ -74,12 +73,22 @@ fn one_at(w: &[u64], n: usize) -> u8
     (kept::word(w, n) % octets::ONE_OCTET) as u8
 }
 
+// The fault that a word holds; a number that no fault has is 15's, so that any words are some link.
+fn fault_at(w: &[u64], n: usize) -> Fault
+    ensures { result ≡ fault_by (low_of 1 (get_or w.now n 0)) }
+{
+    match Fault::with_number(one_at(w, n)) {
+        Some(fault) => fault,
+        None => Fault::LongFile,
+    }
+}
+
 // The refusal that words hold.
 fn refusal_at(w: &[u64]) -> Refusal
     ensures { result ≡ refusal_by (words_at w.now 0) }
 {
     Refusal {
-        number: one_at(w, 5),
+        fault: fault_at(w, 5),
         place: kept::word(w, 6) as usize,
     }
 }
@@ -106,8 +115,8 @@ fn stage_at(w: &[u64]) -> Stage
             left,
             refusal: refusal_at(w),
         },
-        4 => Stage::Decided(Checked::Frames(kept::four_at(w, 6))),
-        _ => Stage::Decided(Checked::Refused(refusal_at(w))),
+        4 => Stage::Decided(Ok(kept::four_at(w, 6))),
+        _ => Stage::Decided(Err(refusal_at(w))),
     }
 }
 
@@ -158,10 +167,18 @@ fn stage_words(x: Stage) -> [u64; 7]
             channel,
             index,
         } => [2, left, 0, 0, sequence as u64, channel as u64, index as u64],
-        Stage::Waits { left, refusal: r } => [3, left, r.number as u64, r.place as u64, 0, 0, 0],
+        Stage::Waits { left, refusal: r } => [
+            3,
+            left,
+            r.fault.number() as u64,
+            r.place as u64,
+            0,
+            0,
+            0,
+        ],
         Stage::Decided(answer) => match answer {
-            Checked::Frames(n) => [4, 0, 0, n as u64, 0, 0, 0],
-            Checked::Refused(r) => [5, 0, r.number as u64, r.place as u64, 0, 0, 0],
+            Ok(n) => [4, 0, 0, n as u64, 0, 0, 0],
+            Err(r) => [5, 0, r.fault.number() as u64, r.place as u64, 0, 0, 0],
         },
     }
 }

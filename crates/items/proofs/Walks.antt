@@ -8,6 +8,9 @@
 --     items_found, items_end, items_refused    the items from a cursor on, by what stands there
 --     found_as                an item found, however the cursor behind it is kept
 -- Assumes nothing.
+use Rattle.heads.specs.declared.Fault.{Fault}
+use Rattle.heads.specs.declared.ItemHead.{ItemHead}
+use Rattle.std.specs.Prelude.{Result, Ok, Err, Option, Some, None}
 use Prim.Native.Nat.{ℕ, zero, suc, ◌+◌, ◌-◌, ◌≤◌, ◌<◌}
 use mathlib.Core.Path.{◌≡◌, refl, sym, ◌∙◌, ap, subst}
 use mathlib.Core.List.{List, [], ◌∷◌}
@@ -15,17 +18,15 @@ use mathlib.Core.Bool.{Bool}
 use native.Mathlib.Omega.{arith}
 use lib.ListN.{length, take, drop, length-take, length-drop}
 use Rattle.octets.proofs.Pick.{pick_cases}
-use Rattle.heads.specs.declared.Head.{Head}
 use Rattle.items.specs.declared.Within.{Within}
 use Rattle.items.specs.declared.Cursor.{Cursor}
 use Rattle.items.specs.declared.Item.{Item}
 use Rattle.heads.specs.declared.Refusal.{Refusal}
-use Rattle.items.specs.declared.Next.{Next}
-use Rattle.items.specs.declared.Next.TheVariants.{Found, End}
-use Rattle.heads.specs.Refusals.{past_end, unended_group}
+use Rattle.heads.specs.declared.Fault.TheVariants.{PastEnd, UnendedGroup}
 use Rattle.heads.specs.Head.{head_of}
 use Rattle.items.specs.Walk.{item, finished, fault, stands_in, is_inside, extent, ended, ends_open, item_of, next_in, next_of, follow, walk, items_from}
-use Rattle.heads.proofs.Heads.{HeadWithin, head-within}
+use Rattle.heads.specs.Faults.{number_of}
+use Rattle.heads.proofs.Heads.{other_fault, HeadWithin, head-within}
 
 -- ---- what stands at a cursor
 
@@ -47,7 +48,7 @@ module _ (s : List ℕ) (c : Cursor) (w : Within) (u : List ℕ) (ew : w ≡ sta
   pub next-none : length u ≡ 0 → ended w ≡ next_of s c
   next-none e = in_none c.at w u e ∙ next_by
 
-  pub next-head : (length u ≡ 0 → ⊥) → (b : Bool) (r h : Head) → b ≡ is_inside w → r ≡ head_of b u → r ≡ h → item_of c.at w h ≡ next_of s c
+  pub next-head : (length u ≡ 0 → ⊥) → (b : Bool) (r h : Result ItemHead Fault) → b ≡ is_inside w → r ≡ head_of b u → r ≡ h → item_of c.at w h ≡ next_of s c
   next-head n b r h eb er e = ap (item_of c.at w) (sym e ∙ er ∙ ap (λ (x : Bool). head_of x u) eb) ∙ in_some c.at w u n ∙ next_by
 
 dropped_fits : (s : List ℕ) (at : ℕ) → (length (drop at s) ≡ 0 → ⊥) → at + length (drop at s) ≤ length s
@@ -84,25 +85,25 @@ pub record FoundAt (long at : ℕ) (i : Item) (d : Cursor) : Type 0 where
   pub inside : d.at ≤ long
   pub lies : ItemLies at d.at i
 
-abbrev Inner : ℕ → ℕ → Next → Type 0
-Inner long at (Next.Found i d) = FoundAt long at i d
-Inner long at Next.End = Unit {0}
-Inner long at (Next.Refused r) = (r.number ≤ unended_group) × (r.number ≡ past_end → r.place ≡ at)
+abbrev Inner : ℕ → ℕ → Result (Option (Item × Cursor)) Refusal → Type 0
+Inner long at (Ok (Some (i, d))) = FoundAt long at i d
+Inner long at (Ok None) = Unit {0}
+Inner long at (Err r) = (number_of r.fault ≤ number_of UnendedGroup) × (r.fault ≡ PastEnd → r.place ≡ at)
 
-inner_item : (long at left : ℕ) (w : Within) (h : Head) → at + left ≤ long → HeadWithin left h → Inner long at (item_of at w h)
+inner_item : (long at left : ℕ) (w : Within) (h : Result ItemHead Fault) → at + left ≤ long → HeadWithin left h → Inner long at (item_of at w h)
 unfolding item_of
-inner_item long at left Within.Root (Head.Primitive tag start len) f p = omega arith
-inner_item long at left (Within.Definite channel stop) (Head.Primitive tag start len) f p = omega arith
-inner_item long at left (Within.Open channel place) (Head.Primitive tag start len) f p =
+inner_item long at left Within.Root (Ok (ItemHead.Primitive tag start len)) f p = omega arith
+inner_item long at left (Within.Definite channel stop) (Ok (ItemHead.Primitive tag start len)) f p = omega arith
+inner_item long at left (Within.Open channel place) (Ok (ItemHead.Primitive tag start len)) f p =
     pick_cases (Inner long at) (ends_open tag len) (λ _. omega arith) (λ _. omega arith)
-inner_item long at left w (Head.Definite channel start len) f p = omega arith
-inner_item long at left w (Head.Open channel start) f p = omega arith
-inner_item long at left w (Head.Refused number) f p = omega arith
+inner_item long at left w (Ok (ItemHead.Definite channel start len)) f p = omega arith
+inner_item long at left w (Ok (ItemHead.Open channel start)) f p = omega arith
+inner_item long at left w (Err why) f p = (omega arith, λ e. refl)
 
 inner_ended : (long at : ℕ) (w : Within) → Inner long at (ended w)
 inner_ended long at Within.Root = tt
 inner_ended long at (Within.Definite channel stop) = tt
-inner_ended long at (Within.Open channel place) = omega arith
+inner_ended long at (Within.Open channel place) = (omega arith, λ e. absurd (other_fault UnendedGroup PastEnd (λ k. omega arith) e))
 
 inner_in : (s : List ℕ) (at : ℕ) (w : Within) (u : List ℕ) → u ≡ extent s at w → Inner (length s) at (next_in at w u)
 unfolding next_in
@@ -116,14 +117,14 @@ unfolding next_of
 inner_next s c = inner_in s c.at (stands_in c.at c.within) (extent s c.at (stands_in c.at c.within)) refl
 
 -- What is found stands in the file, its value behind its tag.
-pub next_found : (s : List ℕ) (c : Cursor) {n : Next} {i : Item} {d : Cursor} → n ≡ next_of s c → n ≡ Found i d → FoundAt (length s) c.at i d
+pub next_found : (s : List ℕ) (c : Cursor) {n : Result (Option (Item × Cursor)) Refusal} {i : Item} {d : Cursor} → n ≡ next_of s c → n ≡ Ok (Some (i, d)) → FoundAt (length s) c.at i d
 next_found s c e f = subst (Inner (length s) c.at) (sym e ∙ f) (inner_next s c)
 
-pub next-later : (s : List ℕ) (c : Cursor) {n : Next} {i : Item} {d : Cursor} → n ≡ next_of s c → n ≡ Found i d → (c.at < length s) × (c.at < d.at)
+pub next-later : (s : List ℕ) (c : Cursor) {n : Result (Option (Item × Cursor)) Refusal} {i : Item} {d : Cursor} → n ≡ next_of s c → n ≡ Ok (Some (i, d)) → (c.at < length s) × (c.at < d.at)
 next-later s c e f = let p = next_found s c e f in omega arith
 
 -- A fault of form has one of the numbers up to 10; 3 is at the cursor.
-pub next-refused : (s : List ℕ) (c : Cursor) {n : Next} {r : Refusal} → n ≡ next_of s c → n ≡ Next.Refused r → (r.number ≤ unended_group) × (r.number ≡ past_end → r.place ≡ c.at)
+pub next-refused : (s : List ℕ) (c : Cursor) {n : Result (Option (Item × Cursor)) Refusal} {r : Refusal} → n ≡ next_of s c → n ≡ Err r → (number_of r.fault ≤ number_of UnendedGroup) × (r.fault ≡ PastEnd → r.place ≡ c.at)
 next-refused s c e f = subst (Inner (length s) c.at) (sym e ∙ f) (inner_next s c)
 
 -- ---- all items
@@ -135,27 +136,27 @@ walk_turns zero k s c h l = let z : ⊥ = omega arith in absurd z
 walk_turns (suc j) zero s c h l = let z : ⊥ = omega arith in absurd z
 walk_turns (suc j) (suc k) s c h l = by (next_of s c) (inner_next s c) (λ d p q. walk_turns j k s d p q)
   where
-    by : (n : Next) → Inner (length s) c.at n → ((d : Cursor) → length s - d.at < j → length s - d.at < k → walk j s d ≡ walk k s d) → follow (walk j s) n ≡ follow (walk k s) n
-    by (Next.Found i d) p ih = ap (item i) (ih d (omega arith) (omega arith))
-    by Next.End p ih = refl
-    by (Next.Refused r) p ih = refl
+    by : (n : Result (Option (Item × Cursor)) Refusal) → Inner (length s) c.at n → ((d : Cursor) → length s - d.at < j → length s - d.at < k → walk j s d ≡ walk k s d) → follow (walk j s) n ≡ follow (walk k s) n
+    by (Ok (Some (i, d))) p ih = ap (item i) (ih d (omega arith) (omega arith))
+    by (Ok None) p ih = refl
+    by (Err r) p ih = refl
 
 module _ (s : List ℕ) (c : Cursor) where
-  pub items_found : (i : Item) (d : Cursor) → next_of s c ≡ Found i d → items_from s c ≡ item i (items_from s d)
+  pub items_found : (i : Item) (d : Cursor) → next_of s c ≡ Ok (Some (i, d)) → items_from s c ≡ item i (items_from s d)
   unfolding items_from walk follow
   items_found i d e =
       let p = next-later s c refl e in
       ap (follow (walk (length s - c.at) s)) e
       ∙ ap (item i) (walk_turns (length s - c.at) (suc (length s - d.at)) s d (omega arith) (omega arith))
 
-  pub items_end : next_of s c ≡ End → items_from s c ≡ finished
+  pub items_end : next_of s c ≡ (Ok None) → items_from s c ≡ finished
   unfolding items_from walk follow
   items_end e = ap (follow (walk (length s - c.at) s)) e
 
-  pub items_refused : (r : Refusal) → next_of s c ≡ Next.Refused r → items_from s c ≡ fault r
+  pub items_refused : (r : Refusal) → next_of s c ≡ Err r → items_from s c ≡ fault r
   unfolding items_from walk follow
   items_refused r e = ap (follow (walk (length s - c.at) s)) e
 
 -- An item is found with the cursor behind it, however that is kept.
-pub found_as : {n : Next} {i : Item} {d d' : Cursor} → n ≡ Found i d → d' ≡ d → n ≡ Found i d'
-found_as {i = i} e f = e ∙ ap (Found i) (sym f)
+pub found_as : {n : Result (Option (Item × Cursor)) Refusal} {i : Item} {d d' : Cursor} → n ≡ Ok (Some (i, d)) → d' ≡ d → n ≡ Ok (Some (i, d'))
+found_as {i = i} e f = e ∙ ap (λ (w : Cursor). Ok (Some (i, w))) (sym f)

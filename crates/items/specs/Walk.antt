@@ -1,21 +1,20 @@
 -- All items of a file, one after the other (document 01, "Items").
-use Rattle.std.specs.Prelude.{ℕ, zero, suc, ◌+◌, ◌-◌, List, [], ◌∷◌, Bool, true, false, length, take, drop, ltb, eqb}
+use Rattle.heads.specs.declared.Fault.{Fault}
+use Rattle.heads.specs.declared.ItemHead.{ItemHead}
+use Rattle.std.specs.Prelude.{ℕ, zero, suc, ◌+◌, ◌-◌, List, [], ◌∷◌, Bool, true, false, length, take, drop, ltb, eqb, Result, Ok, Err, Option, Some, None}
 use Rattle.octets.specs.Pick.{pick, both}
-use Rattle.heads.specs.Refusals.{unended_group}
+use Rattle.heads.specs.declared.Fault.TheVariants.{UnendedGroup}
 use Rattle.heads.specs.Head.{head_of}
-use Rattle.heads.specs.declared.Head.{Head}
 use Rattle.heads.specs.declared.Refusal.{Refusal}
 use Rattle.items.specs.declared.Within.{Within}
 use Rattle.items.specs.declared.Within.TheVariants.{Root}
 use Rattle.items.specs.declared.Cursor.{Cursor}
 use Rattle.items.specs.declared.Item.{Item}
 use Rattle.items.specs.declared.Item.TheVariants.{Plain, Member, Mark}
-use Rattle.items.specs.declared.Next.{Next}
-use Rattle.items.specs.declared.Next.TheVariants.{Found, End}
 
--- A refusal with this number at this place.
-abbrev pub refusal : ℕ → ℕ → Refusal
-refusal number place = record { number = number; place = place }
+-- A refusal with this fault at this place.
+abbrev pub refusal : Fault → ℕ → Refusal
+refusal fault place = record { fault = fault; place = place }
 
 -- The cursor before an octet, in a group or outside.
 abbrev pub cursor : ℕ → Within → Cursor
@@ -40,35 +39,35 @@ extent s at (Within.Definite channel end) = take (end - at) (drop at s)
 extent s at (Within.Open channel place) = drop at s
 
 -- Where no octets are left the file has ended; in an open group that is refusal 10, at the group's place.
-abbrev pub ended : Within → Next
-ended Within.Root = End
-ended (Within.Definite channel end) = End
-ended (Within.Open channel place) = Next.Refused (refusal unended_group place)
+abbrev pub ended : Within → (Result (Option (Item × Cursor)) Refusal)
+ended Within.Root = (Ok None)
+ended (Within.Definite channel end) = (Ok None)
+ended (Within.Open channel place) = Err (refusal UnendedGroup place)
 
 -- In an open group an item 00 with length 0, in any length form, ends it.
 abbrev pub ends_open : ℕ → ℕ → Bool
 ends_open tag len = both (eqb tag 0) (eqb len 0)
 
 -- The item with this head at a place, and the cursor behind its value; for a group the cursor before its contents.
-unfoldable pub item_of : ℕ → Within → Head → Next
-item_of at Within.Root (Head.Primitive tag start len) = Found (Plain at tag (at + start) len) (cursor (at + start + len) Root)
-item_of at (Within.Definite channel end) (Head.Primitive tag start len) =
-    Found (Member at channel tag (at + start) len) (cursor (at + start + len) (Within.Definite channel end))
-item_of at (Within.Open channel place) (Head.Primitive tag start len) =
-    pick (ends_open tag len) (Found (Mark at) (cursor (at + start + len) Root))
-    (Found (Member at channel tag (at + start) len) (cursor (at + start + len) (Within.Open channel place)))
-item_of at within (Head.Definite channel start len) =
-    Found (Item.Group at channel) (cursor (at + start) (Within.Definite channel (at + start + len)))
-item_of at within (Head.Open channel start) = Found (Item.Group at channel) (cursor (at + start) (Within.Open channel at))
-item_of at within (Head.Refused number) = Next.Refused (refusal number at)
+unfoldable pub item_of : ℕ → Within → Result ItemHead Fault → (Result (Option (Item × Cursor)) Refusal)
+item_of at Within.Root (Ok (ItemHead.Primitive tag start len)) = Ok (Some ((Plain at tag (at + start) len), (cursor (at + start + len) Root)))
+item_of at (Within.Definite channel end) (Ok (ItemHead.Primitive tag start len)) =
+    Ok (Some ((Member at channel tag (at + start) len), (cursor (at + start + len) (Within.Definite channel end))))
+item_of at (Within.Open channel place) (Ok (ItemHead.Primitive tag start len)) =
+    pick (ends_open tag len) (Ok (Some ((Mark at), (cursor (at + start + len) Root))))
+    (Ok (Some ((Member at channel tag (at + start) len), (cursor (at + start + len) (Within.Open channel place)))))
+item_of at within (Ok (ItemHead.Definite channel start len)) =
+    Ok (Some ((Item.Group at channel), (cursor (at + start) (Within.Definite channel (at + start + len)))))
+item_of at within (Ok (ItemHead.Open channel start)) = Ok (Some ((Item.Group at channel), (cursor (at + start) (Within.Open channel at))))
+item_of at within (Err fault) = Err (refusal fault at)
 
 -- What stands at a place whose octets up to the end are given.
-unfoldable pub next_in : ℕ → Within → List ℕ → Next
+unfoldable pub next_in : ℕ → Within → List ℕ → (Result (Option (Item × Cursor)) Refusal)
 next_in at within [] = ended within
 next_in at within (tag ∷ u) = item_of at within (head_of (is_inside within) (tag ∷ u))
 
 -- The item at a cursor and the cursor behind it, the end, or the first fault of form with its place.
-unfoldable pub next_of : List ℕ → Cursor → Next
+unfoldable pub next_of : List ℕ → Cursor → (Result (Option (Item × Cursor)) Refusal)
 next_of s c =
     let within = stands_in c.at c.within in
     next_in c.at within (extent s c.at within)
@@ -79,10 +78,10 @@ pub data Items : Type 0 where
   finished : Items
   fault : Refusal → Items
 
-unfoldable pub follow : (Cursor → Items) → Next → Items
-follow more (Next.Found i c) = item i (more c)
-follow more Next.End = finished
-follow more (Next.Refused r) = fault r
+unfoldable pub follow : (Cursor → Items) → Result (Option (Item × Cursor)) Refusal → Items
+follow more (Ok (Some (i, c))) = item i (more c)
+follow more (Ok None) = finished
+follow more (Err r) = fault r
 
 -- Each item takes octets, so that as many turns as there are octets, and one, are enough (`walk_turns` of the proofs: no more change
 -- anything). Nothing outside the laws of `items_from` looks at the turns.

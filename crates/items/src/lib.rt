@@ -8,7 +8,7 @@
 ghost use Rattle.std.specs.Prelude.{◌≡◌, ◌+◌, ◌-◌, ◌^◌, ◌<◌};
 ghost use Rattle.items.specs.Walk.{cursor, stands_in, is_inside, extent, ends_open, ended, item_of, next_of};
 
-use heads::{Head, Refusal};
+use heads::{Fault, ItemHead, Refusal};
 
 // Outside a group, in a definite group that ends before `end`, or in an open group whose tag stands at `place`.
 #[derive(Clone, Copy)]
@@ -49,14 +49,6 @@ pub enum Item {
     Mark {
         place: usize,
     },
-}
-
-// What stands at a cursor.
-#[derive(Clone, Copy)]
-pub enum Next {
-    Found(Item, Cursor),
-    End,
-    Refused(Refusal),
 }
 
 impl Cursor {
@@ -145,14 +137,14 @@ pub fn rest(s: &[u8], at: usize, within: Within) -> &[u8]
     }
 }
 
-fn end_of(within: Within) -> Next
+fn end_of(within: Within) -> Result<Option<(Item, Cursor)>, Refusal>
     ensures { result ≡ ended within }
 {
     match within {
-        Within::Root => Next::End,
-        Within::Definite { channel: _, end: _ } => Next::End,
-        Within::Open { channel: _, place } => Next::Refused(Refusal {
-            number: Refusal::UNENDED_GROUP,
+        Within::Root => Ok(None),
+        Within::Definite { channel: _, end: _ } => Ok(None),
+        Within::Open { channel: _, place } => Err(Refusal {
+            fault: Fault::UnendedGroup,
             place,
         }),
     }
@@ -166,67 +158,72 @@ pub fn ends_open(tag: u8, len: usize) -> bool
 }
 
 // A primitive item, its value `len` octets from `start` on.
-fn primitive_item(at: usize, within: Within, tag: u8, start: usize, len: usize) -> Next
+fn primitive_item(
+    at: usize,
+    within: Within,
+    tag: u8,
+    start: usize,
+    len: usize,
+) -> Result<Option<(Item, Cursor)>, Refusal>
     requires { at + start + len < 2 ^ 64 }
-    ensures { result ≡ item_of at within (Head.Primitive tag start len) }
+    ensures { result ≡ item_of at within (Ok (ItemHead.Primitive tag start len)) }
 {
     let from = at + start;
     let next = from + len;
     match within {
-        Within::Root => Next::Found(
-            Item::Plain {
+        Within::Root => {
+            let item = Item::Plain {
                 place: at,
                 tag,
                 start: from,
                 len,
-            },
-            Cursor {
+            };
+            let behind = Cursor {
                 at: next,
                 within: Within::Root,
-            },
-        ),
-        Within::Definite { channel, end } => Next::Found(
-            Item::Member {
+            };
+            Ok(Some((item, behind)))
+        }
+        Within::Definite { channel, end } => {
+            let item = Item::Member {
                 place: at,
                 channel,
                 tag,
                 start: from,
                 len,
-            },
-            Cursor {
+            };
+            let behind = Cursor {
                 at: next,
                 within: Within::Definite { channel, end },
-            },
-        ),
+            };
+            Ok(Some((item, behind)))
+        }
         Within::Open { channel, place } => {
             if ends_open(tag, len) {
-                return Next::Found(
-                    Item::Mark { place: at },
-                    Cursor {
-                        at: next,
-                        within: Within::Root,
-                    },
-                );
-            }
-            Next::Found(
-                Item::Member {
-                    place: at,
-                    channel,
-                    tag,
-                    start: from,
-                    len,
-                },
-                Cursor {
+                let behind = Cursor {
                     at: next,
-                    within: Within::Open { channel, place },
-                },
-            )
+                    within: Within::Root,
+                };
+                return Ok(Some((Item::Mark { place: at }, behind)));
+            }
+            let item = Item::Member {
+                place: at,
+                channel,
+                tag,
+                start: from,
+                len,
+            };
+            let behind = Cursor {
+                at: next,
+                within: Within::Open { channel, place },
+            };
+            Ok(Some((item, behind)))
         }
     }
 }
 
-// The item at a cursor and the cursor behind it, the end, or the first fault of form.
-pub fn next_item(s: &[u8], c: Cursor) -> Next
+// The item at a cursor and the cursor behind it, none at the end, or the first fault of form.
+pub fn next_item(s: &[u8], c: Cursor) -> Result<Option<(Item, Cursor)>, Refusal>
     ensures { result ≡ next_of s.now c }
 {
     let at = c.at;
@@ -237,28 +234,30 @@ pub fn next_item(s: &[u8], c: Cursor) -> Next
         return end_of(within);
     }
     match heads::item_head(is_inside(within), u) {
-        Head::Primitive { tag, start, len } => primitive_item(at, within, tag, start, len),
-        Head::Definite {
-            channel,
-            start,
-            len,
-        } => Next::Found(
-            Item::Group { place: at, channel },
-            Cursor {
+        Err(fault) => Err(Refusal { fault, place: at }),
+        Ok(ItemHead::Primitive { tag, start, len }) => primitive_item(at, within, tag, start, len),
+        Ok(
+            ItemHead::Definite {
+                channel,
+                start,
+                len,
+            },
+        ) => {
+            let behind = Cursor {
                 at: at + start,
                 within: Within::Definite {
                     channel,
                     end: at + start + len,
                 },
-            },
-        ),
-        Head::Open { channel, start } => Next::Found(
-            Item::Group { place: at, channel },
-            Cursor {
+            };
+            Ok(Some((Item::Group { place: at, channel }, behind)))
+        }
+        Ok(ItemHead::Open { channel, start }) => {
+            let behind = Cursor {
                 at: at + start,
                 within: Within::Open { channel, place: at },
-            },
-        ),
-        Head::Refused { number } => Next::Refused(Refusal { number, place: at }),
+            };
+            Ok(Some((Item::Group { place: at, channel }, behind)))
+        }
     }
 }

@@ -41,7 +41,7 @@ impl Kept {
 pub fn word(w: &[u64], n: usize) -> u64
     ensures { result ≡ get_or w.now n 0 }
 {
-    if n < w.len() { w[n] } else { 0 }
+    w.get(n).copied().unwrap_or(0)
 }
 
 // The number of a word's four lowest octets.
@@ -62,11 +62,7 @@ fn flag_at(w: &[u64], n: usize) -> bool
 fn signed_of(x: u64) -> i64
     ensures { result ≡ twos 8 x }
 {
-    if x < 0x8000_0000_0000_0000 {
-        x as i64
-    } else {
-        !((u64::MAX - x) as i64)
-    }
+    x.cast_signed()
 }
 
 // Where the cursor stands: outside a group or in one.
@@ -163,7 +159,7 @@ pub fn waveform_at(w: &[u64]) -> Waveform
 fn flag_word(b: bool) -> u64
     ensures { flag_of result ≡ b }
 {
-    if b { 1 } else { 0 }
+    u64::from(b)
 }
 
 // The words of a cursor's group.
@@ -172,8 +168,8 @@ fn within_words(x: Within) -> [u64; 3]
 {
     match x {
         Within::Root => [0, 0, 0],
-        Within::Definite { channel, end } => [1, channel as u64, end as u64],
-        Within::Open { channel, place } => [2, channel as u64, place as u64],
+        Within::Definite { channel, end } => [1, u64::from(channel), end as u64],
+        Within::Open { channel, place } => [2, u64::from(channel), place as u64],
     }
 }
 
@@ -193,21 +189,21 @@ fn head_words(h: Head) -> [u64; Kept::HEAD_NUMBERS]
         within[1],
         within[2],
         flag_word(st.little),
-        st.counted as u64,
-        st.sequences as u64,
+        u64::from(st.counted),
+        u64::from(st.sequences),
         words::signed_word(st.start),
         words::signed_word(st.continued),
-        times.block as u64,
-        times.class as u64,
-        times.lead as u64,
-        times.datatype as u64,
-        times.interval as u64,
-        times.resolution as u64,
-        times.offset as u64,
-        times.null as u64,
-        dates.cleared as u64,
+        u64::from(times.block),
+        u64::from(times.class),
+        u64::from(times.lead),
+        u64::from(times.datatype),
+        u64::from(times.interval),
+        u64::from(times.resolution),
+        u64::from(times.offset),
+        u64::from(times.null),
+        u64::from(dates.cleared),
         h.items,
-        h.frames as u64,
+        u64::from(h.frames),
     ]
 }
 
@@ -217,8 +213,8 @@ fn waveform_words(v: Waveform) -> [u64; Kept::WAVEFORM_NUMBERS]
 {
     [
         words::signed_word(v.start),
-        v.channels as u64,
-        v.sequences as u64,
+        u64::from(v.channels),
+        u64::from(v.sequences),
         flag_word(v.little),
         v.place as u64,
         v.len as u64,
@@ -231,11 +227,8 @@ fn store(w: &mut [u64], i: usize, x: &[u64])
     requires { i + length x.now ≤ length w.old }
     ensures { Overlaid w.old i x.now (length x.now) w.new }
 {
-    let mut a = 0;
-    while a < x.len() {
-        w[i + a] = x[a];
-        a += 1;
-    }
+    let end = i + x.len();
+    w[i..end].copy_from_slice(x);
 }
 
 // A head and a frame stored.

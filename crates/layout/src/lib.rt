@@ -34,10 +34,7 @@ fn width_agrees(w: u8, b: Bits) -> bool
 fn widths_agree(w: u8, offset: Bits, null: Bits) -> bool
     ensures { result ≡ both (width_agrees w offset) (width_agrees w null) }
 {
-    if width_agrees(w, offset) {
-        return width_agrees(w, null);
-    }
-    false
+    width_agrees(w, offset) && width_agrees(w, null)
 }
 
 // An offset not defined is zero bits of the sample's width.
@@ -66,16 +63,10 @@ fn added_below(i: usize, channel: u32, below: u64, octets: u64) -> u64
     ensures { result ≡ pick (nat_lt i channel) ((below + octets) % 2 ^ 64) below }
 {
     if i < channel as usize {
-        std::num::wrapping_add_u64(below, octets)
+        below.wrapping_add(octets)
     } else {
         below
     }
-}
-
-fn agree_both(a: bool, b: bool) -> bool
-    ensures { result ≡ both a b }
-{
-    if a { b } else { false }
 }
 
 impl Layout {
@@ -99,12 +90,14 @@ impl Layout {
         let w = values::width(c.datatype) as u8;
         let offset = c.offset;
         let null = c.null;
-        let octets = c.block as u64 * w as u64;
+        let octets = u64::from(c.block) * u64::from(w);
         Layout {
-            agree: agree_both(self.agree, widths_agree(w, offset, null)),
-            octets: std::num::wrapping_add_u64(self.octets, octets),
+            agree: self.agree && widths_agree(w, offset, null),
+            octets: self.octets.wrapping_add(octets),
             below: added_below(i, channel, self.below, octets),
-            groups: std::num::wrapping_add_u64(self.groups, sizes::group_size(i, w, null) as u64),
+            groups: self
+                .groups
+                .wrapping_add(sizes::group_size(i, w, null) as u64),
         }
     }
 }

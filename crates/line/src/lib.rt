@@ -1,51 +1,28 @@
 // The line of an answer of the check, as document 01's program writes it: `frames N` or `refused R at P`.
 //
-// Promises, for any answer and any buffer of 64 octets: `put_line` answers the line's length, the line stands at the start of the buffer, and the
-// octets past it are as they were. 64 octets hold the longest line, which has two numbers of 20 digits.
+// Promises, for any answer: what `{}` writes of its `Line` is the line. The programs print it so.
 // Read first: specs/Line.antt.
 #![tactic(auto)]
 
-ghost use Rattle.stores.specs.Storing.{Putting};
-ghost use Rattle.verdict.specs.Verdict.{checked_says};
-ghost use Rattle.line.specs.Line.{decimal_of, Lined};
+ghost use Rattle.std.specs.Prelude.{Some};
+ghost use Rattle.heads.specs.Answer.{answer_of};
+ghost use Rattle.line.specs.Line.{line_of};
 
-use verdict::Checked;
+use heads::Refusal;
+use std::fmt;
 
-// The octets of a buffer that holds any line.
-pub const BUFFER: usize = 64;
+// The line of an answer of the check.
+#[derive(Clone, Copy)]
+pub struct Line(pub Result<u32, Refusal>);
 
-// Stores a text from `at` on, where it fits, and answers the place after it.
-fn put_text(out: &mut [u8], at: usize, text: &[u8]) -> usize
-    ensures { Putting out.old at text.now result out.new }
-{
-    runs::copy(text, 0, text.len(), out, at)
-}
+impl fmt::Display for Line {
+    ghost output = { λ line. Some (line_of (answer_of line.0)) };
 
-// Stores a number in decimal in the same way.
-fn put_decimal(out: &mut [u8], at: usize, n: u64) -> usize
-    ensures { Putting out.old at (decimal_of n) result out.new }
-{
-    let mut digits = [0u8; 20];
-    let k = io::decimal(n, &mut digits);
-    put_text(out, at, &digits[..k])
-}
-
-// Puts the line of an answer at the start of out, and answers how many octets it has.
-pub fn put_line(checked: Checked, out: &mut [u8; BUFFER]) -> usize
-    ensures { Lined (checked_says checked) out.old result out.new }
-{
-    match checked {
-        Checked::Frames(n) => {
-            let a = put_text(out, 0, b"frames ");
-            let b = put_decimal(out, a, n as u64);
-            put_text(out, b, b"\n")
-        }
-        Checked::Refused(x) => {
-            let a = put_text(out, 0, b"refused ");
-            let b = put_decimal(out, a, x.number as u64);
-            let c = put_text(out, b, b" at ");
-            let d = put_decimal(out, c, x.place as u64);
-            put_text(out, d, b"\n")
+    fn fmt<W: fmt::Write>(&self, f: &mut fmt::Formatter<W>) -> fmt::Result {
+        let answer = self.0;
+        match answer {
+            Ok(frames) => write!(f, "frames {frames}\n"),
+            Err(x) => write!(f, "refused {} at {}\n", x.fault.number(), x.place),
         }
     }
 }

@@ -8,6 +8,8 @@ use mathlib.Core.Bool.{Bool, true, false}
 use mathlib.Core.List.{List, [], ◌∷◌, map}
 use lib.ListN.{length, take}
 use Rattle.octets.specs.Number.{big_from, little_of, number_of, twos}
+use Rattle.heads.specs.declared.Fault.{Fault}
+use Rattle.heads.specs.declared.Fault.TheVariants.{ContextTag, LengthOctet, PastEnd, LongChannel, BarredTag, UnfitLength, UnfitValue, ChannelNumber, Compressed, UnendedGroup, SampleWidth}
 use Rattle.heads.specs.Answer.{Answer, answered, refused_as}
 use Rattle.heads.specs.Head.{channel_of, length_of, unknown_context, root_only, primitive_form, group_length, group_form, form_of}
 use Rattle.values.specs.Sample.{width_of, is_null, plain_of, value_of}
@@ -45,30 +47,30 @@ computed cs =
     cs
 
 -- A refusal that comes with the last octet; before it the end is 3 at a place.
-abbrev pub comes : List ℕ → ℕ → ℕ → ℕ → Coming
-comes s cut number place = record { octets = s; early = false; before = refused_as 3 cut; late = true; after = refused_as number place }
+abbrev pub comes : List ℕ → ℕ → Fault → ℕ → Coming
+comes s cut fault place = record { octets = s; early = false; before = refused_as PastEnd cut; late = true; after = refused_as fault place }
 
 -- Refusals as document 02 and its readings say when each comes.
 abbrev pub table : List Coming
 table =
     -- 1, 2, 4 and 5 outside definite groups come at their octet. A file may end before a tag, and in an open group that is 10.
-    record { octets = 0x21 ∷ []; early = false; before = answered 0; late = true; after = refused_as 1 0 }
-    ∷ comes (0x0A ∷ 0x80 ∷ []) 0 2 0
-    ∷ comes (0x3F ∷ 0x80 ∷ 0x80 ∷ 0x80 ∷ 0x80 ∷ []) 0 4 0
-    ∷ record { octets = 0x3F ∷ 0 ∷ 0x80 ∷ 0x05 ∷ []; early = false; before = refused_as 10 0; late = true; after = refused_as 5 3 }
+    record { octets = 0x21 ∷ []; early = false; before = answered 0; late = true; after = refused_as ContextTag 0 }
+    ∷ comes (0x0A ∷ 0x80 ∷ []) 0 LengthOctet 0
+    ∷ comes (0x3F ∷ 0x80 ∷ 0x80 ∷ 0x80 ∷ 0x80 ∷ []) 0 LongChannel 0
+    ∷ record { octets = 0x3F ∷ 0 ∷ 0x80 ∷ 0x05 ∷ []; early = false; before = refused_as UnendedGroup 0; late = true; after = refused_as BarredTag 3 }
     -- 6, 7 and 9 come with the value's last octet.
-    ∷ comes (0x01 ∷ 2 ∷ 0 ∷ 0 ∷ []) 0 6 0
-    ∷ comes (0x01 ∷ 1 ∷ 2 ∷ []) 0 7 0
-    ∷ comes (0x0E ∷ 2 ∷ 0 ∷ 0 ∷ []) 0 9 0
+    ∷ comes (0x01 ∷ 2 ∷ 0 ∷ 0 ∷ []) 0 UnfitLength 0
+    ∷ comes (0x01 ∷ 1 ∷ 2 ∷ []) 0 UnfitValue 0
+    ∷ comes (0x0E ∷ 2 ∷ 0 ∷ 0 ∷ []) 0 Compressed 0
     -- 8 comes at the 80 of an open group, and of a definite one at its last octet.
-    ∷ comes (0x05 ∷ 1 ∷ 2 ∷ 0x3F ∷ 5 ∷ 0x80 ∷ []) 3 8 3
-    ∷ comes (0x05 ∷ 1 ∷ 2 ∷ 0x3F ∷ 5 ∷ 2 ∷ 0 ∷ 0 ∷ []) 3 8 3
+    ∷ comes (0x05 ∷ 1 ∷ 2 ∷ 0x3F ∷ 5 ∷ 0x80 ∷ []) 3 ChannelNumber 3
+    ∷ comes (0x05 ∷ 1 ∷ 2 ∷ 0x3F ∷ 5 ∷ 2 ∷ 0 ∷ 0 ∷ []) 3 ChannelNumber 3
     -- In a definite group every verdict waits for the group's last octet, 3 too; till then it is 3 at the group.
-    ∷ comes (0x3F ∷ 0 ∷ 3 ∷ 0x21 ∷ 0 ∷ 0 ∷ []) 0 1 3
-    ∷ comes (0x3F ∷ 0 ∷ 4 ∷ 0x04 ∷ 9 ∷ 0 ∷ 0 ∷ []) 0 3 3
-    ∷ comes (0x3F ∷ 0 ∷ 3 ∷ 0x00 ∷ 0 ∷ 0x04 ∷ []) 0 3 5
+    ∷ comes (0x3F ∷ 0 ∷ 3 ∷ 0x21 ∷ 0 ∷ 0 ∷ []) 0 ContextTag 3
+    ∷ comes (0x3F ∷ 0 ∷ 4 ∷ 0x04 ∷ 9 ∷ 0 ∷ 0 ∷ []) 0 PastEnd 3
+    ∷ comes (0x3F ∷ 0 ∷ 3 ∷ 0x00 ∷ 0 ∷ 0x04 ∷ []) 0 PastEnd 5
     -- 12 comes with the waveform's last octet.
-    ∷ comes (0x0D ∷ 1 ∷ 0 ∷ 0x1E ∷ 2 ∷ 0 ∷ 0 ∷ []) 3 12 3
+    ∷ comes (0x0D ∷ 1 ∷ 0 ∷ 0x1E ∷ 2 ∷ 0 ∷ 0 ∷ []) 3 SampleWidth 3
     ∷ []
 
 pub answers_come : computed table ≡ table

@@ -5,6 +5,11 @@
 --     end_follows        the answer, if the file ends here
 --     accepted-given     what was given out, if the file is accepted that ends here
 -- Assumes nothing.
+use Rattle.heads.specs.declared.Fault.{Fault}
+use Rattle.heads.specs.declared.ItemHead.{ItemHead}
+use Rattle.std.specs.Prelude.{Result, Ok, Err, Option, None, Some}
+use Rattle.items.specs.declared.Item.{Item}
+use Rattle.items.specs.declared.Cursor.{Cursor}
 use Prim.Native.Nat.{ℕ, zero, suc, ◌+◌, ◌-◌, ◌≤◌, ◌<◌}
 use mathlib.Core.Path.{◌≡◌, refl, sym, ◌∙◌, ap, subst}
 use mathlib.Core.List.{List, [], ◌∷◌, ◌++◌, append-nil, append_assoc}
@@ -17,15 +22,12 @@ use lib.ListN.{length, take, drop, length-append, length-take, length-drop, drop
 use lib.Seq.{take-nil}
 use Rattle.octets.proofs.Pick.{pick_cases}
 use Rattle.heads.specs.declared.Refusal.{Refusal}
-use Rattle.heads.specs.declared.Form.{Form}
 use Rattle.heads.specs.Head.{root_only, form_of}
-use Rattle.heads.specs.Refusals.{past_end}
+use Rattle.heads.specs.declared.Fault.TheVariants.{PastEnd}
 use Rattle.heads.specs.Answer.{Answer, answered, refused_as}
 use Rattle.heads.proofs.Forms.{FormKept, form_keeps, FormExact, form_exact, Allowed, inside_allowed}
 use Rattle.items.specs.declared.Within.{Within}
 use Rattle.items.specs.declared.Within.TheVariants.{Root}
-use Rattle.items.specs.declared.Next.{Next}
-use Rattle.items.specs.declared.Next.TheVariants.{End}
 use Rattle.items.specs.Walk.{refusal, cursor, is_inside, extent, ended, next_of}
 use Rattle.items.proofs.Walks.{next-none}
 use Rattle.layout.specs.Frame.{Frame}
@@ -64,20 +66,20 @@ module _ (s : List ℕ) (n : ℕ) (x : Stand) (around : ℕ) (v : Waveform) (ph 
   l = link n x around v ph
 
   -- More octets are wanted, and may come.
-  more_follows : form_of (is_inside w) come ≡ Form.More → Inside w (suc (length s)) → Follows s gs (headed come Form.More l)
+  more_follows : form_of (is_inside w) come ≡ Ok None → Inside w (suc (length s)) → Follows s gs (headed come (Ok None) l)
   unfolding headed
   more_follows e g = record { resumes = p; tells = inl silent; octets = refl; wants = e; goes = g }
 
   -- A fault of form, by what stands there in each file that has the group around.
-  bad_follows : (number : ℕ) → ((t : List ℕ) → Whole w (length (s ++ t)) → next_of (s ++ t) x.cursor ≡ Next.Refused (refusal number at)) → Follows s gs (headed come (Form.Faulty number) l)
+  bad_follows : (fault : Fault) → ((t : List ℕ) → Whole w (length (s ++ t)) → next_of (s ++ t) x.cursor ≡ Err (refusal fault at)) → Follows s gs (headed come (Err fault) l)
   unfolding headed
-  bad_follows number f = fault_follows s n x around v ph gs limit silent p (refusal number at) f
+  bad_follows fault f = fault_follows s n x around v ph gs limit silent p (refusal fault at) f
 
-  faulty_follows : (number : ℕ) → form_of (is_inside w) come ≡ Form.Faulty number → Follows s gs (headed come (Form.Faulty number) l)
-  faulty_follows number e = bad_follows number (λ t h. next_faulty s t x.cursor here p.inside h number e)
+  faulty_follows : (fault : Fault) → form_of (is_inside w) come ≡ Err fault → Follows s gs (headed come (Err fault) l)
+  faulty_follows fault e = bad_follows fault (λ t h. next_faulty s t x.cursor here p.inside h fault e)
 
   -- A value, of which nothing has come.
-  value_follows : (tag start len : ℕ) → form_of (is_inside w) come ≡ Form.Primitive tag start len → at + start ≡ length s → Inside w (length s + len) → Plainly w tag → Follows s gs (valued tag len [] l)
+  value_follows : (tag start len : ℕ) → form_of (is_inside w) come ≡ Ok (Some (ItemHead.Primitive tag start len)) → at + start ≡ length s → Inside w (length s + len) → Plainly w tag → Follows s gs (valued tag len [] l)
   unfolding valued
   value_follows tag start len e all fits o =
       let none : [] ≡ take kept_limit (drop (at + start) s) = ap (take kept_limit) (sym (drop_of_length-le s {i = at + start} (omega arith))) in
@@ -99,66 +101,66 @@ module _ (s : List ℕ) (n : ℕ) (x : Stand) (around : ℕ) (v : Waveform) (ph 
 
   -- Outside groups.
   module _ (outside : w ≡ Root) where
-    primitive_follows : (tag start len : ℕ) → form_of (is_inside w) come ≡ Form.Primitive tag start len → at + start ≡ length s → Follows s gs (headed come (Form.Primitive tag start len) l)
+    primitive_follows : (tag start len : ℕ) → form_of (is_inside w) come ≡ Ok (Some (ItemHead.Primitive tag start len)) → at + start ≡ length s → Follows s gs (headed come (Ok (Some (ItemHead.Primitive tag start len))) l)
     unfolding headed primitive_begins
     primitive_follows tag start len e all =
         pick_cases (Follows s gs) (eqb tag 0x1E)
         (λ q.
         let z = eqb-true tag 0x1E q in
-        wave_follows s n x around v ph gs limit silent p outside 0 start here all len (e ∙ ap (λ (k : ℕ). Form.Primitive k start len) z))
+        wave_follows s n x around v ph gs limit silent p outside 0 start here all len (e ∙ ap (λ (k : ℕ). Ok (Some (ItemHead.Primitive k start len))) z))
         (λ q. value_follows tag start len e all (rw outside tt) (rw outside (eqb-false tag 0x1E q)))
 
-    root_follows : (f : Form) → form_of (is_inside w) come ≡ f → FormExact (length come) Form.More f → Follows s gs (headed come f l)
+    root_follows : (f : Result (Option ItemHead) Fault) → form_of (is_inside w) come ≡ f → FormExact (length come) (Ok None) f → Follows s gs (headed come f l)
     unfolding headed
-    root_follows Form.More e k = more_follows e (rw outside tt)
-    root_follows (Form.Faulty number) e k = faulty_follows number e
-    root_follows (Form.Primitive tag start len) e k = primitive_follows tag start len e (omega (arith, length-drop at s))
-    root_follows (Form.Definite channel start len) e k = definite_follows s n _ around v ph gs limit silent p outside channel start here (omega (arith, length-drop at s)) len e
-    root_follows (Form.Open channel start) e k = open_follows s n _ around v ph gs limit silent p outside channel start here (omega (arith, length-drop at s)) e
+    root_follows (Ok None) e k = more_follows e (rw outside tt)
+    root_follows (Err fault) e k = faulty_follows fault e
+    root_follows (Ok (Some (ItemHead.Primitive tag start len))) e k = primitive_follows tag start len e (omega (arith, length-drop at s))
+    root_follows (Ok (Some (ItemHead.Definite channel start len))) e k = definite_follows s n _ around v ph gs limit silent p outside channel start here (omega (arith, length-drop at s)) len e
+    root_follows (Ok (Some (ItemHead.Open channel start))) e k = open_follows s n _ around v ph gs limit silent p outside channel start here (omega (arith, length-drop at s)) e
 
   -- In groups.
   module _ (inside : is_inside w ≡ true) where
-    allowed : {f : Form} → form_of (is_inside w) come ≡ f → Allowed f
+    allowed : {f : Result (Option ItemHead) Fault} → form_of (is_inside w) come ≡ f → Allowed f
     allowed e = subst Allowed (sym (ap (λ (b : Bool). form_of b come) inside) ∙ e) (inside_allowed come)
 
     -- 1E is not allowed.
-    no_wave : (tag start len : ℕ) → form_of (is_inside w) come ≡ Form.Primitive tag start len → tag ≡ 0x1E → ⊥
+    no_wave : (tag start len : ℕ) → form_of (is_inside w) come ≡ Ok (Some (ItemHead.Primitive tag start len)) → tag ≡ 0x1E → ⊥
     unfolding root_only
     no_wave tag start len e z = true_false (ap root_only (sym z) ∙ allowed e)
 
-    member_follows : (tag start len : ℕ) → form_of (is_inside w) come ≡ Form.Primitive tag start len → at + start ≡ length s → Inside w (length s + len) → Plainly w tag → Follows s gs (headed come (Form.Primitive tag start len) l)
+    member_follows : (tag start len : ℕ) → form_of (is_inside w) come ≡ Ok (Some (ItemHead.Primitive tag start len)) → at + start ≡ length s → Inside w (length s + len) → Plainly w tag → Follows s gs (headed come (Ok (Some (ItemHead.Primitive tag start len))) l)
     unfolding headed primitive_begins
     member_follows tag start len e all fits o =
         pick_cases (Follows s gs) (eqb tag 0x1E) (λ q. absurd (no_wave tag start len e (eqb-true tag 0x1E q))) (λ q. value_follows tag start len e all fits o)
 
   -- What the octets of the head say, where they have come to.
-  pub headed_follows : (z : Within) → w ≡ z → (f : Form) → form_of (is_inside w) come ≡ f → FormExact (length come) Form.More f → Follows s gs (headed come (seen_in z n f) l)
+  pub headed_follows : (z : Within) → w ≡ z → (f : Result (Option ItemHead) Fault) → form_of (is_inside w) come ≡ f → FormExact (length come) (Ok None) f → Follows s gs (headed come (seen_in z n f) l)
   unfolding seen_in confined
   headed_follows Within.Root ew f e k = root_follows ew f e k
-  headed_follows (Within.Definite channel end) ew Form.More e k =
-      pick_cases (λ (g : Form). Follows s gs (headed come g l)) (eqb (end - n) 0)
+  headed_follows (Within.Definite channel end) ew (Ok None) e k =
+      pick_cases (λ (g : Result (Option ItemHead) Fault). Follows s gs (headed come g l)) (eqb (end - n) 0)
       (λ q.
       let z = eqb-true (end - n) 0 q in
       let none : end - length s ≡ 0 = omega (arith, p.counts) in
-      bad_follows past_end (λ t h. next_wanting s t _ here p.inside h (rw (ew, none) refl) e))
+      bad_follows PastEnd (λ t h. next_wanting s t _ here p.inside h (rw (ew, none) refl) e))
       (λ q. let z = eqb-false (end - n) 0 q in more_follows e (rw ew (omega (arith, p.counts))))
-  headed_follows (Within.Definite channel end) ew (Form.Faulty number) e k = faulty_follows number e
-  headed_follows (Within.Definite channel end) ew (Form.Primitive tag start len) e k =
+  headed_follows (Within.Definite channel end) ew (Err fault) e k = faulty_follows fault e
+  headed_follows (Within.Definite channel end) ew (Ok (Some (ItemHead.Primitive tag start len))) e k =
       let all : at + start ≡ length s = omega (arith, length-drop at s) in
       let i : length s ≤ end = rw ew at p.inside in
-      pick_cases (λ (g : Form). Follows s gs (headed come g l)) (ltb (end - n) len)
+      pick_cases (λ (g : Result (Option ItemHead) Fault). Follows s gs (headed come g l)) (ltb (end - n) len)
       (λ q.
       let more = ltb-true (end - n) len q in
-      bad_follows past_end (λ t h. next_past s t _ here p.inside h tag start len e (rw ew (omega arith)) (rw ew (omega (arith, p.counts)))))
+      bad_follows PastEnd (λ t h. next_past s t _ here p.inside h tag start len e (rw ew (omega arith)) (rw ew (omega (arith, p.counts)))))
       (λ q. let fits = ltb-false (end - n) len q in member_follows (rw ew refl) tag start len e all (rw ew (omega (arith, p.counts))) (rw ew tt))
-  headed_follows (Within.Definite channel end) ew (Form.Definite c start len) e k = absurd (allowed (rw ew refl) e)
-  headed_follows (Within.Definite channel end) ew (Form.Open c start) e k = absurd (allowed (rw ew refl) e)
-  headed_follows (Within.Open channel place) ew Form.More e k = more_follows e (rw ew tt)
-  headed_follows (Within.Open channel place) ew (Form.Faulty number) e k = faulty_follows number e
-  headed_follows (Within.Open channel place) ew (Form.Primitive tag start len) e k =
+  headed_follows (Within.Definite channel end) ew (Ok (Some (ItemHead.Definite c start len))) e k = absurd (allowed (rw ew refl) e)
+  headed_follows (Within.Definite channel end) ew (Ok (Some (ItemHead.Open c start))) e k = absurd (allowed (rw ew refl) e)
+  headed_follows (Within.Open channel place) ew (Ok None) e k = more_follows e (rw ew tt)
+  headed_follows (Within.Open channel place) ew (Err fault) e k = faulty_follows fault e
+  headed_follows (Within.Open channel place) ew (Ok (Some (ItemHead.Primitive tag start len))) e k =
       member_follows (rw ew refl) tag start len e (omega (arith, length-drop at s)) (rw ew tt) (rw ew tt)
-  headed_follows (Within.Open channel place) ew (Form.Definite c start len) e k = absurd (allowed (rw ew refl) e)
-  headed_follows (Within.Open channel place) ew (Form.Open c start) e k = absurd (allowed (rw ew refl) e)
+  headed_follows (Within.Open channel place) ew (Ok (Some (ItemHead.Definite c start len))) e k = absurd (allowed (rw ew refl) e)
+  headed_follows (Within.Open channel place) ew (Ok (Some (ItemHead.Open c start))) e k = absurd (allowed (rw ew refl) e)
 
 -- ---- one octet more
 
@@ -175,14 +177,14 @@ module _ (s : List ℕ) (b : ℕ) where
         inside = subst (Inside (within_of x)) (sym (grown_long s b)) i;
         outer = p.outer;
         stands = λ t h. to_grown s b (λ (u : List ℕ). Stands u p.met x) t (p.stands (b ∷ t) (of_grown s b (λ (u : List ℕ). Whole (within_of x) (length u)) t h));
-        cut = λ t h. to_grown s b (λ (u : List ℕ). unlimited u ≡ refused (refusal past_end around)) t (p.cut (b ∷ t) (of_grown s b (λ (u : List ℕ). Cut (within_of x) (length u)) t h));
+        cut = λ t h. to_grown s b (λ (u : List ℕ). unlimited u ≡ refused (refusal PastEnd around)) t (p.cut (b ∷ t) (of_grown s b (λ (u : List ℕ). Cut (within_of x) (length u)) t h));
       }
 
   sure_on : (n around left : ℕ) (r : Refusal) → 0 < left → Sure s n around left r → Sure (grown s b) (n + 1) around (left - 1) r
   sure_on n around left r some p =
       record {
         counts = omega (arith, p.counts, grown_long s b);
-        cuts = λ t h. to_grown s b (λ (u : List ℕ). unlimited u ≡ refused (refusal past_end around)) t
+        cuts = λ t h. to_grown s b (λ (u : List ℕ). unlimited u ≡ refused (refusal PastEnd around)) t
             (p.cuts (b ∷ t) (of_grown s b (λ (u : List ℕ). length u < length s + left) t (omega (arith, grown_long s b))));
         sure = λ h t k. to_grown s b (λ (u : List ℕ). unlimited u ≡ refused r) t
             (p.sure (omega (arith, grown_long s b)) (b ∷ t) (of_grown s b (λ (u : List ℕ). length s + left ≤ length u) t (omega (arith, grown_long s b))));
@@ -192,7 +194,7 @@ module _ (s : List ℕ) (b : ℕ) where
 
   settled_on : (a : Answer ℕ) → Settled s a → Settled (grown s b) a
   settled_on (answered n) p = p
-  settled_on (refused_as number place) p = λ t. to_grown s b (λ (u : List ℕ). unlimited u ≡ refused (refusal number place)) t (p (b ∷ t))
+  settled_on (refused_as fault place) p = λ t. to_grown s b (λ (u : List ℕ). unlimited u ≡ refused (refusal fault place)) t (p (b ∷ t))
 
   begun-on : (x : Stand) (tag left : ℕ) → 0 < left → Begun s x tag left → Begun (grown s b) x tag (left - 1)
   begun-on x tag left some i =
@@ -203,7 +205,7 @@ module _ (s : List ℕ) (b : ℕ) where
         len = i.len;
         here = omega (arith, i.here, grown_long s b);
         form = ap (form_of inside) (drop_grown s b x.cursor.at (omega (arith, i.here)))
-            ∙ subst (λ (f : Form). FormKept f (form_of inside (come ++ (b ∷ [])))) i.form (form_keeps inside come (b ∷ []));
+            ∙ subst (λ (f : Result (Option ItemHead) Fault). FormKept f (form_of inside (come ++ (b ∷ [])))) i.form (form_keeps inside come (b ∷ []));
         begun = omega (arith, i.begun, grown_long s b);
         ends = omega (arith, i.ends, grown_long s b);
         fits = let e : length s + left ≡ length (grown s b) + (left - 1) = omega (arith, grown_long s b) in subst (Inside (within_of x)) e i.fits;
@@ -226,10 +228,10 @@ module _ (s : List ℕ) (b : ℕ) (limit : length s < octets_limit) where
       let at = x.cursor.at in
       let inside = is_inside (within_of x) in
       let e : drop at (grown s b) ≡ p ++ (b ∷ []) = drop_grown s b at q.resumes.before ∙ ap (λ (u : List ℕ). u ++ (b ∷ [])) q.octets in
-      let exact : FormExact (length (drop at (grown s b))) Form.More (form_of inside (drop at (grown s b))) =
-      subst (λ (u : List ℕ). FormExact (length u) Form.More (form_of inside u)) (sym e)
-      (subst (λ (k : ℕ). FormExact k Form.More (form_of inside (p ++ (b ∷ [])))) (sym (length-append p (b ∷ [])))
-      (subst (λ (f : Form). FormExact (length p + 1) f (form_of inside (p ++ (b ∷ [])))) q.wants (form_exact inside p b))) in
+      let exact : FormExact (length (drop at (grown s b))) (Ok None) (form_of inside (drop at (grown s b))) =
+      subst (λ (u : List ℕ). FormExact (length u) (Ok None) (form_of inside u)) (sym e)
+      (subst (λ (k : ℕ). FormExact k (Ok None) (form_of inside (p ++ (b ∷ [])))) (sym (length-append p (b ∷ [])))
+      (subst (λ (f : Result (Option ItemHead) Fault). FormExact (length p + 1) f (form_of inside (p ++ (b ∷ [])))) q.wants (form_exact inside p b))) in
       subst (λ (u : List ℕ). Follows (grown s b) gs (headed u (seen_in (within_of x) (n + 1) (form_of inside u)) (link (n + 1) x around no_waveform ph))) e
       (headed_follows (grown s b) (n + 1) x around no_waveform ph gs within refl (resumes_on s b n x around gs q.resumes q.goes) (omega (arith, q.resumes.before, grown_long s b))
       (within_of x) refl (form_of inside (drop at (grown s b))) refl exact)
@@ -328,9 +330,9 @@ nothing_left s at (Within.Definite channel end) h = rw (length-take, length-drop
 nothing_left s at (Within.Open channel place) h = rw length-drop (omega arith)
 
 -- What the end of the file means where the walk stands, if the group around is whole.
-pub end_next : {s : List ℕ} {met : List Frame} {x : Stand} → Stands s met x → next_of s x.cursor ≡ End → unlimited s ≡ accepted met
+pub end_next : {s : List ℕ} {met : List Frame} {x : Stand} → Stands s met x → next_of s x.cursor ≡ Ok None → unlimited s ≡ accepted met
 unfolding turn_of next_turn
-end_next {s} {met} {x} p e = sym (subst (λ (n : Next). TurnStands s met x.cursor.at (next_turn s x n)) e (turn_stands p (subst (Near p) (sym e) tt)))
+end_next {s} {met} {x} p e = sym (subst (λ (n : Result (Option (Item × Cursor)) Refusal). TurnStands s met x.cursor.at (next_turn s x n)) e (turn_stands p (subst (Near p) (sym e) tt)))
 
 -- What is claimed of s with nothing behind it is claimed of s.
 pub alone : (P : List ℕ → Type 0) (s : List ℕ) → P (s ++ []) → P s
@@ -362,19 +364,19 @@ ended_follows s n x around v gs q = by (within_of x) refl
     by Within.Root e = ap checked_as (ended-accepted s n x around v gs q e) ∙ ap answered (sym p.many)
     by (Within.Definite channel end) e =
         let short : length (s ++ []) < end = subst (λ (w : Within). Inside w (suc (length (s ++ [])))) e (rw (append-nil s) q.goes) in
-        ap checked_as (alone (λ (u : List ℕ). unlimited u ≡ refused (refusal past_end around)) s (p.cut [] (rw e short)))
+        ap checked_as (alone (λ (u : List ℕ). unlimited u ≡ refused (refusal PastEnd around)) s (p.cut [] (rw e short)))
     by (Within.Open channel place) e =
         ap checked_as (fault-is (alone (λ (u : List ℕ). Stands u p.met x) s (p.stands [] (rw e tt))) (sym (next (Within.Open channel place) e)))
 
 -- The end inside an item whose octets are not all there: 3 at its place, and in a definite group at the group's.
 cut_follows : (s : List ℕ) (n : ℕ) (x : Stand) (around : ℕ) (gs : List Given) (p : Resumes s n x around gs) → Inside (within_of x) (suc (length s))
-    → (Whole (within_of x) (length (s ++ [])) → next_of (s ++ []) x.cursor ≡ Next.Refused (refusal past_end x.cursor.at))
-    → checked_as (unlimited s) ≡ refused_as past_end (cut_at (within_of x) x.cursor.at around)
+    → (Whole (within_of x) (length (s ++ [])) → next_of (s ++ []) x.cursor ≡ Err (refusal PastEnd x.cursor.at))
+    → checked_as (unlimited s) ≡ refused_as PastEnd (cut_at (within_of x) x.cursor.at around)
 unfolding checked_as
-cut_follows s n x around gs p goes f = ap checked_as (alone (λ (u : List ℕ). unlimited u ≡ refused (refusal past_end (cut_at (within_of x) x.cursor.at around))) s (by (within_of x) (p.stands []) (p.cut []) goes f))
+cut_follows s n x around gs p goes f = ap checked_as (alone (λ (u : List ℕ). unlimited u ≡ refused (refusal PastEnd (cut_at (within_of x) x.cursor.at around))) s (by (within_of x) (p.stands []) (p.cut []) goes f))
   where
-    by : (w : Within) → (Whole w (length (s ++ [])) → Stands (s ++ []) p.met x) → (Cut w (length (s ++ [])) → unlimited (s ++ []) ≡ refused (refusal past_end around)) → Inside w (suc (length s))
-        → (Whole w (length (s ++ [])) → next_of (s ++ []) x.cursor ≡ Next.Refused (refusal past_end x.cursor.at)) → unlimited (s ++ []) ≡ refused (refusal past_end (cut_at w x.cursor.at around))
+    by : (w : Within) → (Whole w (length (s ++ [])) → Stands (s ++ []) p.met x) → (Cut w (length (s ++ [])) → unlimited (s ++ []) ≡ refused (refusal PastEnd around)) → Inside w (suc (length s))
+        → (Whole w (length (s ++ [])) → next_of (s ++ []) x.cursor ≡ Err (refusal PastEnd x.cursor.at)) → unlimited (s ++ []) ≡ refused (refusal PastEnd (cut_at w x.cursor.at around))
     by Within.Root stands cut goes f = fault-is (stands tt) (f tt)
     by (Within.Definite channel end) stands cut goes f = cut (rw (append-nil s) goes)
     by (Within.Open channel place) stands cut goes f = fault-is (stands tt) (f tt)
@@ -413,10 +415,10 @@ end_follows s gs l p = by l.phase p
         let k = room_short (within_of x) (length (s ++ [])) (length s + left) short i.fits h in
         let g = room-begun (within_of x) (length (s ++ [])) (length s) (longer s []) r.inside in
         next_past s [] x.cursor i.here r.inside h tag i.start i.len i.form (omega (arith, i.begun, g)) (omega (arith, i.ends, k)))
-    by (waveform left t) f = ap checked_as (alone (λ (u : List ℕ). unlimited u ≡ refused (refusal past_end l.around)) s (f.0.cuts [] (rw (append-nil s) (omega (arith, f.1)))))
-    by (waits left r) f = ap checked_as (alone (λ (u : List ℕ). unlimited u ≡ refused (refusal past_end l.around)) s (f.0.cuts [] (rw (append-nil s) (omega (arith, f.1)))))
+    by (waveform left t) f = ap checked_as (alone (λ (u : List ℕ). unlimited u ≡ refused (refusal PastEnd l.around)) s (f.0.cuts [] (rw (append-nil s) (omega (arith, f.1)))))
+    by (waits left r) f = ap checked_as (alone (λ (u : List ℕ). unlimited u ≡ refused (refusal PastEnd l.around)) s (f.0.cuts [] (rw (append-nil s) (omega (arith, f.1)))))
     by (decided (answered n)) f = absurd f.0
-    by (decided (refused_as number place)) f = ap checked_as (alone (λ (u : List ℕ). unlimited u ≡ refused (refusal number place)) s (f.0 []))
+    by (decided (refused_as fault place)) f = ap checked_as (alone (λ (u : List ℕ). unlimited u ≡ refused (refusal fault place)) s (f.0 []))
 
 -- ---- an accepted file
 
@@ -427,7 +429,7 @@ frames_of (refused r) = []
 
 abbrev IsAnswered : Answer ℕ → Type 0
 IsAnswered (answered n) = Unit {0}
-IsAnswered (refused_as number place) = ⊥
+IsAnswered (refused_as fault place) = ⊥
 
 -- What a link has given out where the file is accepted that ends here.
 pub accepted-given : (s : List ℕ) (gs : List Given) (l : Link) (fs : List Frame) → Follows s gs l → unlimited s ≡ accepted fs → gs ≡ frames_given fs
@@ -438,7 +440,7 @@ accepted-given s gs l fs p e = by l.phase p (end_follows s gs l p)
     x = l.stand
 
     -- The end is no refusal.
-    never : {number place : ℕ} → checked_as (unlimited s) ≡ refused_as number place → ⊥
+    never : {fault : Fault} {place : ℕ} → checked_as (unlimited s) ≡ refused_as fault place → ⊥
     never f = subst IsAnswered (sym (ap checked_as e) ∙ f) tt
 
     between : (w : Within) → within_of x ≡ w → InHead s l.count x l.around l.frame gs [] → checked_as (unlimited s) ≡ ended_in w l.around x.frames → gs ≡ frames_given fs
@@ -453,4 +455,4 @@ accepted-given s gs l fs p e = by l.phase p (end_follows s gs l p)
     by (waveform left t) q f = absurd (never f)
     by (waits left r) q f = absurd (never f)
     by (decided (answered n)) q f = absurd q.0
-    by (decided (refused_as number place)) q f = absurd (never f)
+    by (decided (refused_as fault place)) q f = absurd (never f)

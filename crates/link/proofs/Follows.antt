@@ -5,6 +5,11 @@
 --     end_follows   the answer, if the file ends here
 -- Inside an item nothing moves: the claim stays that of the item's tag.
 -- Assumes nothing.
+use Rattle.heads.specs.declared.Fault.{Fault}
+use Rattle.effects.specs.declared.Effect.{Effect}
+use Rattle.heads.specs.declared.ItemHead.{ItemHead}
+use Rattle.std.specs.Prelude.{Result, Ok, Err, Option, Some, None}
+use Rattle.standing.specs.declared.Standing.{Standing}
 use Prim.Native.Nat.{ℕ, suc, ◌+◌, ◌-◌, ◌≤◌, ◌<◌}
 use mathlib.Core.Path.{◌≡◌, refl, sym, subst}
 use mathlib.Core.List.{List, [], ◌∷◌, ◌++◌}
@@ -15,28 +20,22 @@ use lib.Dec.{eqb}
 use lib.ListN.{length, take, drop}
 use Rattle.octets.proofs.Pick.{pick_cases}
 use Rattle.heads.specs.declared.Refusal.{Refusal}
-use Rattle.heads.specs.Refusals.{past_end}
-use Rattle.heads.specs.declared.Form.{Form}
+use Rattle.heads.specs.declared.Fault.TheVariants.{PastEnd}
 use Rattle.heads.specs.Head.{form_of}
 use Rattle.heads.specs.Answer.{Answer, answered, refused_as}
 use Rattle.items.specs.declared.Within.{Within}
 use Rattle.items.specs.declared.Within.TheVariants.{Root}
 use Rattle.items.specs.declared.Cursor.{Cursor}
 use Rattle.items.specs.declared.Item.{Item}
-use Rattle.items.specs.declared.Next.{Next}
-use Rattle.items.specs.declared.Next.TheVariants.{Found}
 use Rattle.items.specs.Walk.{refusal, cursor, stands_in, is_inside, next_of}
 use Rattle.settings.specs.declared.Settings.{Settings}
 use Rattle.dated.specs.Dated.{held}
 use Rattle.layout.specs.Frame.{Frame}
 use Rattle.standing.specs.Standing.{octets_limit}
-use Rattle.framing.specs.declared.Framed.{Framed}
-use Rattle.effects.specs.declared.Effect.{Effect}
 use Rattle.effects.specs.Effects.{effect_of}
 use Rattle.verdict.specs.Verdict.{place_at, refused, unlimited}
 use Rattle.verdict.proofs.Cuts.{CutsFrom, cuts_less, reached_cuts}
 use Rattle.walk.specs.declared.Waveform.{Waveform}
-use Rattle.walk.specs.declared.Step.{Step}
 use Rattle.walk.specs.Advance.{Stand, Turn, on, stops, framed_turn, effect_turn, next_turn, turn_of}
 use Rattle.walk.specs.Joined.{frame_by}
 use Rattle.walk.proofs.Joins.{Stands, Counts, TurnStands, Near, turn_stands}
@@ -74,64 +73,64 @@ pub record Resumes (s : List ℕ) (n : ℕ) (x : Stand) (around : ℕ) (gs : Lis
   pub inside : Inside (within_of x) (length s)
   pub outer : Outer (within_of x) around x.cursor.at
   pub stands : (t : List ℕ) → Whole (within_of x) (length (s ++ t)) → Stands (s ++ t) met x
-  pub cut : (t : List ℕ) → Cut (within_of x) (length (s ++ t)) → unlimited (s ++ t) ≡ refused (refusal past_end around)
+  pub cut : (t : List ℕ) → Cut (within_of x) (length (s ++ t)) → unlimited (s ++ t) ≡ refused (refusal PastEnd around)
 
 -- ---- what an item does
 
 -- A fault of form decides.
-pub fault-is : {u : List ℕ} {met : List Frame} {x : Stand} {r : Refusal} → Stands u met x → next_of u x.cursor ≡ Next.Refused r → unlimited u ≡ refused r
+pub fault-is : {u : List ℕ} {met : List Frame} {x : Stand} {r : Refusal} → Stands u met x → next_of u x.cursor ≡ Err r → unlimited u ≡ refused r
 unfolding turn_of next_turn
 fault-is {u} {met} {x} {r} p e =
     sym
-    (subst (λ (n : Next). TurnStands u met x.cursor.at (next_turn u x n)) e
+    (subst (λ (n : Result (Option (Item × Cursor)) Refusal). TurnStands u met x.cursor.at (next_turn u x n)) e
     (turn_stands p (subst (Near p) (sym e) tt)))
 
 -- An item that ends within the limit.
-pub found_is : {u : List ℕ} {met : List Frame} {x : Stand} {i : Item} {d : Cursor} → Stands u met x → next_of u x.cursor ≡ Found i d → d.at ≤ octets_limit
+pub found_is : {u : List ℕ} {met : List Frame} {x : Stand} {i : Item} {d : Cursor} → Stands u met x → next_of u x.cursor ≡ Ok (Some (i, d)) → d.at ≤ octets_limit
     → TurnStands u met x.cursor.at (effect_turn x d (place_at i) (effect_of u x.standing i))
 unfolding turn_of next_turn
 found_is {u} {met} {x} p e h =
-    subst (λ (n : Next). TurnStands u met x.cursor.at (next_turn u x n)) e
+    subst (λ (n : Result (Option (Item × Cursor)) Refusal). TurnStands u met x.cursor.at (next_turn u x n)) e
     (turn_stands p (subst (Near p) (sym e) h))
 
 -- What a turn comes to, by the effect that it carries out.
-abbrev Bare : Effect → Type 0
-Bare Effect.Pass = Unit {0}
-Bare (Effect.Order little) = Unit {0}
-Bare (Effect.Count n) = Unit {0}
-Bare (Effect.Sequences n) = Unit {0}
-Bare (Effect.Start z) = Unit {0}
-Bare (Effect.All ch) = Unit {0}
-Bare (Effect.One channel ch) = Unit {0}
-Bare (Effect.Frame start len) = ⊥
-Bare (Effect.Refused n) = Unit {0}
+abbrev Bare : Result Effect Fault → Type 0
+Bare (Ok Effect.Pass) = Unit {0}
+Bare (Ok (Effect.Order little)) = Unit {0}
+Bare (Ok (Effect.Count n)) = Unit {0}
+Bare (Ok (Effect.Sequences n)) = Unit {0}
+Bare (Ok (Effect.Start z)) = Unit {0}
+Bare (Ok (Effect.All ch)) = Unit {0}
+Bare (Ok (Effect.One channel ch)) = Unit {0}
+Bare (Ok (Effect.Frame start len)) = ⊥
+Bare (Err fault) = Unit {0}
 
-abbrev StepsTo : Stand → Cursor → ℕ → Effect → Step → Stand → Type 0
-StepsTo x c place e (Step.Frame v) y = (e ≡ Effect.Frame v.place v.len) × (y.cursor ≡ c) × (y.frames ≡ x.frames + 1)
-StepsTo x c place e Step.Ended y = ⊥
-StepsTo x c place e (Step.Refused r) y = r.place ≡ place
+abbrev StepsTo : Stand → Cursor → ℕ → Result Effect Fault → Result (Option Waveform) Refusal → Stand → Type 0
+StepsTo x c place e (Ok (Some v)) y = (e ≡ Ok (Effect.Frame v.place v.len)) × (y.cursor ≡ c) × (y.frames ≡ x.frames + 1)
+StepsTo x c place e (Ok None) y = ⊥
+StepsTo x c place e (Err r) y = r.place ≡ place
 
-abbrev pub TurnsTo : Stand → Cursor → ℕ → Effect → Turn → Type 0
+abbrev pub TurnsTo : Stand → Cursor → ℕ → Result Effect Fault → Turn → Type 0
 TurnsTo x c place e (on y) = Bare e × (y.cursor ≡ c) × (y.frames ≡ x.frames)
 TurnsTo x c place e (stops z) = StepsTo x c place e z.step z.at
 
 module _ (x : Stand) (c : Cursor) (place : ℕ) where
-  framed_to : (start len : ℕ) (f : Framed) → TurnsTo x c place (Effect.Frame start len) (framed_turn x c place start len f)
+  framed_to : (start len : ℕ) (f : Result (ℕ × Standing) Fault) → TurnsTo x c place (Ok (Effect.Frame start len)) (framed_turn x c place start len f)
   unfolding framed_turn
-  framed_to start len (Framed.Taken n st) = (refl, refl, refl)
-  framed_to start len (Framed.Refused n) = refl
+  framed_to start len (Ok (n, st)) = (refl, refl, refl)
+  framed_to start len (Err fault) = refl
 
-  pub turns_to : (e : Effect) → TurnsTo x c place e (effect_turn x c place e)
+  pub turns_to : (e : Result Effect Fault) → TurnsTo x c place e (effect_turn x c place e)
   unfolding effect_turn
-  turns_to Effect.Pass = (tt, refl, refl)
-  turns_to (Effect.Order little) = (tt, refl, refl)
-  turns_to (Effect.Count n) = (tt, refl, refl)
-  turns_to (Effect.Sequences n) = (tt, refl, refl)
-  turns_to (Effect.Start z) = (tt, refl, refl)
-  turns_to (Effect.All ch) = (tt, refl, refl)
-  turns_to (Effect.One channel ch) = (tt, refl, refl)
-  turns_to (Effect.Frame start len) = framed_to start len _
-  turns_to (Effect.Refused n) = refl
+  turns_to (Ok Effect.Pass) = (tt, refl, refl)
+  turns_to (Ok (Effect.Order little)) = (tt, refl, refl)
+  turns_to (Ok (Effect.Count n)) = (tt, refl, refl)
+  turns_to (Ok (Effect.Sequences n)) = (tt, refl, refl)
+  turns_to (Ok (Effect.Start z)) = (tt, refl, refl)
+  turns_to (Ok (Effect.All ch)) = (tt, refl, refl)
+  turns_to (Ok (Effect.One channel ch)) = (tt, refl, refl)
+  turns_to (Ok (Effect.Frame start len)) = framed_to start len _
+  turns_to (Err fault) = refl
 
 -- ---- phase by phase
 
@@ -154,7 +153,7 @@ pub record InHead (s : List ℕ) (n : ℕ) (x : Stand) (around : ℕ) (v : Wavef
   pub resumes : Resumes s n x around gs
   pub tells : Tells s v x resumes.met
   pub octets : drop x.cursor.at s ≡ p
-  pub wants : form_of (is_inside (within_of x)) p ≡ Form.More
+  pub wants : form_of (is_inside (within_of x)) p ≡ Ok None
   pub goes : Inside (within_of x) (suc (length s))
 
 -- An item with its head, of which `left` octets are still to come.
@@ -162,7 +161,7 @@ pub record Begun (s : List ℕ) (x : Stand) (tag left : ℕ) : Type 0 where
   pub start : ℕ
   pub len : ℕ
   pub here : x.cursor.at < length s
-  pub form : form_of (is_inside (within_of x)) (drop x.cursor.at s) ≡ Form.Primitive tag start len
+  pub form : form_of (is_inside (within_of x)) (drop x.cursor.at s) ≡ Ok (Some (ItemHead.Primitive tag start len))
   pub begun : x.cursor.at + start ≤ length s
   pub ends : x.cursor.at + start + len ≡ length s + left
   pub fits : Inside (within_of x) (length s + left)
@@ -190,7 +189,7 @@ pub record InWave (s : List ℕ) (n : ℕ) (y : Stand) (around : ℕ) (v : Wavef
   pub ends : v.place + v.len ≡ length s + left
   pub near : length s + left ≤ octets_limit
   pub stands : (u : List ℕ) → length s + left ≤ length (s ++ u) → Stands (s ++ u) (met ++ (frame_by (s ++ u) v y ∷ [])) y × Counts v (frame_by (s ++ u) v y)
-  pub cuts : (u : List ℕ) → length (s ++ u) < length s + left → unlimited (s ++ u) ≡ refused (refusal past_end around)
+  pub cuts : (u : List ℕ) → length (s ++ u) < length s + left → unlimited (s ++ u) ≡ refused (refusal PastEnd around)
   pub behind : y.cursor ≡ cursor (length s + left) Root
   pub many-channels : v.channels ≡ length (channels_by v y)
   pub good : Good (channels_by v y)
@@ -202,14 +201,14 @@ pub record InWave (s : List ℕ) (n : ℕ) (y : Stand) (around : ℕ) (v : Wavef
 -- at `around`.
 pub record Sure (s : List ℕ) (n around left : ℕ) (r : Refusal) : Type 0 where
   pub counts : n ≡ length s
-  pub cuts : (t : List ℕ) → length (s ++ t) < length s + left → unlimited (s ++ t) ≡ refused (refusal past_end around)
+  pub cuts : (t : List ℕ) → length (s ++ t) < length s + left → unlimited (s ++ t) ≡ refused (refusal PastEnd around)
   pub sure : length s + left ≤ octets_limit → (t : List ℕ) → length s + left ≤ length (s ++ t) → unlimited (s ++ t) ≡ refused r
   pub passes : 0 < left → (t : List ℕ) → length s + left ≤ length (s ++ t) → CutsFrom (suc around) (unlimited (s ++ t))
 
 -- A refusal is settled: every longer file has it.
 abbrev pub Settled : List ℕ → Answer ℕ → Type 0
 Settled s (answered n) = ⊥
-Settled s (refused_as number place) = (t : List ℕ) → unlimited (s ++ t) ≡ refused (refusal number place)
+Settled s (refused_as fault place) = (t : List ℕ) → unlimited (s ++ t) ≡ refused (refusal fault place)
 
 abbrev pub FollowsIn : List ℕ → ℕ → Stand → ℕ → Waveform → List Given → Phase → Type 0
 FollowsIn s n x around v gs (head p) = InHead s n x around v gs p
@@ -242,16 +241,16 @@ module _ (s : List ℕ) (n : ℕ) (x : Stand) (around : ℕ) (v : Waveform) (ph 
 
   pub condemned_follows : (left : ℕ) (r : Refusal) → Inside (within_of x) (length s + left)
       → (length s + left ≤ octets_limit → (t : List ℕ) → Whole (within_of x) (length (s ++ t)) → length s + left ≤ length (s ++ t) → unlimited (s ++ t) ≡ refused r)
-      → ((t : List ℕ) → Whole (within_of x) (length (s ++ t)) → length (s ++ t) < length s + left → unlimited (s ++ t) ≡ refused (refusal past_end cut_here))
+      → ((t : List ℕ) → Whole (within_of x) (length (s ++ t)) → length (s ++ t) < length s + left → unlimited (s ++ t) ≡ refused (refusal PastEnd cut_here))
       → (0 < left → (t : List ℕ) → Whole (within_of x) (length (s ++ t)) → length s + left ≤ length (s ++ t) → CutsFrom (suc x.cursor.at) (unlimited (s ++ t)))
       → (y : Stand) → Follows s gs (condemned (within_of x) left r (link n y cut_here v ph))
   unfolding condemned
   condemned_follows left r fits f g m y = by (within_of x) p.cut p.outer p.stands fits f g m
     where
-      by : (w : Within) → ((t : List ℕ) → Cut w (length (s ++ t)) → unlimited (s ++ t) ≡ refused (refusal past_end around)) → Outer w around x.cursor.at
+      by : (w : Within) → ((t : List ℕ) → Cut w (length (s ++ t)) → unlimited (s ++ t) ≡ refused (refusal PastEnd around)) → Outer w around x.cursor.at
           → ((t : List ℕ) → Whole w (length (s ++ t)) → Stands (s ++ t) p.met x) → Inside w (length s + left)
           → (length s + left ≤ octets_limit → (t : List ℕ) → Whole w (length (s ++ t)) → length s + left ≤ length (s ++ t) → unlimited (s ++ t) ≡ refused r)
-          → ((t : List ℕ) → Whole w (length (s ++ t)) → length (s ++ t) < length s + left → unlimited (s ++ t) ≡ refused (refusal past_end (cut_at w x.cursor.at around)))
+          → ((t : List ℕ) → Whole w (length (s ++ t)) → length (s ++ t) < length s + left → unlimited (s ++ t) ≡ refused (refusal PastEnd (cut_at w x.cursor.at around)))
           → (0 < left → (t : List ℕ) → Whole w (length (s ++ t)) → length s + left ≤ length (s ++ t) → CutsFrom (suc x.cursor.at) (unlimited (s ++ t)))
           → Follows s gs (waiting (lasts_in w n left) r (link n y (cut_at w x.cursor.at around) v ph))
       by Within.Root c o d i f g m =

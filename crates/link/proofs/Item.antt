@@ -5,7 +5,10 @@
 --     effect_frame    a waveform's effect
 --     effect_bare     no other item asks for a frame
 -- Assumes nothing.
-use Prim.Native.Nat.{ℕ, zero, suc, ◌+◌, ◌-◌, ◌≤◌}
+use Rattle.effects.specs.declared.Effect.{Effect}
+use Rattle.heads.specs.declared.ItemHead.{ItemHead}
+use Rattle.std.specs.Prelude.{Result, Ok, Option, Some}
+use Prim.Native.Nat.{ℕ, zero, suc, ◌+◌, ◌≤◌}
 use mathlib.Core.Path.{◌≡◌, refl, sym, ◌∙◌, ap, subst}
 use mathlib.Core.List.{List, ◌++◌}
 use mathlib.Core.Bool.{Bool, true, false}
@@ -16,16 +19,15 @@ use lib.ListN.{length, take, drop, length-drop, length-take}
 use lib.Seq.{drop-append-le, take-append-le, take_all, take-length}
 use Rattle.octets.specs.Pick.{pick, both}
 use Rattle.octets.proofs.Pick.{pick_cases}
-use Rattle.heads.specs.declared.Head.{Head}
+use Rattle.heads.specs.declared.Refusal.{Refusal}
+use Rattle.items.specs.declared.Cursor.{Cursor}
 use Rattle.items.specs.declared.Within.{Within}
 use Rattle.items.specs.declared.Within.TheVariants.{Root}
 use Rattle.items.specs.declared.Item.{Item}
 use Rattle.items.specs.declared.Item.TheVariants.{Plain, Member, Mark}
-use Rattle.items.specs.declared.Next.TheVariants.{Found}
 use Rattle.items.specs.Walk.{cursor, ends_open, item_of}
 use Rattle.definitions.specs.Define.{tagged}
 use Rattle.standing.specs.declared.Standing.{Standing}
-use Rattle.effects.specs.declared.Effect.{Effect}
 use Rattle.effects.specs.Effects.{value_at, effect_of, plain_effect, member_effect, root_effect}
 use Rattle.effects.proofs.Kept.{plain_kept, member_kept}
 use Rattle.verdict.specs.Verdict.{place_at}
@@ -45,14 +47,16 @@ item_found Within.Root at tag start len = Plain at tag (at + start) len
 item_found (Within.Definite channel end) at tag start len = Member at channel tag (at + start) len
 item_found (Within.Open channel group) at tag start len = pick (ends_open tag len) (Mark at) (Member at channel tag (at + start) len)
 
-pub found_item : (w : Within) (at tag start len : ℕ) → item_of at w (Head.Primitive tag start len) ≡ Found (item_found w at tag start len) (cursor (at + start + len) (within_after w tag len))
+pub found_item : (w : Within) (at tag start len : ℕ) → item_of at w (Ok (ItemHead.Primitive tag start len)) ≡ Ok (Some (item_found w at tag start len, cursor (at + start + len) (within_after w tag len)))
 unfolding item_of within_after
 found_item Within.Root at tag start len = refl
 found_item (Within.Definite channel end) at tag start len = refl
 found_item (Within.Open channel group) at tag start len = by (ends_open tag len)
   where
-    by : (b : Bool) → pick b (Found (Mark at) (cursor (at + start + len) Root)) (Found (Member at channel tag (at + start) len) (cursor (at + start + len) (Within.Open channel group)))
-        ≡ Found (pick b (Mark at) (Member at channel tag (at + start) len)) (cursor (at + start + len) (pick b Root (Within.Open channel group)))
+    by : (b : Bool)
+        → ◌≡◌ {A = Result (Option (Item × Cursor)) Refusal}
+        (pick b (Ok (Some (Mark at, cursor (at + start + len) Root))) (Ok (Some (Member at channel tag (at + start) len, cursor (at + start + len) (Within.Open channel group)))))
+        (Ok (Some (pick b (Mark at) (Member at channel tag (at + start) len), cursor (at + start + len) (pick b Root (Within.Open channel group)))))
     by true = refl
     by false = refl
 
@@ -90,7 +94,7 @@ module _ (s t : List ℕ) (st : Standing) (at tag start len : ℕ) (e : at + sta
   member_same : (channel : ℕ) → effect_of (s ++ t) st (Member at channel tag (at + start) len) ≡ effect_of kept_of st (Member at channel tag 0 (length kept_of))
   unfolding effect_of
   member_same channel =
-      ap (pick (eqb st.counted 0) Effect.Pass)
+      ap (pick (eqb st.counted 0) (Ok Effect.Pass))
       (member_kept st channel (value_at (s ++ t) (at + start) len) (tagged tag)
       ∙ ap (λ (v : List ℕ). member_effect st channel v (tagged tag)) value-kept)
 
@@ -114,9 +118,9 @@ module _ (s t : List ℕ) (st : Standing) (at tag start len : ℕ) (e : at + sta
 
 -- ---- a waveform
 
-pub effect_frame : (s : List ℕ) (st : Standing) (at from len : ℕ) → from + len ≤ length s → effect_of s st (Plain at 0x1E from len) ≡ Effect.Frame from len
+pub effect_frame : (s : List ℕ) (st : Standing) (at from len : ℕ) → from + len ≤ length s → effect_of s st (Plain at 0x1E from len) ≡ Ok (Effect.Frame from len)
 unfolding effect_of plain_effect root_effect tagged
-effect_frame s st at from len h = ap (Effect.Frame from) (rw (length-take, length-drop) (omega arith))
+effect_frame s st at from len h = ap (λ (n : ℕ). Ok (Effect.Frame from n)) (rw (length-take, length-drop) (omega arith))
 
 -- No other item asks for a frame.
 abbrev IsPlain : ℕ → Item → Type 0
@@ -125,10 +129,10 @@ IsPlain tag (Item.Group place channel) = ⊥
 IsPlain tag (Item.Member place channel other start len) = ⊥
 IsPlain tag (Item.Mark place) = ⊥
 
-frame_plain : (s : List ℕ) (st : Standing) (i : Item) {start len : ℕ} → effect_of s st i ≡ Effect.Frame start len → IsPlain 0x1E i
+frame_plain : (s : List ℕ) (st : Standing) (i : Item) {start len : ℕ} → effect_of s st i ≡ Ok (Effect.Frame start len) → IsPlain 0x1E i
 frame_plain s st i e = let w = waveform_found s st i (sym e) refl in subst (IsPlain 0x1E) (sym w.item) w.waves
 
-pub effect_bare : (s : List ℕ) (st : Standing) (w : Within) (at tag start len : ℕ) → Plainly w tag → {from long : ℕ} → effect_of s st (item_found w at tag start len) ≡ Effect.Frame from long → ⊥
+pub effect_bare : (s : List ℕ) (st : Standing) (w : Within) (at tag start len : ℕ) → Plainly w tag → {from long : ℕ} → effect_of s st (item_found w at tag start len) ≡ Ok (Effect.Frame from long) → ⊥
 effect_bare s st Within.Root at tag start len o e = o (frame_plain s st _ e)
 effect_bare s st (Within.Definite channel end) at tag start len o e = frame_plain s st _ e
 effect_bare s st (Within.Open channel group) at tag start len o e = by (ends_open tag len) (frame_plain s st _ e)
@@ -137,5 +141,5 @@ effect_bare s st (Within.Open channel group) at tag start len o e = by (ends_ope
     by true z = z
     by false z = z
 
-pub group_bare : (s : List ℕ) (st : Standing) (place channel : ℕ) {from long : ℕ} → effect_of s st (Item.Group place channel) ≡ Effect.Frame from long → ⊥
+pub group_bare : (s : List ℕ) (st : Standing) (place channel : ℕ) {from long : ℕ} → effect_of s st (Item.Group place channel) ≡ Ok (Effect.Frame from long) → ⊥
 group_bare s st place channel e = frame_plain s st _ e

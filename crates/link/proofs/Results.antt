@@ -6,7 +6,8 @@
 --     fed-past        past the limit: 15, if nothing was refused before
 --     given-all       the samples there of an accepted file, in file order
 -- Assumes nothing.
-use Prim.Native.Nat.{ℕ, ◌+◌, ◌-◌, ◌≤◌, ◌<◌}
+use Rattle.heads.specs.declared.Fault.{Fault}
+use Prim.Native.Nat.{ℕ, ◌≤◌, ◌<◌}
 use mathlib.Core.Path.{◌≡◌, refl, sym, ◌∙◌, ap, subst}
 use mathlib.Core.List.{List, [], ◌∷◌, ◌++◌, append_assoc, append-nil}
 use mathlib.Core.Bool.{Bool, true, false}
@@ -17,7 +18,7 @@ use lib.ListN.{length, take, drop, length-drop, take-append-drop}
 use lib.Seq.{length-take-le}
 use Rattle.octets.specs.Pick.{pick}
 use Rattle.octets.proofs.Pick.{pick_cases}
-use Rattle.heads.specs.Refusals.{long_file}
+use Rattle.heads.specs.declared.Fault.TheVariants.{LongFile}
 use Rattle.heads.specs.Answer.{Answer, answered, refused_as}
 use Rattle.items.specs.Walk.{refusal}
 use Rattle.layout.specs.Frame.{Frame}
@@ -59,15 +60,15 @@ fed-check {l₀} fresh s h = sym (end_follows s (given_by l₀ s) (fed_with l₀
 -- ---- an answer
 
 -- A phase that is an answer, and every other.
-answer_of : {A : Type 0} (p : Phase) → ((a : Answer ℕ) → p ≡ decided a → A) → (is_decided p ≡ false → A) → A
-answer_of (head p) f g = g refl
-answer_of (value tag left kept) f g = g refl
-answer_of (waveform left t) f g = g refl
-answer_of (waits left r) f g = g refl
-answer_of (decided a) f g = f a refl
+by_answer : {A : Type 0} (p : Phase) → ((a : Answer ℕ) → p ≡ decided a → A) → (is_decided p ≡ false → A) → A
+by_answer (head p) f g = g refl
+by_answer (value tag left kept) f g = g refl
+by_answer (waveform left t) f g = g refl
+by_answer (waits left r) f g = g refl
+by_answer (decided a) f g = f a refl
 
-pub fed_settled : {l₀ : Link} → Fresh l₀ → (s : List ℕ) (number place : ℕ) → length s ≤ octets_limit → (fed_with l₀ s).phase ≡ decided (refused_as number place) → (t : List ℕ) → unlimited (s ++ t) ≡ refused (refusal number place)
-fed_settled {l₀} fresh s number place h e =
+pub fed_settled : {l₀ : Link} → Fresh l₀ → (s : List ℕ) (fault : Fault) (place : ℕ) → length s ≤ octets_limit → (fed_with l₀ s).phase ≡ decided (refused_as fault place) → (t : List ℕ) → unlimited (s ++ t) ≡ refused (refusal fault place)
+fed_settled {l₀} fresh s fault place h e =
     let l = fed_with l₀ s in
     (subst (FollowsIn s l.count l.stand l.around l.frame (given_by l₀ s)) e (fed_follows fresh s h)).0
 
@@ -106,7 +107,7 @@ at_limit l₀ s = fed_with l₀ (take octets_limit s)
 
 -- What a file that passes the limit comes to: the refusal that was given before, or 15.
 unfoldable pub past_limit : Link → Link
-past_limit l = pick (is_decided l.phase) l (refused_in (refusal long_file 0) l)
+past_limit l = pick (is_decided l.phase) l (refused_in (refusal LongFile 0) l)
 
 -- One octet more than a file may have.
 past-steps : (l : Link) (b : ℕ) → (is_decided l.phase ≡ false → l.count ≡ octets_limit) → stepped l b ≡ past_limit l
@@ -114,21 +115,21 @@ unfolding stepped past_limit
 past-steps l b h = by (is_decided l.phase) refl
   where
     by : (x : Bool) → is_decided l.phase ≡ x
-        → pick x l (pick (leb octets_limit l.count) (refused_in (refusal long_file 0) l) (taken_in b l.phase (counted l))) ≡ pick x l (refused_in (refusal long_file 0) l)
+        → pick x l (pick (leb octets_limit l.count) (refused_in (refusal LongFile 0) l) (taken_in b l.phase (counted l))) ≡ pick x l (refused_in (refusal LongFile 0) l)
     by true e = refl
     by false e = simp (le-leb octets_limit l.count (omega (arith, h e)))
 
 past-gives : (l : Link) (b : ℕ) → (is_decided l.phase ≡ false → l.count ≡ octets_limit) → gives l b ≡ []
-past-gives l b h = answer_of l.phase (λ a e. decided-gives l a e b) (λ e. unfold gives in simp (le-leb octets_limit l.count (omega (arith, h e))))
+past-gives l b h = by_answer l.phase (λ a e. decided-gives l a e b) (λ e. unfold gives in simp (le-leb octets_limit l.count (omega (arith, h e))))
 
 past-answer : (l : Link) → (a : Answer ℕ) × ((past_limit l).phase ≡ decided a)
 unfolding past_limit
-past-answer l = answer_of l.phase (λ a e. (a, by_answer a e)) (λ e. (refused_as long_file 0, by_limit e))
+past-answer l = by_answer l.phase (λ a e. (a, by_given a e)) (λ e. (refused_as LongFile 0, by_limit e))
   where
-    by_answer : (a : Answer ℕ) → l.phase ≡ decided a → (pick (is_decided l.phase) l (refused_in (refusal long_file 0) l)).phase ≡ decided a
-    by_answer a e = simp e
+    by_given : (a : Answer ℕ) → l.phase ≡ decided a → (pick (is_decided l.phase) l (refused_in (refusal LongFile 0) l)).phase ≡ decided a
+    by_given a e = simp e
 
-    by_limit : is_decided l.phase ≡ false → (pick (is_decided l.phase) l (refused_in (refusal long_file 0) l)).phase ≡ decided (refused_as long_file 0)
+    by_limit : is_decided l.phase ≡ false → (pick (is_decided l.phase) l (refused_in (refusal LongFile 0) l)).phase ≡ decided (refused_as LongFile 0)
     by_limit e = simp e
 
 module _ {l₀ : Link} (fresh : Fresh l₀) (s : List ℕ) (long : octets_limit < length s) where

@@ -14,7 +14,7 @@ use lib.Dec.{ltb}
 use native.Mathlib.Nat.{min-le_left}
 use lib.ListN.{length, get_or, take, length-append, length-take}
 use lib.Seq.{take_all}
-use Rattle.octets.specs.Pick.{pick, either}
+use Rattle.octets.specs.Pick.{pick}
 use Rattle.heads.specs.declared.Refusal.{Refusal}
 use Rattle.dated.specs.Dated.{zero_dated}
 use Rattle.layout.specs.Frame.{width_in}
@@ -22,7 +22,7 @@ use Rattle.standing.specs.Standing.{octets_limit}
 use Rattle.walk.specs.declared.Waveform.{Waveform}
 use Rattle.walk.specs.Advance.{Stand}
 use Rattle.link.specs.Link.{Coming, coming, Given, Phase, value, waveform, waits, Link, link, waiting, waved, valued, kept_limit, next_coming, sample_on, given_as, taken_in, is_decided, stepped, fed_with, sample_by, gives_in, gives, given_by}
-use Rattle.link.specs.Feed.{Fed, fed, is_head, due, onto, feed_of}
+use Rattle.link.specs.Feed.{fed, is_head, due, onto, feed_of}
 use Rattle.link.specs.Runs.{stops_behind, Steady, behind, Leads}
 use Rattle.link.proofs.Fed.{kept_on}
 use Rattle.link.proofs.Results.{fed_pieces_lem, given_pieces_lem}

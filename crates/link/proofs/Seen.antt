@@ -4,6 +4,9 @@
 --     next_fits, next_past      an item whose value fits, and one whose value does not
 --     next_definite, -definite-past, -open    groups
 -- Assumes nothing.
+use Rattle.heads.specs.declared.Fault.{Fault}
+use Rattle.heads.specs.declared.ItemHead.{ItemHead}
+use Rattle.std.specs.Prelude.{Ok, Err, Some, Result, Option, None}
 use Prim.Native.Nat.{ℕ, ◌+◌, ◌-◌, ◌≤◌, ◌<◌}
 use mathlib.Core.Path.{◌≡◌, refl, sym, ◌∙◌, ap, subst}
 use mathlib.Core.List.{List, [], ◌++◌, append-nil}
@@ -11,16 +14,12 @@ use native.Mathlib.Omega.{arith}
 use borrow.Author.Tests.{lt-ltb, le-ltb}
 use lib.ListN.{length, take, drop, length-append, length-drop}
 use lib.Seq.{drop-append-le, take-append-add, length-take-le}
-use Rattle.heads.specs.declared.Form.{Form}
-use Rattle.heads.specs.declared.Head.{Head}
 use Rattle.heads.specs.Head.{form_of, head_by, head_of}
-use Rattle.heads.specs.Refusals.{past_end}
+use Rattle.heads.specs.declared.Fault.TheVariants.{PastEnd}
 use Rattle.heads.proofs.Forms.{FormKept, form_keeps}
 use Rattle.items.specs.declared.Within.{Within}
-use Rattle.items.specs.declared.Within.TheVariants.{Root}
 use Rattle.items.specs.declared.Cursor.{Cursor}
 use Rattle.items.specs.declared.Item.{Item}
-use Rattle.items.specs.declared.Next.{Next}
 use Rattle.items.specs.Walk.{refusal, cursor, stands_in, is_inside, extent, item_of, next_of}
 use Rattle.items.proofs.Walks.{next-head}
 
@@ -90,7 +89,7 @@ module _ (s t : List ℕ) (c : Cursor) (here : c.at < length s) where
     all-some e = omega (arith, length-append come (tail_of s t around), come_long)
 
     -- What stands there, by the head.
-    by_form : (f : Form) → form_of (is_inside around) all ≡ f → next_of (s ++ t) c ≡ item_of c.at around (head_by room f)
+    by_form : (f : Result (Option ItemHead) Fault) → form_of (is_inside around) all ≡ f → next_of (s ++ t) c ≡ item_of c.at around (head_by room f)
     unfolding head_of
     by_form f e =
         sym
@@ -98,46 +97,46 @@ module _ (s t : List ℕ) (c : Cursor) (here : c.at < length s) where
         (λ i. head_by (room_by around inside whole i) (e i)))
 
     -- The same where the octets that have come settle the head.
-    settled : (f : Form) → form_of (is_inside around) come ≡ f → FormKept f (form_of (is_inside around) all)
-    settled f e = subst (λ (g : Form). FormKept g (form_of (is_inside around) all)) e (form_keeps (is_inside around) come (tail_of s t around))
+    settled : (f : Result (Option ItemHead) Fault) → form_of (is_inside around) come ≡ f → FormKept f (form_of (is_inside around) all)
+    settled f e = subst (λ (g : Result (Option ItemHead) Fault). FormKept g (form_of (is_inside around) all)) e (form_keeps (is_inside around) come (tail_of s t around))
 
-    pub next_faulty : (number : ℕ) → form_of (is_inside around) come ≡ Form.Faulty number → next_of (s ++ t) c ≡ Next.Refused (refusal number c.at)
+    pub next_faulty : (fault : Fault) → form_of (is_inside around) come ≡ Err fault → next_of (s ++ t) c ≡ Err (refusal fault c.at)
     unfolding head_by item_of
-    next_faulty number e = by_form (Form.Faulty number) (settled (Form.Faulty number) e)
+    next_faulty fault e = by_form (Err fault) (settled (Err fault) e)
 
-    module _ (tag start len : ℕ) (e : form_of (is_inside around) come ≡ Form.Primitive tag start len) where
-      pub next_fits : start + len ≤ room → next_of (s ++ t) c ≡ item_of c.at around (Head.Primitive tag start len)
+    module _ (tag start len : ℕ) (e : form_of (is_inside around) come ≡ Ok (Some (ItemHead.Primitive tag start len))) where
+      pub next_fits : start + len ≤ room → next_of (s ++ t) c ≡ item_of c.at around (Ok (ItemHead.Primitive tag start len))
       unfolding head_by
       next_fits h =
           let k : len ≤ room - start = omega arith in
-          by_form (Form.Primitive tag start len) (settled (Form.Primitive tag start len) e) ∙ simp (le-ltb (room - start) len k)
+          by_form (Ok (Some (ItemHead.Primitive tag start len))) (settled (Ok (Some (ItemHead.Primitive tag start len))) e) ∙ simp (le-ltb (room - start) len k)
 
-      pub next_past : start ≤ room → room < start + len → next_of (s ++ t) c ≡ Next.Refused (refusal past_end c.at)
+      pub next_past : start ≤ room → room < start + len → next_of (s ++ t) c ≡ Err (refusal PastEnd c.at)
       unfolding head_by item_of
       next_past g h =
           let k : room - start < len = omega arith in
-          by_form (Form.Primitive tag start len) (settled (Form.Primitive tag start len) e) ∙ simp (lt-ltb (room - start) len k)
+          by_form (Ok (Some (ItemHead.Primitive tag start len))) (settled (Ok (Some (ItemHead.Primitive tag start len))) e) ∙ simp (lt-ltb (room - start) len k)
 
     module _ (channel start : ℕ) where
-      pub next_definite : (len : ℕ) → form_of (is_inside around) come ≡ Form.Definite channel start len → start + len ≤ room
-          → next_of (s ++ t) c ≡ Next.Found (Item.Group c.at channel) (cursor (c.at + start) (Within.Definite channel (c.at + start + len)))
+      pub next_definite : (len : ℕ) → form_of (is_inside around) come ≡ Ok (Some (ItemHead.Definite channel start len)) → start + len ≤ room
+          → next_of (s ++ t) c ≡ Ok (Some (Item.Group c.at channel, cursor (c.at + start) (Within.Definite channel (c.at + start + len))))
       unfolding head_by item_of
       next_definite len e h =
           let k : len ≤ room - start = omega arith in
-          by_form (Form.Definite channel start len) (settled (Form.Definite channel start len) e) ∙ simp (le-ltb (room - start) len k)
+          by_form (Ok (Some (ItemHead.Definite channel start len))) (settled (Ok (Some (ItemHead.Definite channel start len))) e) ∙ simp (le-ltb (room - start) len k)
 
-      pub next_definite_past : (len : ℕ) → form_of (is_inside around) come ≡ Form.Definite channel start len → start ≤ room → room < start + len → next_of (s ++ t) c ≡ Next.Refused (refusal past_end c.at)
+      pub next_definite_past : (len : ℕ) → form_of (is_inside around) come ≡ Ok (Some (ItemHead.Definite channel start len)) → start ≤ room → room < start + len → next_of (s ++ t) c ≡ Err (refusal PastEnd c.at)
       unfolding head_by item_of
       next_definite_past len e g h =
           let k : room - start < len = omega arith in
-          by_form (Form.Definite channel start len) (settled (Form.Definite channel start len) e) ∙ simp (lt-ltb (room - start) len k)
+          by_form (Ok (Some (ItemHead.Definite channel start len))) (settled (Ok (Some (ItemHead.Definite channel start len))) e) ∙ simp (lt-ltb (room - start) len k)
 
-      pub next_open : form_of (is_inside around) come ≡ Form.Open channel start
-          → next_of (s ++ t) c ≡ Next.Found (Item.Group c.at channel) (cursor (c.at + start) (Within.Open channel c.at))
+      pub next_open : form_of (is_inside around) come ≡ Ok (Some (ItemHead.Open channel start))
+          → next_of (s ++ t) c ≡ Ok (Some (Item.Group c.at channel, cursor (c.at + start) (Within.Open channel c.at)))
       unfolding head_by item_of
-      next_open e = by_form (Form.Open channel start) (settled (Form.Open channel start) e)
+      next_open e = by_form (Ok (Some (ItemHead.Open channel start))) (settled (Ok (Some (ItemHead.Open channel start))) e)
 
     -- Nothing is still to come.
-    pub next_wanting : tail_of s t around ≡ [] → form_of (is_inside around) come ≡ Form.More → next_of (s ++ t) c ≡ Next.Refused (refusal past_end c.at)
+    pub next_wanting : tail_of s t around ≡ [] → form_of (is_inside around) come ≡ Ok None → next_of (s ++ t) c ≡ Err (refusal PastEnd c.at)
     unfolding head_by item_of
-    next_wanting n e = by_form Form.More (ap (λ (u : List ℕ). form_of (is_inside around) (come ++ u)) n ∙ ap (form_of (is_inside around)) (append-nil come) ∙ e)
+    next_wanting n e = by_form (Ok None) (ap (λ (u : List ℕ). form_of (is_inside around) (come ++ u)) n ∙ ap (form_of (is_inside around)) (append-nil come) ∙ e)

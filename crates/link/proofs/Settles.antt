@@ -3,15 +3,17 @@
 --     decided_exactly    so it decides as soon as the refusal is settled, and not before
 -- A file that ends inside an item is 3 there, or at the definite group around it. Zeros that complete the item or the group lead past that place.
 -- Assumes nothing.
+use Rattle.std.specs.Prelude.{Result, Ok, Err, Option, Some, None}
+use Rattle.heads.specs.declared.Fault.{Fault}
+use Rattle.heads.specs.declared.ItemHead.{ItemHead}
 use Prim.Native.Nat.{ℕ, suc, ◌+◌, ◌-◌, ◌≤◌, ◌<◌}
 use mathlib.Core.Path.{◌≡◌, refl, sym, ◌∙◌, ap, subst}
 use mathlib.Core.List.{List, [], ◌∷◌, ◌++◌, append-nil, append_assoc}
 use mathlib.Core.Logic.{◌↔◌}
 use native.Mathlib.Omega.{arith}
 use lib.ListN.{length, drop, replicate, length-append, length-drop, length-replicate}
-use Rattle.heads.specs.declared.Form.{Form}
 use Rattle.heads.specs.Head.{unknown_context, form_of}
-use Rattle.heads.specs.Refusals.{context_tag, past_end, unended_group}
+use Rattle.heads.specs.declared.Fault.TheVariants.{ContextTag, PastEnd, UnendedGroup}
 use Rattle.heads.specs.Answer.{Answer, refused_as}
 use Rattle.heads.proofs.Forms.{IfMore, form_found, form_wants}
 use Rattle.items.specs.declared.Within.{Within}
@@ -36,25 +38,25 @@ use Rattle.link.proofs.Told.{ends_there}
 -- ---- an item that has all its octets
 
 -- How many they are, by its head.
-abbrev span_of : Form → ℕ
-span_of Form.More = 0
-span_of (Form.Faulty number) = 0
-span_of (Form.Primitive tag start len) = start + len
-span_of (Form.Definite channel start len) = start + len
-span_of (Form.Open channel start) = start
+abbrev span_of : Result (Option ItemHead) Fault → ℕ
+span_of (Ok None) = 0
+span_of (Err fault) = 0
+span_of (Ok (Some (ItemHead.Primitive tag start len))) = start + len
+span_of (Ok (Some (ItemHead.Definite channel start len))) = start + len
+span_of (Ok (Some (ItemHead.Open channel start))) = start
 
 -- A file is not cut off there.
 module _ (s t : List ℕ) (met : List Frame) (x : Stand) (here : x.cursor.at < length s) (inside : Inside (within_of x) (length s)) (whole : Whole (within_of x) (length (s ++ t))) (p : Stands (s ++ t) met x) where
-  item_cuts : (f : Form) → form_of (is_inside (within_of x)) (drop x.cursor.at s) ≡ f → (f ≡ Form.More → ⊥) → span_of f ≤ ends_in (within_of x) (length (s ++ t)) - x.cursor.at
+  item_cuts : (f : Result (Option ItemHead) Fault) → form_of (is_inside (within_of x)) (drop x.cursor.at s) ≡ f → (f ≡ Ok None → ⊥) → span_of f ≤ ends_in (within_of x) (length (s ++ t)) - x.cursor.at
       → CutsFrom (suc x.cursor.at) (unlimited (s ++ t))
-  item_cuts Form.More e n h = absurd (n refl)
-  item_cuts (Form.Faulty number) e n h =
-      subst (CutsFrom (suc x.cursor.at)) (sym (fault-is p (next_faulty s t x.cursor here inside whole number e)))
+  item_cuts (Ok None) e n h = absurd (n refl)
+  item_cuts (Err fault) e n h =
+      subst (CutsFrom (suc x.cursor.at)) (sym (fault-is p (next_faulty s t x.cursor here inside whole fault e)))
       (λ z. absurd ((form_found (is_inside (within_of x)) (drop x.cursor.at s) refl e).1 z))
-  item_cuts (Form.Primitive tag start len) e n h =
+  item_cuts (Ok (Some (ItemHead.Primitive tag start len))) e n h =
       found_cuts p.reached (next_fits s t x.cursor here inside whole tag start len e h ∙ found_item (within_of x) x.cursor.at tag start len)
-  item_cuts (Form.Definite channel start len) e n h = found_cuts p.reached (next_definite s t x.cursor here inside whole channel start len e h)
-  item_cuts (Form.Open channel start) e n h = found_cuts p.reached (next_open s t x.cursor here inside whole channel start e)
+  item_cuts (Ok (Some (ItemHead.Definite channel start len))) e n h = found_cuts p.reached (next_definite s t x.cursor here inside whole channel start len e h)
+  item_cuts (Ok (Some (ItemHead.Open channel start))) e n h = found_cuts p.reached (next_open s t x.cursor here inside whole channel start e)
 
 -- ---- zeros that complete what is at hand
 
@@ -99,7 +101,7 @@ module _ (s : List ℕ) (n : ℕ) (x : Stand) (around : ℕ) (gs : List Given) (
       let room = room-begun w (length (s ++ t)) (length s + left) (omega (arith, long)) i.fits in (
         t,
         cuts_less (omega (arith, cut_before w around at p.outer)) (unlimited (s ++ t))
-            (item_cuts s t p.met x i.here p.inside whole (p.stands t whole) (Form.Primitive tag i.start i.len) i.form (λ z. subst (IfMore ⊥ (Unit {0})) z tt) (omega (arith, i.ends, room))),
+            (item_cuts s t p.met x i.here p.inside whole (p.stands t whole) (Ok (Some (ItemHead.Primitive tag i.start i.len))) i.form (λ z. subst (IfMore ⊥ (Unit {0})) z tt) (omega (arith, i.ends, room))),
       )
 
   -- The head, which takes ten octets at most, and the value.
@@ -120,15 +122,15 @@ module _ (s : List ℕ) (n : ℕ) (x : Stand) (around : ℕ) (gs : List Given) (
 
 -- ---- an undecided link
 
-module _ (s : List ℕ) (number place : ℕ) (all : (t : List ℕ) → unlimited (s ++ t) ≡ refused (refusal number place)) where
+module _ (s : List ℕ) (fault : Fault) (place : ℕ) (all : (t : List ℕ) → unlimited (s ++ t) ≡ refused (refusal fault place)) where
   -- The answer, if the file ends here.
   abbrev Ends : Answer ℕ → Type 0
-  Ends a = refused_as number place ≡ a
+  Ends a = refused_as fault place ≡ a
 
   -- It is not 3 at a place that a longer file passes.
-  never : (k : ℕ) → Passes s (suc k) → Ends (refused_as past_end k) → ⊥
+  never : (k : ℕ) → Passes s (suc k) → Ends (refused_as PastEnd k) → ⊥
   never k c e =
-      let three : number ≡ past_end = cc in
+      let three : fault ≡ PastEnd = cc in
       let same : place ≡ k = cc in
       omega (arith, subst (CutsFrom (suc k)) (all c.0) c.1 three)
 
@@ -141,27 +143,27 @@ module _ (s : List ℕ) (number place : ℕ) (all : (t : List ℕ) → unlimited
     between_ends o (Within.Open channel group) e d =
         let c : List ℕ = 0x20 ∷ [] in
         let come : drop x.cursor.at (s ++ c) ≡ c = drop_grown s 0x20 x.cursor.at p.before ∙ ap (λ (u : List ℕ). u ++ c) o in
-        let faulty : Stands ((s ++ c) ++ []) p.met x → unlimited ((s ++ c) ++ []) ≡ refused (refusal context_tag x.cursor.at) =
-        λ k. fault-is k (next_faulty (s ++ c) [] x.cursor (omega (arith, grown_long s 0x20, p.before)) (rw e tt) (rw e tt) context_tag (ap (form_of (is_inside (within_of x))) come)) in
-        let one : Ends (refused_as context_tag x.cursor.at) = ap checked_as (sym (all c) ∙ rw (append-nil (s ++ c)) at faulty (p.stands c (rw e tt))) in
-        let ten : context_tag ≡ unended_group = cc in
-        omega arith
+        let faulty : Stands ((s ++ c) ++ []) p.met x → unlimited ((s ++ c) ++ []) ≡ refused (refusal ContextTag x.cursor.at) =
+        λ k. fault-is k (next_faulty (s ++ c) [] x.cursor (omega (arith, grown_long s 0x20, p.before)) (rw e tt) (rw e tt) ContextTag (ap (form_of (is_inside (within_of x))) come)) in
+        let one : Ends (refused_as ContextTag x.cursor.at) = ap checked_as (sym (all c) ∙ rw (append-nil (s ++ c)) at faulty (p.stands c (rw e tt))) in
+        let ten : refused_as ContextTag x.cursor.at ≡ refused_as UnendedGroup group = sym one ∙ d in
+        cc
 
     -- In a head.
-    head-ends : x.cursor.at < length s → (w : Within) → within_of x ≡ w → Ends (refused_as past_end (cut_at w x.cursor.at around)) → ⊥
+    head-ends : x.cursor.at < length s → (w : Within) → within_of x ≡ w → Ends (refused_as PastEnd (cut_at w x.cursor.at around)) → ⊥
     head-ends here Within.Root e d = never x.cursor.at (head_passes s n x around gs p here (subst Free (sym e) (λ k. (tt, tt, refl)))) d
     head-ends here (Within.Definite channel end) e d = never around (group_passes s n x around gs p e) d
     head-ends here (Within.Open channel group) e d = never x.cursor.at (head_passes s n x around gs p here (subst Free (sym e) (λ k. (tt, tt, refl)))) d
 
   -- In each phase but the last a longer file has another verdict.
-  link_settles : (gs : List Given) (l : Link) → Follows s gs l → l.phase ≡ decided (refused_as number place)
+  link_settles : (gs : List Given) (l : Link) → Follows s gs l → l.phase ≡ decided (refused_as fault place)
   unfolding checked_as end_in
-  link_settles gs l p = by l.phase p (ap checked_as (sym (alone (λ (u : List ℕ). unlimited u ≡ refused (refusal number place)) s (all []))) ∙ end_follows s gs l p)
+  link_settles gs l p = by l.phase p (ap checked_as (sym (alone (λ (u : List ℕ). unlimited u ≡ refused (refusal fault place)) s (all []))) ∙ end_follows s gs l p)
     where
       x : Stand
       x = l.stand
 
-      by : (q : Phase) → FollowsIn s l.count x l.around l.frame gs q → Ends (end_in q l) → q ≡ decided (refused_as number place)
+      by : (q : Phase) → FollowsIn s l.count x l.around l.frame gs q → Ends (end_in q l) → q ≡ decided (refused_as fault place)
       by (head []) f e = absurd (between_ends l.count x l.around gs f.resumes f.octets (within_of x) refl e)
       by (head (b ∷ u)) f e =
           let here : x.cursor.at < length s = omega (arith, ap length f.octets, length-drop x.cursor.at s) in
@@ -179,9 +181,9 @@ module _ (s : List ℕ) (number place : ℕ) (all : (t : List ℕ) → unlimited
 
 -- ---- every link
 
-pub fed_settles : {l₀ : Link} → Fresh l₀ → (s : List ℕ) (number place : ℕ) → length s ≤ octets_limit → ((t : List ℕ) → unlimited (s ++ t) ≡ refused (refusal number place)) → (fed_with l₀ s).phase ≡ decided (refused_as number place)
-fed_settles {l₀} fresh s number place h all = link_settles s number place all (given_by l₀ s) (fed_with l₀ s) (fed_follows fresh s h)
+pub fed_settles : {l₀ : Link} → Fresh l₀ → (s : List ℕ) (fault : Fault) (place : ℕ) → length s ≤ octets_limit → ((t : List ℕ) → unlimited (s ++ t) ≡ refused (refusal fault place)) → (fed_with l₀ s).phase ≡ decided (refused_as fault place)
+fed_settles {l₀} fresh s fault place h all = link_settles s fault place all (given_by l₀ s) (fed_with l₀ s) (fed_follows fresh s h)
 
-pub decided_exactly : {l₀ : Link} → Fresh l₀ → (s : List ℕ) (number place : ℕ) → length s ≤ octets_limit
-    → ((fed_with l₀ s).phase ≡ decided (refused_as number place)) ↔ ((t : List ℕ) → unlimited (s ++ t) ≡ refused (refusal number place))
-decided_exactly fresh s number place h = (fed_settled fresh s number place h, fed_settles fresh s number place h)
+pub decided_exactly : {l₀ : Link} → Fresh l₀ → (s : List ℕ) (fault : Fault) (place : ℕ) → length s ≤ octets_limit
+    → ((fed_with l₀ s).phase ≡ decided (refused_as fault place)) ↔ ((t : List ℕ) → unlimited (s ++ t) ≡ refused (refusal fault place))
+decided_exactly fresh s fault place h = (fed_settled fresh s fault place h, fed_settles fresh s fault place h)

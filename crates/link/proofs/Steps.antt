@@ -6,7 +6,11 @@
 --     over_follows, wave_follows        a waveform is over; one begins
 --     faulty_follows, past-follows, wanting-follows    a fault of form
 -- Assumes nothing.
-use Prim.Native.Nat.{ℕ, zero, suc, ◌+◌, ◌-◌, ◌≤◌, ◌<◌}
+use Rattle.heads.specs.declared.Fault.{Fault}
+use Rattle.effects.specs.declared.Effect.{Effect}
+use Rattle.heads.specs.declared.ItemHead.{ItemHead}
+use Rattle.std.specs.Prelude.{Result, Ok, Err, Option, Some, None}
+use Prim.Native.Nat.{ℕ, zero, suc, ◌+◌, ◌≤◌, ◌<◌}
 use mathlib.Core.Path.{◌≡◌, refl, sym, ◌∙◌, ap, subst}
 use mathlib.Core.List.{List, [], ◌∷◌, ◌++◌, append-nil, append_assoc}
 use mathlib.Core.Bool.{Bool, true, false}
@@ -20,23 +24,18 @@ use lib.Seq.{get_or-append_seam}
 use Rattle.octets.specs.Pick.{pick}
 use Rattle.octets.proofs.Pick.{pick_cases}
 use Rattle.heads.specs.declared.Refusal.{Refusal}
-use Rattle.heads.specs.declared.Form.{Form}
-use Rattle.heads.specs.declared.Head.{Head}
 use Rattle.heads.specs.Head.{form_of}
-use Rattle.heads.specs.Refusals.{past_end, long_file}
+use Rattle.heads.specs.declared.Fault.TheVariants.{PastEnd, LongFile}
 use Rattle.items.specs.declared.Within.{Within}
 use Rattle.items.specs.declared.Within.TheVariants.{Root}
 use Rattle.items.specs.declared.Cursor.{Cursor}
 use Rattle.items.specs.declared.Item.{Item}
 use Rattle.items.specs.declared.Item.TheVariants.{Plain}
-use Rattle.items.specs.declared.Next.{Next}
-use Rattle.items.specs.declared.Next.TheVariants.{Found}
 use Rattle.items.specs.Walk.{refusal, cursor, stands_in, is_inside, ends_open, item_of, next_of}
 use Rattle.dated.specs.Dated.{held}
 use Rattle.layout.specs.Frame.{Frame, width_in, channel_in, offset_of}
 use Rattle.there.specs.There.{is_there}
 use Rattle.standing.specs.Standing.{octets_limit}
-use Rattle.effects.specs.declared.Effect.{Effect}
 use Rattle.effects.specs.Effects.{value_at, effect_of}
 use Rattle.verdict.specs.Verdict.{place_at, refused, unlimited}
 use Rattle.verdict.proofs.Cuts.{CutsFrom, found_cuts}
@@ -44,7 +43,6 @@ use Rattle.verdict.proofs.Every.{every_at}
 use Rattle.pass.specs.Scan.{zero_frame}
 use Rattle.reader.proofs.Ordered.{Lies, Blocked, reached_lying}
 use Rattle.walk.specs.declared.Waveform.{Waveform}
-use Rattle.walk.specs.declared.Step.{Step}
 use Rattle.walk.specs.Advance.{Stand, stop, Turn, on, stops, effect_turn}
 use Rattle.walk.specs.Joined.{frame_by}
 use Rattle.walk.proofs.Joins.{Stands, Counts, TurnStands}
@@ -102,7 +100,7 @@ module _ (s : List ℕ) (n : ℕ) (y : Stand) (around : ℕ) (v : Waveform) (gs 
   pub next_follows : (c : Cursor) (met : List Frame) → Tells s v y met → gs ≡ frames_given met → n ≡ length s → y.cursor ≡ c → c.at ≡ length s → y.frames ≡ length met
       → Outer (stands_in c.at c.within) around c.at
       → ((t : List ℕ) → Whole (stands_in c.at c.within) (length (s ++ t)) → Stands (s ++ t) met y)
-      → ((t : List ℕ) → Cut (stands_in c.at c.within) (length (s ++ t)) → unlimited (s ++ t) ≡ refused (refusal past_end around))
+      → ((t : List ℕ) → Cut (stands_in c.at c.within) (length (s ++ t)) → unlimited (s ++ t) ≡ refused (refusal PastEnd around))
       → Follows s gs (link n y around v (head []))
   unfolding form_of
   next_follows c met tells out counts is here many outer stands cut =
@@ -228,27 +226,27 @@ frame_good {s} met f p =
     record { some = l.some; blocks = b; widths = l.wide }
 
 -- What a waveform's effect says.
-abbrev frame_start : Effect → ℕ
-frame_start Effect.Pass = 0
-frame_start (Effect.Order little) = 0
-frame_start (Effect.Count n) = 0
-frame_start (Effect.Sequences n) = 0
-frame_start (Effect.Start z) = 0
-frame_start (Effect.All ch) = 0
-frame_start (Effect.One channel ch) = 0
-frame_start (Effect.Frame start len) = start
-frame_start (Effect.Refused n) = 0
+abbrev frame_start : Result Effect Fault → ℕ
+frame_start (Ok Effect.Pass) = 0
+frame_start (Ok (Effect.Order little)) = 0
+frame_start (Ok (Effect.Count n)) = 0
+frame_start (Ok (Effect.Sequences n)) = 0
+frame_start (Ok (Effect.Start z)) = 0
+frame_start (Ok (Effect.All ch)) = 0
+frame_start (Ok (Effect.One channel ch)) = 0
+frame_start (Ok (Effect.Frame start len)) = start
+frame_start (Err fault) = 0
 
-abbrev frame_length : Effect → ℕ
-frame_length Effect.Pass = 0
-frame_length (Effect.Order little) = 0
-frame_length (Effect.Count n) = 0
-frame_length (Effect.Sequences n) = 0
-frame_length (Effect.Start z) = 0
-frame_length (Effect.All ch) = 0
-frame_length (Effect.One channel ch) = 0
-frame_length (Effect.Frame start len) = len
-frame_length (Effect.Refused n) = 0
+abbrev frame_length : Result Effect Fault → ℕ
+frame_length (Ok Effect.Pass) = 0
+frame_length (Ok (Effect.Order little)) = 0
+frame_length (Ok (Effect.Count n)) = 0
+frame_length (Ok (Effect.Sequences n)) = 0
+frame_length (Ok (Effect.Start z)) = 0
+frame_length (Ok (Effect.All ch)) = 0
+frame_length (Ok (Effect.One channel ch)) = 0
+frame_length (Ok (Effect.Frame start len)) = len
+frame_length (Err fault) = 0
 
 -- ---- an item that is no waveform
 
@@ -266,34 +264,34 @@ module _ (s : List ℕ) (n : ℕ) (x : Stand) (around : ℕ) (v : Waveform) (ph 
   marked_here = link n x cut_place v ph
 
   -- It has this effect, and the next item begins at c.
-  pub record Leads (left : ℕ) (c : Cursor) (e : Effect) : Type 0 where
+  pub record Leads (left : ℕ) (c : Cursor) (e : Result Effect Fault) : Type 0 where
     pub here : c.at ≡ length s
     pub later : at < length s
     pub fits : Inside w (length s + left)
     pub item : Item
     pub place : place_at item ≡ at
-    pub found : (t : List ℕ) → Whole w (length (s ++ t)) → length s + left ≤ length (s ++ t) → next_of (s ++ t) x.cursor ≡ Found item c
+    pub found : (t : List ℕ) → Whole w (length (s ++ t)) → length s + left ≤ length (s ++ t) → next_of (s ++ t) x.cursor ≡ Ok (Some (item, c))
     pub effect : (t : List ℕ) → effect_of (s ++ t) x.standing item ≡ e
-    pub cuts : (t : List ℕ) → Whole w (length (s ++ t)) → length (s ++ t) < length s + left → unlimited (s ++ t) ≡ refused (refusal past_end cut_place)
-    pub bare : (from long : ℕ) → e ≡ Effect.Frame from long → ⊥
+    pub cuts : (t : List ℕ) → Whole w (length (s ++ t)) → length (s ++ t) < length s + left → unlimited (s ++ t) ≡ refused (refusal PastEnd cut_place)
+    pub bare : (from long : ℕ) → e ≡ Ok (Effect.Frame from long) → ⊥
     pub after : (t : List ℕ) → Whole (stands_in c.at c.within) (length (s ++ t)) → Whole w (length (s ++ t)) × (length s + left ≤ length (s ++ t))
-    pub cut : (t : List ℕ) → Cut (stands_in c.at c.within) (length (s ++ t)) → unlimited (s ++ t) ≡ refused (refusal past_end cut_place)
+    pub cut : (t : List ℕ) → Cut (stands_in c.at c.within) (length (s ++ t)) → unlimited (s ++ t) ≡ refused (refusal PastEnd cut_place)
 
-  pub turned_follows : (left : ℕ) (c : Cursor) (e : Effect) → Leads left c e → Follows s gs (turned_by left (effect_turn x c at e) marked_here)
+  pub turned_follows : (left : ℕ) (c : Cursor) (e : Result Effect Fault) → Leads left c e → Follows s gs (turned_by left (effect_turn x c at e) marked_here)
   unfolding turned_by stopped_at
   turned_follows left c e q = by (effect_turn x c at e) (turns_to x c at e) known
     where
       known : (t : List ℕ) → Whole w (length (s ++ t)) → length s + left ≤ length (s ++ t) → TurnStands (s ++ t) p.met at (effect_turn x c at e)
       known t h k =
-          subst (λ (f : Effect). TurnStands (s ++ t) p.met at (effect_turn x c at f)) (q.effect t)
+          subst (λ (f : Result Effect Fault). TurnStands (s ++ t) p.met at (effect_turn x c at f)) (q.effect t)
           (subst (λ (a : ℕ). TurnStands (s ++ t) p.met at (effect_turn x c a (effect_of (s ++ t) x.standing q.item))) q.place
           (found_is (p.stands t h) (q.found t h k) (omega (arith, q.here))))
 
-      by_step : (k : Step) (y : Stand) → TurnsTo x c at e (stops (stop k y))
+      by_step : (k : Result (Option Waveform) Refusal) (y : Stand) → TurnsTo x c at e (stops (stop k y))
           → ((t : List ℕ) → Whole w (length (s ++ t)) → length s + left ≤ length (s ++ t) → TurnStands (s ++ t) p.met at (stops (stop k y))) → Follows s gs (stopped_at left k y marked_here)
-      by_step (Step.Frame u) y to f = absurd (q.bare u.place u.len to.0)
-      by_step Step.Ended y to f = absurd to
-      by_step (Step.Refused r) y to f = condemned_follows s n x around v ph gs limit silent p left r q.fits (λ _ t h k. sym (f t h k)) q.cuts
+      by_step (Ok (Some u)) y to f = absurd (q.bare u.place u.len to.0)
+      by_step (Ok None) y to f = absurd to
+      by_step (Err r) y to f = condemned_follows s n x around v ph gs limit silent p left r q.fits (λ _ t h k. sym (f t h k)) q.cuts
           (λ _ t h k. found_cuts (p.stands t h).reached (q.found t h k)) y
 
       by : (z : Turn) → TurnsTo x c at e z → ((t : List ℕ) → Whole w (length (s ++ t)) → length s + left ≤ length (s ++ t) → TurnStands (s ++ t) p.met at z) → Follows s gs (turned_by left z marked_here)
@@ -303,7 +301,7 @@ module _ (s : List ℕ) (n : ℕ) (x : Stand) (around : ℕ) (v : Waveform) (ph 
           (next_follows s n y (group_at z cut_place) v gs c p.met (inl silent) p.out p.counts to.1 q.here (to.2 ∙ p.many)
           (outer_kept z cut_place c.at (outer_less z cut_place c.at (omega (arith, q.here, q.later, cut_before w around at p.outer))))
           (λ t h. let g = q.after t h in f t g.0 g.1)
-          (λ t h. q.cut t h ∙ ap (λ (k : ℕ). refused (refusal past_end k)) (cut_kept z cut_place (length (s ++ t)) h)))
+          (λ t h. q.cut t h ∙ ap (λ (k : ℕ). refused (refusal PastEnd k)) (cut_kept z cut_place (length (s ++ t)) h)))
       by (stops z) to f = by_step z.step z.at to f
 
   -- ---- a value's last octet has come
@@ -352,12 +350,12 @@ module _ (s : List ℕ) (n : ℕ) (x : Stand) (around : ℕ) (v : Waveform) (ph 
     ends-here : at + i.start + i.len ≡ length s
     ends-here = omega (arith, i.ends)
 
-    is_found : (t : List ℕ) → Whole w (length (s ++ t)) → next_of (s ++ t) x.cursor ≡ Found found after_item
+    is_found : (t : List ℕ) → Whole w (length (s ++ t)) → next_of (s ++ t) x.cursor ≡ Ok (Some (found, after_item))
     is_found t h =
         let r = room-begun w (length (s ++ t)) (length s) (longer s t) p.inside in
         next_fits s t x.cursor i.here p.inside h tag i.start i.len i.form (omega (arith, ends-here))
         ∙ found_item w at tag i.start i.len
-        ∙ (λ k. Found found (cursor ((ends-here ∙ sym p.counts) k) (after_same s t x.standing at tag i.start i.len ends-here w k)))
+        ∙ (λ k. Ok (Some (found, cursor ((ends-here ∙ sym p.counts) k) (after_same s t x.standing at tag i.start i.len ends-here w k))))
 
     has_effect : (t : List ℕ) → effect_of (s ++ t) x.standing found ≡ effect_of kept x.standing (item_at w at tag (length kept))
     has_effect t = effect_same s t x.standing at tag i.start i.len ends-here w o
@@ -382,7 +380,7 @@ module _ (s : List ℕ) (n : ℕ) (x : Stand) (around : ℕ) (v : Waveform) (ph 
           );
           cut = λ t h.
               let g = value_cut w tag (length kept) (length (s ++ t)) (subst (λ (k : ℕ). Cut (stands_in k (within_after w tag (length kept))) (length (s ++ t))) p.counts h) in
-              p.cut t g ∙ ap (λ (q : ℕ). refused (refusal past_end q)) (group_cut w (length (s ++ t)) g);
+              p.cut t g ∙ ap (λ (q : ℕ). refused (refusal PastEnd q)) (group_cut w (length (s ++ t)) g);
         })
 
   -- ---- a group begins
@@ -404,21 +402,21 @@ module _ (s : List ℕ) (n : ℕ) (x : Stand) (around : ℕ) (v : Waveform) (ph 
     unfolding effect_of
     group_effect t u = refl
 
-    module _ (len : ℕ) (f : form_of (is_inside w) (drop at s) ≡ Form.Definite channel start len) where
+    module _ (len : ℕ) (f : form_of (is_inside w) (drop at s) ≡ Ok (Some (ItemHead.Definite channel start len))) where
       abbrev in_group : Cursor
       in_group = cursor n (Within.Definite channel (n + len))
 
-      definite_found : (t : List ℕ) → length s + len ≤ length (s ++ t) → next_of (s ++ t) x.cursor ≡ Found (Item.Group at channel) in_group
+      definite_found : (t : List ℕ) → length s + len ≤ length (s ++ t) → next_of (s ++ t) x.cursor ≡ Ok (Some (Item.Group at channel, in_group))
       definite_found t h =
           let e = all ∙ sym p.counts in
           next_definite s t x.cursor here p.inside (whole_here (length (s ++ t))) channel start len f (omega (arith, ends_root (length (s ++ t))))
-          ∙ (λ k. Found (Item.Group at channel) (cursor (e k) (Within.Definite channel (e k + len))))
+          ∙ (λ k. Ok (Some (Item.Group at channel, cursor (e k) (Within.Definite channel (e k + len)))))
 
-      definite_cut : (t : List ℕ) → length (s ++ t) < length s + len → unlimited (s ++ t) ≡ refused (refusal past_end cut_place)
+      definite_cut : (t : List ℕ) → length (s ++ t) < length s + len → unlimited (s ++ t) ≡ refused (refusal PastEnd cut_place)
       definite_cut t h =
           fault-is (stands_here t)
           (next_definite_past s t x.cursor here p.inside (whole_here (length (s ++ t))) channel start len f (omega (arith, longer s t, ends_root (length (s ++ t)))) (omega (arith, ends_root (length (s ++ t)))))
-          ∙ ap (λ (q : ℕ). refused (refusal past_end q)) (sym cut_is)
+          ∙ ap (λ (q : ℕ). refused (refusal PastEnd q)) (sym cut_is)
 
       definite_whole : (m : ℕ) → length s ≤ m → Whole (stands_in n (Within.Definite channel (n + len))) m → length s + len ≤ m
       definite_whole m h q = by (ltb n (n + len)) refl q
@@ -452,7 +450,7 @@ module _ (s : List ℕ) (n : ℕ) (x : Stand) (around : ℕ) (v : Waveform) (ph 
             cut = λ t h. definite_cut t (definite_short (length (s ++ t)) h);
           })
 
-    pub open_follows : form_of (is_inside w) (drop at s) ≡ Form.Open channel start → Follows s gs (group_begins 0 channel (Within.Open channel at) (link n x around v ph))
+    pub open_follows : form_of (is_inside w) (drop at s) ≡ Ok (Some (ItemHead.Open channel start)) → Follows s gs (group_begins 0 channel (Within.Open channel at) (link n x around v ph))
     unfolding place_at
     open_follows f =
         turned_follows 0 (cursor n (Within.Open channel at)) (effect_of [] x.standing (Item.Group at channel))
@@ -463,7 +461,7 @@ module _ (s : List ℕ) (n : ℕ) (x : Stand) (around : ℕ) (v : Waveform) (ph 
           item = Item.Group at channel;
           place = refl;
           found = λ t h k. next_open s t x.cursor here p.inside h channel start f
-              ∙ (λ k. Found (Item.Group at channel) (cursor ((all ∙ sym p.counts) k) (Within.Open channel at)));
+              ∙ (λ k. Ok (Some (Item.Group at channel, cursor ((all ∙ sym p.counts) k) (Within.Open channel at))));
           effect = λ t. group_effect (s ++ t) [];
           cuts = λ t h k. let z : ⊥ = omega (arith, longer s t) in absurd z;
           bare = λ from long e. group_bare [] x.standing at channel e;
@@ -473,36 +471,36 @@ module _ (s : List ℕ) (n : ℕ) (x : Stand) (around : ℕ) (v : Waveform) (ph 
 
     -- ---- a waveform begins
 
-    module _ (len : ℕ) (f : form_of (is_inside w) (drop at s) ≡ Form.Primitive 0x1E start len) where
+    module _ (len : ℕ) (f : form_of (is_inside w) (drop at s) ≡ Ok (Some (ItemHead.Primitive 0x1E start len))) where
       abbrev behind_wave : Cursor
       behind_wave = cursor (n + len) Root
 
-      wave_found : (t : List ℕ) → length s + len ≤ length (s ++ t) → next_of (s ++ t) x.cursor ≡ Found (Plain at 0x1E n len) behind_wave
+      wave_found : (t : List ℕ) → length s + len ≤ length (s ++ t) → next_of (s ++ t) x.cursor ≡ Ok (Some (Plain at 0x1E n len, behind_wave))
       unfolding item_of
       wave_found t h =
           let e = all ∙ sym p.counts in
           next_fits s t x.cursor here p.inside (whole_here (length (s ++ t))) 0x1E start len f (omega (arith, ends_root (length (s ++ t))))
-          ∙ ap (λ (z : Within). item_of at z (Head.Primitive 0x1E start len)) outside
-          ∙ (λ k. Found (Plain at 0x1E (e k) len) (cursor (e k + len) Root))
+          ∙ ap (λ (z : Within). item_of at z (Ok (ItemHead.Primitive 0x1E start len))) outside
+          ∙ (λ k. Ok (Some (Plain at 0x1E (e k) len, cursor (e k + len) Root)))
 
-      wave_known : n + len ≤ octets_limit → (t : List ℕ) → length s + len ≤ length (s ++ t) → TurnStands (s ++ t) p.met at (effect_turn x behind_wave at (Effect.Frame n len))
+      wave_known : n + len ≤ octets_limit → (t : List ℕ) → length s + len ≤ length (s ++ t) → TurnStands (s ++ t) p.met at (effect_turn x behind_wave at (Ok (Effect.Frame n len)))
       unfolding place_at
       wave_known near t h =
-          subst (λ (q : Effect). TurnStands (s ++ t) p.met at (effect_turn x behind_wave at q)) (effect_frame (s ++ t) x.standing at n len (omega (arith, p.counts)))
+          subst (λ (q : Result Effect Fault). TurnStands (s ++ t) p.met at (effect_turn x behind_wave at q)) (effect_frame (s ++ t) x.standing at n len (omega (arith, p.counts)))
           (found_is (stands_here t) (wave_found t h) near)
 
-      wave_cut : (t : List ℕ) → length (s ++ t) < length s + len → unlimited (s ++ t) ≡ refused (refusal past_end cut_place)
+      wave_cut : (t : List ℕ) → length (s ++ t) < length s + len → unlimited (s ++ t) ≡ refused (refusal PastEnd cut_place)
       wave_cut t h =
           fault-is (stands_here t)
           (next_past s t x.cursor here p.inside (whole_here (length (s ++ t))) 0x1E start len f (omega (arith, longer s t, ends_root (length (s ++ t)))) (omega (arith, ends_root (length (s ++ t)))))
-          ∙ ap (λ (q : ℕ). refused (refusal past_end q)) (sym cut_is)
+          ∙ ap (λ (q : ℕ). refused (refusal PastEnd q)) (sym cut_is)
 
       wave_cuts : (t : List ℕ) → length s + len ≤ length (s ++ t) → CutsFrom (suc at) (unlimited (s ++ t))
       wave_cuts t h = found_cuts (stands_here t).reached (wave_found t h)
 
       -- The frame is taken: its settings are given out.
-      taken_follows : (u : Waveform) (y : Stand) → TurnsTo x behind_wave at (Effect.Frame n len) (stops (stop (Step.Frame u) y))
-          → ((t : List ℕ) → length s + len ≤ length (s ++ t) → TurnStands (s ++ t) p.met at (stops (stop (Step.Frame u) y))) → n + len ≤ octets_limit → Follows s gs (link n y cut_place u (waved len first_coming))
+      taken_follows : (u : Waveform) (y : Stand) → TurnsTo x behind_wave at (Ok (Effect.Frame n len)) (stops (stop (Ok (Some u)) y))
+          → ((t : List ℕ) → length s + len ≤ length (s ++ t) → TurnStands (s ++ t) p.met at (stops (stop (Ok (Some u)) y))) → n + len ≤ octets_limit → Follows s gs (link n y cut_place u (waved len first_coming))
       taken_follows u y to known near =
           let filled : length s + len ≤ length (s ++ replicate len 0) = rw (length-append, length-replicate) (omega arith) in
           let good-here = frame_good p.met (frame_by (s ++ replicate len 0) u y) (known (replicate len 0) filled).2 in
@@ -525,15 +523,15 @@ module _ (s : List ℕ) (n : ℕ) (x : Stand) (around : ℕ) (v : Waveform) (ph 
             coming = λ t h. samples_first (frame_by (s ++ t) u y) good-here.some;
           })
 
-      pub wave_follows : Follows s gs (turned_by len (effect_turn x behind_wave at (Effect.Frame n len)) marked_here)
+      pub wave_follows : Follows s gs (turned_by len (effect_turn x behind_wave at (Ok (Effect.Frame n len))) marked_here)
       unfolding turned_by stopped_at
-      wave_follows = by (effect_turn x behind_wave at (Effect.Frame n len)) (turns_to x behind_wave at (Effect.Frame n len)) wave_known
+      wave_follows = by (effect_turn x behind_wave at (Ok (Effect.Frame n len))) (turns_to x behind_wave at (Ok (Effect.Frame n len))) wave_known
         where
-          by_step : (k : Step) (y : Stand) → TurnsTo x behind_wave at (Effect.Frame n len) (stops (stop k y))
+          by_step : (k : Result (Option Waveform) Refusal) (y : Stand) → TurnsTo x behind_wave at (Ok (Effect.Frame n len)) (stops (stop k y))
               → (n + len ≤ octets_limit → (t : List ℕ) → length s + len ≤ length (s ++ t) → TurnStands (s ++ t) p.met at (stops (stop k y))) → Follows s gs (stopped_at len k y marked_here)
-          by_step (Step.Frame u) y to known =
+          by_step (Ok (Some u)) y to known =
               pick_cases (Follows s gs) (ltb octets_limit (n + len))
-              (λ e. waiting_follows s gs (link n y cut_place v ph) len (refusal long_file 0) limit silent
+              (λ e. waiting_follows s gs (link n y cut_place v ph) len (refusal LongFile 0) limit silent
               (record {
                 counts = p.counts;
                 cuts = wave_cut;
@@ -541,11 +539,11 @@ module _ (s : List ℕ) (n : ℕ) (x : Stand) (around : ℕ) (v : Waveform) (ph 
                 passes = λ _ t k. subst (λ (q : ℕ). CutsFrom (suc q) (unlimited (s ++ t))) (sym cut_is) (wave_cuts t k);
               }))
               (λ e. let near = ltb-false octets_limit (n + len) e in taken_follows u y to (known near) near)
-          by_step Step.Ended y to known = absurd to
-          by_step (Step.Refused r) y to known =
+          by_step (Ok None) y to known = absurd to
+          by_step (Err r) y to known =
               condemned_follows s n x around v ph gs limit silent p len r (rw outside tt) (λ h t _ k. sym (known (omega (arith, p.counts)) t k)) (λ t _ k. wave_cut t k) (λ _ t _ k. wave_cuts t k) y
 
-          by : (z : Turn) → TurnsTo x behind_wave at (Effect.Frame n len) z
+          by : (z : Turn) → TurnsTo x behind_wave at (Ok (Effect.Frame n len)) z
               → (n + len ≤ octets_limit → (t : List ℕ) → length s + len ≤ length (s ++ t) → TurnStands (s ++ t) p.met at z) → Follows s gs (turned_by len z marked_here)
           by (on y) to known = absurd to.0
           by (stops z) to known = by_step z.step z.at to known
@@ -553,7 +551,7 @@ module _ (s : List ℕ) (n : ℕ) (x : Stand) (around : ℕ) (v : Waveform) (ph 
   -- ---- faults of form
 
   -- What stands there is a fault, for each file that has the group around.
-  pub fault_follows : (r : Refusal) → ((t : List ℕ) → Whole w (length (s ++ t)) → next_of (s ++ t) x.cursor ≡ Next.Refused r) → Follows s gs (condemned w 0 r marked_here)
+  pub fault_follows : (r : Refusal) → ((t : List ℕ) → Whole w (length (s ++ t)) → next_of (s ++ t) x.cursor ≡ Err r) → Follows s gs (condemned w 0 r marked_here)
   fault_follows r f =
       condemned_follows s n x around v ph gs limit silent p 0 r (inside_less w (length s + 0) (length s) (omega arith) p.inside) (λ _ t h _. fault-is (p.stands t h) (f t h))
       (λ t _ k. let z : ⊥ = omega (arith, longer s t) in absurd z) (λ k. let z : ⊥ = omega (arith, k) in absurd z) x

@@ -13,7 +13,7 @@ use lib.Dec.{ltb}
 use lib.ListN.{length, get_or, length-append}
 use lib.Seq.{get_or-append_seam}
 use Rattle.octets.specs.Pick.{pick}
-use Rattle.heads.specs.Refusals.{no_channel}
+use Rattle.heads.specs.declared.Fault.TheVariants.{NoChannel}
 use Rattle.heads.specs.Answer.{answered, refused_as}
 use Rattle.items.specs.declared.Within.TheVariants.{Root}
 use Rattle.items.specs.declared.Cursor.{Cursor}
@@ -114,7 +114,7 @@ module _ (w : List ℕ) (l : Link) (p : ToldLast w l) (some : 0 < l.frame.channe
   f = frame_by w v l.stand
 
   answer-is : (x : Bool) → ltb channel v.channels ≡ x
-      → pick x (answered (attributes_in channel f)) (refused_as no_channel 0) ≡ pick x (answered (attributes_with v.start v.channels v.sequences (reported (settings_in l channel)))) (refused_as no_channel 0)
+      → pick x (answered (attributes_in channel f)) (refused_as NoChannel 0) ≡ pick x (answered (attributes_with v.start v.channels v.sequences (reported (settings_in l channel)))) (refused_as NoChannel 0)
   unfolding attributes_in
   answer-is true h =
       let c = p.counted.channels in
@@ -132,4 +132,4 @@ module _ (w : List ℕ) (l : Link) (p : ToldLast w l) (some : 0 < l.frame.channe
       let d : get_or (before ++ (f ∷ [])) (length before) zero_frame ≡ f = get_or-append_seam before f [] zero_frame in
       (λ i. asked (λ g. answered (attributes_in channel g)) (n i) channel (p.accepts i))
       ∙ simp (lt-ltb (length before) (length (before ++ (f ∷ []))) a, d, lt-ltb 0 v.channels some)
-      (ap (λ (k : ℕ). pick (ltb channel k) (answered (attributes_in channel f)) (refused_as no_channel 0)) (sym p.counted.channels) ∙ answer-is (ltb channel v.channels) refl)
+      (ap (λ (k : ℕ). pick (ltb channel k) (answered (attributes_in channel f)) (refused_as NoChannel 0)) (sym p.counted.channels) ∙ answer-is (ltb channel v.channels) refl)

@@ -15,7 +15,7 @@ use lib.Seq.{get_or-take, drop-drop, drop-append-le, take-append-le}
 use Rattle.octets.specs.Pick.{pick}
 use Rattle.octets.specs.Number.{number_of}
 use Rattle.octets.proofs.Laws.{part_of}
-use Rattle.heads.specs.Refusals.{past_end}
+use Rattle.heads.specs.declared.Fault.TheVariants.{PastEnd}
 use Rattle.items.specs.declared.Within.TheVariants.{Root}
 use Rattle.items.specs.Walk.{refusal, cursor}
 use Rattle.values.specs.Sample.{value_of}
@@ -84,7 +84,7 @@ module _ (s : List ℕ) (b : ℕ) (n : ℕ) (y : Stand) (around : ℕ) (v : Wave
         near = omega (arith, p.near, long_now);
         stands = λ u h. to_grown s b (λ (z : List ℕ). Stands z (p.met ++ (frame_by z v y ∷ [])) y × Counts v (frame_by z v y)) u
             (p.stands (b ∷ u) (of_grown s b (λ (z : List ℕ). length s + left ≤ length z) u (omega (arith, long_now))));
-        cuts = λ u h. to_grown s b (λ (z : List ℕ). unlimited z ≡ refused (refusal past_end around)) u (p.cuts (b ∷ u) (of_grown s b (λ (z : List ℕ). length z < length s + left) u (omega (arith, long_now))));
+        cuts = λ u h. to_grown s b (λ (z : List ℕ). unlimited z ≡ refused (refusal PastEnd around)) u (p.cuts (b ∷ u) (of_grown s b (λ (z : List ℕ). length z < length s + left) u (omega (arith, long_now))));
         behind = let e : length s + left ≡ length now + (left - 1) = omega (arith, long_now) in p.behind ∙ ap (λ (k : ℕ). cursor k Root) e;
         many-channels = p.many-channels;
         good = p.good;

@@ -1,11 +1,13 @@
 -- A file read as its octets arrive (document 02, request 3): what is held between two octets, and what one octet more does to it. Any numbers at all are
 -- some link.
-use Rattle.std.specs.Prelude.{ℕ, zero, suc, ◌+◌, ◌-◌, ◌*◌, ◌≡◌, List, [], ◌∷◌, ◌++◌, map, Bool, true, false, ltb, leb, eqb, length, get_or, take}
-use Rattle.octets.specs.Pick.{pick, both}
+use Rattle.heads.specs.declared.Fault.{Fault}
+use Rattle.effects.specs.declared.Effect.{Effect}
+use Rattle.heads.specs.declared.ItemHead.{ItemHead}
+use Rattle.std.specs.Prelude.{ℕ, zero, suc, ◌+◌, ◌-◌, ◌*◌, ◌≡◌, List, [], ◌∷◌, ◌++◌, map, Bool, true, false, ltb, leb, eqb, length, get_or, take, Result, Ok, Err, Option, Some, None}
+use Rattle.octets.specs.Pick.{pick}
 use Rattle.octets.specs.Number.{number_of}
 use Rattle.heads.specs.declared.Refusal.{Refusal}
-use Rattle.heads.specs.declared.Form.{Form}
-use Rattle.heads.specs.Refusals.{past_end, unended_group, long_file}
+use Rattle.heads.specs.declared.Fault.TheVariants.{PastEnd, UnendedGroup, LongFile}
 use Rattle.heads.specs.Answer.{Answer, answered, refused_as, refused_by}
 use Rattle.heads.specs.Head.{form_of}
 use Rattle.items.specs.declared.Within.{Within}
@@ -21,12 +23,10 @@ use Rattle.dated.specs.declared.Dated.{Dated}
 use Rattle.dated.specs.Dated.{dated_table, zero_dated, first_dates}
 use Rattle.layout.specs.Frame.{width_in}
 use Rattle.standing.specs.Standing.{octets_limit, first_standing}
-use Rattle.effects.specs.declared.Effect.{Effect}
 use Rattle.effects.specs.Effects.{effect_of}
 use Rattle.reader.specs.Answer.{FoundSample, found_sample}
 use Rattle.records.specs.Records.{outdated}
 use Rattle.walk.specs.declared.Waveform.{Waveform}
-use Rattle.walk.specs.declared.Step.{Step}
 use Rattle.walk.specs.Advance.{Stand, stand, Turn, on, stops, effect_turn}
 use Rattle.walking.specs.Steps.{no_waveform}
 
@@ -134,12 +134,12 @@ abbrev pub standing : Stand → Link → Link
 standing y l = link l.count y l.around l.frame l.phase
 
 -- What an item leads to, of which `left` octets are still to come. A frame's settings are given out, unless it ends past 15's limit.
-unfoldable pub stopped_at : ℕ → Step → Stand → Link → Link
-stopped_at left (Step.Frame v) y l =
-    pick (ltb octets_limit (l.count + left)) (waiting left (refusal long_file 0) (standing y l))
+unfoldable pub stopped_at : ℕ → Result (Option Waveform) Refusal → Stand → Link → Link
+stopped_at left (Ok (Some v)) y l =
+    pick (ltb octets_limit (l.count + left)) (waiting left (refusal LongFile 0) (standing y l))
     (link l.count y l.around v (waved left first_coming))
-stopped_at left Step.Ended y l = l
-stopped_at left (Step.Refused r) y l = condemned (within_in l) left r (standing y l)
+stopped_at left (Ok None) y l = l
+stopped_at left (Err r) y l = condemned (within_in l) left r (standing y l)
 
 -- Between two items an end is 3 only in a definite group, at the group's place; elsewhere no place is kept.
 abbrev pub group_at : Within → ℕ → ℕ
@@ -156,7 +156,7 @@ abbrev pub marked : Link → Link
 marked l = link l.count l.stand (cut_in l) l.frame l.phase
 
 -- An item with this effect, behind which the cursor c stands, as the walk takes it.
-abbrev pub effected : ℕ → Cursor → Effect → Link → Link
+abbrev pub effected : ℕ → Cursor → Result Effect Fault → Link → Link
 effected left c e l = turned_by left (effect_turn l.stand c (place_in l) e) (marked l)
 
 -- Of a value the effect of an item looks at no more than its first 35 octets: no definition has more than 34.
@@ -187,31 +187,31 @@ valued tag left v l = pick (eqb left 0) (done_item tag v l) (in_phase (value tag
 -- The last octet of an item's head has come. A waveform, which stands in no group, is a frame or refused by its length alone.
 unfoldable pub primitive_begins : ℕ → ℕ → Link → Link
 primitive_begins tag len l =
-    pick (eqb tag 0x1E) (effected len (cursor (l.count + len) Root) (Effect.Frame l.count len) l) (valued tag len [] l)
+    pick (eqb tag 0x1E) (effected len (cursor (l.count + len) Root) (Ok (Effect.Frame l.count len)) l) (valued tag len [] l)
 
 abbrev pub group_begins : ℕ → ℕ → Within → Link → Link
 group_begins left channel w l = effected left (cursor l.count w) (effect_of [] l.stand.standing (Group (place_in l) channel)) l
 
 -- In a definite group of which `left` octets are still to come: 3 where the head or the value runs past it.
-unfoldable pub confined : ℕ → Form → Form
-confined left Form.More = pick (eqb left 0) (Form.Faulty past_end) Form.More
-confined left (Form.Faulty number) = Form.Faulty number
-confined left (Form.Primitive tag start len) = pick (ltb left len) (Form.Faulty past_end) (Form.Primitive tag start len)
-confined left (Form.Definite channel start len) = Form.Definite channel start len
-confined left (Form.Open channel start) = Form.Open channel start
+unfoldable pub confined : ℕ → Result (Option ItemHead) Fault → (Result (Option ItemHead) Fault)
+confined left (Ok None) = pick (eqb left 0) (Err PastEnd) (Ok None)
+confined left (Err fault) = Err fault
+confined left (Ok (Some (ItemHead.Primitive tag start len))) = pick (ltb left len) (Err PastEnd) (Ok (Some (ItemHead.Primitive tag start len)))
+confined left (Ok (Some (ItemHead.Definite channel start len))) = Ok (Some (ItemHead.Definite channel start len))
+confined left (Ok (Some (ItemHead.Open channel start))) = Ok (Some (ItemHead.Open channel start))
 
 -- What the octets of a head say, where they have come to.
-unfoldable pub seen_in : Within → ℕ → Form → Form
+unfoldable pub seen_in : Within → ℕ → Result (Option ItemHead) Fault → (Result (Option ItemHead) Fault)
 seen_in Within.Root count f = f
 seen_in (Within.Definite channel end) count f = confined (end - count) f
 seen_in (Within.Open channel group) count f = f
 
-unfoldable pub headed : List ℕ → Form → Link → Link
-headed p Form.More l = in_phase (head p) l
-headed p (Form.Faulty number) l = condemned (within_in l) 0 (refusal number (place_in l)) (marked l)
-headed p (Form.Primitive tag start len) l = primitive_begins tag len l
-headed p (Form.Definite channel start len) l = group_begins len channel (Within.Definite channel (l.count + len)) l
-headed p (Form.Open channel start) l = group_begins 0 channel (Within.Open channel (place_in l)) l
+unfoldable pub headed : List ℕ → Result (Option ItemHead) Fault → Link → Link
+headed p (Ok None) l = in_phase (head p) l
+headed p (Err fault) l = condemned (within_in l) 0 (refusal fault (place_in l)) (marked l)
+headed p (Ok (Some (ItemHead.Primitive tag start len))) l = primitive_begins tag len l
+headed p (Ok (Some (ItemHead.Definite channel start len))) l = group_begins len channel (Within.Definite channel (l.count + len)) l
+headed p (Ok (Some (ItemHead.Open channel start))) l = group_begins 0 channel (Within.Open channel (place_in l)) l
 
 -- ---- a waveform's samples
 
@@ -266,7 +266,7 @@ is_decided (decided a) = true
 unfoldable pub stepped : Link → ℕ → Link
 stepped l b =
     pick (is_decided l.phase) l
-    (pick (leb octets_limit l.count) (refused_in (refusal long_file 0) l)
+    (pick (leb octets_limit l.count) (refused_in (refusal LongFile 0) l)
     (taken_in b l.phase (counted l)))
 
 -- Octets, one after the other.
@@ -317,15 +317,15 @@ given_by l (b ∷ s) = gives l b ++ given_by (stepped l b) s
 -- Between two items: the frames; 3 at a definite group; 10 at an open one.
 unfoldable pub ended_in : Within → ℕ → ℕ → Answer ℕ
 ended_in Within.Root around frames = answered frames
-ended_in (Within.Definite channel end) around frames = refused_as past_end around
-ended_in (Within.Open channel group) around frames = refused_as unended_group group
+ended_in (Within.Definite channel end) around frames = refused_as PastEnd around
+ended_in (Within.Open channel group) around frames = refused_as UnendedGroup group
 
 unfoldable pub end_in : Phase → Link → Answer ℕ
 end_in (head []) l = ended_in (within_in l) l.around l.stand.frames
-end_in (head (b ∷ p)) l = refused_as past_end (cut_in l)
-end_in (value tag left kept) l = refused_as past_end (cut_in l)
-end_in (waveform left t) l = refused_as past_end l.around
-end_in (waits left r) l = refused_as past_end l.around
+end_in (head (b ∷ p)) l = refused_as PastEnd (cut_in l)
+end_in (value tag left kept) l = refused_as PastEnd (cut_in l)
+end_in (waveform left t) l = refused_as PastEnd l.around
+end_in (waits left r) l = refused_as PastEnd l.around
 end_in (decided a) l = a
 
 abbrev pub end_answer : Link → Answer ℕ

@@ -2,7 +2,7 @@
 -- gives".
 use Rattle.std.specs.Prelude.{List, [], ◌∷◌, ◌++◌, ℕ, ltb, length}
 use Rattle.octets.specs.Pick.{pick}
-use Rattle.heads.specs.Refusals.{no_frame, no_channel}
+use Rattle.heads.specs.declared.Fault.TheVariants.{NoFrame, NoChannel}
 use Rattle.heads.specs.Answer.{Answer, answered, refused_as}
 use Rattle.layout.specs.Frame.{Frame, reported}
 use Rattle.laid.specs.Laid.{laid}
@@ -30,5 +30,5 @@ unfoldable pub settings_told : Link → ℕ → Answer Attributes
 settings_told l channel =
     let v = l.frame in
     pick (ltb 0 v.channels)
-    (pick (ltb channel v.channels) (answered (attributes_with v.start v.channels v.sequences (reported (settings_in l channel)))) (refused_as no_channel 0))
-    (refused_as no_frame 0)
+    (pick (ltb channel v.channels) (answered (attributes_with v.start v.channels v.sequences (reported (settings_in l channel)))) (refused_as NoChannel 0))
+    (refused_as NoFrame 0)

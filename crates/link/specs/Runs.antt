@@ -1,5 +1,5 @@
 -- Octets that are fed at once, as a call takes them (document 02, request 3).
-use Rattle.std.specs.Prelude.{ℕ, ◌+◌, ◌≡◌, List, [], ◌∷◌, ◌++◌, Bool, true, false}
+use Rattle.std.specs.Prelude.{ℕ, ◌+◌, ◌≡◌, List, [], ◌∷◌, ◌++◌, Bool, false}
 use Rattle.octets.specs.Pick.{either}
 use Rattle.link.specs.Link.{Link, is_decided, stepped, fed_with, Given, given_by}
 use Rattle.link.specs.Feed.{Fed, fed, due}

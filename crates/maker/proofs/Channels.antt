@@ -21,6 +21,7 @@ use lib.Dec.{eqb, ltb}
 use lib.IntN.{ℤ}
 use lib.ListN.{length, get_or, length-map}
 use lib.Seq.{take_all}
+use Rattle.std.specs.Prelude.{Some, None}
 use Rattle.octets.specs.Pick.{both}
 use Rattle.octets.specs.Number.{low_of}
 use Rattle.octets.proofs.Pick.{both_split, both_false}
@@ -37,7 +38,6 @@ use Rattle.there.specs.There.{Wide}
 use Rattle.layout.proofs.Laws.{Summing, summing_start, summing_more, summed_up}
 use Rattle.canonical.specs.Recording.{tabulate}
 use Rattle.canonical.proofs.Accepted.{tabulate-length, tabulate-at, map_at}
-use Rattle.maker.specs.declared.rows.Measured.{Measured}
 use Rattle.maker.specs.Given.{GivenScale, Given, given_scale, given_at, givens_in, last_code, last_mantissa, within, exponent_fits, scale_in_table, bits_fit, no_null, numbers_in_table, scales_in_table, bits_in_table, in_table, all_in_table, natural_of, width_given, scale_made, bits_made, null_made, settings_made, channels_made}
 use Rattle.maker.specs.Rows.{number_at, RowThere, RowsThere, measured}
 use Rattle.maker.proofs.Numbers.{within_low, within_high}
@@ -230,12 +230,12 @@ module _ {n : ℕ} {numbers : List ℤ} {bits : List ℕ} {i : ℕ} {l : Layout}
       fit-more j (yes k) q = p.fit j k
       fit-more j (no k) q = let w : j ≡ i = omega arith in rw w e
 
-  pub measuring_outside : i < n → in_table (given_at numbers bits i) ≡ false → Measured.Outside ≡ measured n numbers bits
+  pub measuring_outside : i < n → in_table (given_at numbers bits i) ≡ false → None ≡ measured n numbers bits
   unfolding measured
   measuring_outside h e = rw (one_outside n (given_at numbers bits) i h e)
 
-  pub measuring_done : n ≤ i → Measured.Channels l ≡ measured n numbers bits
+  pub measuring_done : n ≤ i → Some l ≡ measured n numbers bits
   unfolding measured
   measuring_done h =
       let q = summed_up p.sums n refl h ∙ ap (layout_of 0) (take_all n (channels_made n numbers bits) (omega (arith, made-long n numbers bits))) in
-      rw (all_fit n (given_at numbers bits) (λ j k. p.fit j (omega arith))) (ap Measured.Channels q)
+      rw (all_fit n (given_at numbers bits) (λ j k. p.fit j (omega arith))) (ap Some q)

@@ -12,21 +12,21 @@
 -- Assumes nothing.
 use mathlib.Core.Path.{◌≡◌, refl, sym, ap, ◌∙◌}
 use mathlib.Core.Bool.{Bool, true, false}
-use mathlib.Core.List.{List, [], ◌∷◌}
+use mathlib.Core.List.{List}
 use Prim.Native.Nat.{ℕ, ◌+◌, ◌*◌, ◌^◌, ◌≤◌, ◌<◌}
 use native.Mathlib.Nat.{zero-add, mul-le-mul}
 use native.Mathlib.Omega.{arith}
-use types.Run.{OneOf, miss}
-use denote.Enum.Declared.{tag_of}
 use borrow.Author.Tests.{leb-true, eqb-true, le-leb, lt-leb, ne_eqb, eq-eqb}
 use lib.Dec.{eqb, leb}
 use lib.IntN.{ℤ}
 use lib.ListN.{length}
 use lib.Seq.{take_all}
+use Rattle.std.specs.Prelude.{Some, None}
 use Rattle.octets.specs.Number.{Octets}
 use Rattle.octets.specs.Pick.{pick}
 use Rattle.octets.proofs.Pick.{both_split, both_false}
-use Rattle.heads.specs.Refusals.{no_room, setting_range, samples_length}
+use Rattle.heads.specs.declared.Fault.{Fault}
+use Rattle.heads.specs.declared.Fault.TheVariants.{NoRoom, SettingRange, SamplesLength}
 use Rattle.heads.specs.Answer.{Answer, answered, refused_as, map_answer, left_by}
 use Rattle.stores.specs.Storing.{Put}
 use Rattle.stores.proofs.Stores.{sets_front}
@@ -48,11 +48,9 @@ use Rattle.canonical.specs.Canonical.{waveform_of, frame_octets}
 use Rattle.canonical.proofs.Octets.{waveform_big, frame-long}
 use Rattle.canonical.proofs.Writing.{frame_is}
 use Rattle.numbers.specs.Numbers.{attribute_numbers}
-use Rattle.maker.specs.declared.rows.Measured.{Measured}
 use Rattle.maker.specs.Given.{bit_numbers, given_at, givens_in, all_in_table, channels_made}
 use Rattle.maker.specs.Rows.{RowsThere, RowsFit, measured}
 use Rattle.maker.specs.Make.{Making, last_sequences, frame_in_table, settings_fit, channels_in, samples_fit, frame_made, record_made, order_octets, room_fits, made_in, Made}
-use Rattle.maker.specs.contracts.rows.Measured.{the_type}
 use Rattle.maker.proofs.Channels as channels
 
 -- ---- the numbers of a frame
@@ -136,17 +134,17 @@ module _ (m : Making) where
   settings_split e = both_split own_fit _ e
 
   module _ (room : ℕ) where
-    pub setting-refused : settings_fit m ≡ false → made_in room m ≡ refused_as setting_range 0
+    pub setting-refused : settings_fit m ≡ false → made_in room m ≡ refused_as SettingRange 0
     unfolding made_in
     setting-refused e = rw e
 
     module _ (s : settings_fit m ≡ true) where
-      pub samples-refused : samples_fit m ≡ false → made_in room m ≡ refused_as samples_length 0
+      pub samples-refused : samples_fit m ≡ false → made_in room m ≡ refused_as SamplesLength 0
       unfolding made_in
       samples-refused e = rw (s, e)
 
       module _ (f : samples_fit m ≡ true) where
-        pub room-refused : room_fits (length octets) room ≡ false → made_in room m ≡ refused_as no_room 0
+        pub room-refused : room_fits (length octets) room ≡ false → made_in room m ≡ refused_as NoRoom 0
         unfolding made_in
         room-refused e = rw (s, f, e)
 
@@ -228,21 +226,20 @@ module _ (n : ℕ) (numbers : List ℤ) (bits : List ℕ) where
   told = layout_of 0 (channels_made n numbers bits)
 
   -- A row is outside the table.
-  pub measured_out : (k : Measured) → OneOf (1 ∷ []) (tag_of the_type k) → k ≡ measured n numbers bits → all ≡ false
+  pub measured_out : None ≡ measured n numbers bits → all ≡ false
   unfolding measured
-  measured_out (Measured.Channels l) h e = absurd (miss (1 ∷ []) 0 tt h)
-  measured_out Measured.Outside h e = by all refl e
+  measured_out e = by all refl e
     where
-      by : (t : Bool) → all ≡ t → Measured.Outside ≡ pick t (Measured.Channels told) Measured.Outside → all ≡ false
+      by : (t : Bool) → all ≡ t → None ≡ pick t (Some told) None → all ≡ false
       by false q e = q
       by true q e = let z : ◌≡◌ {A = ℕ} 0 1 = cc in let w : ⊥ = omega arith in absurd w
 
   -- All are in the table, and their layout is told.
-  pub measured_in : (l : Layout) → Measured.Channels l ≡ measured n numbers bits → (all ≡ true) × (l ≡ told)
+  pub measured_in : (l : Layout) → Some l ≡ measured n numbers bits → (all ≡ true) × (l ≡ told)
   unfolding measured
   measured_in l e = by all refl e
     where
-      by : (t : Bool) → all ≡ t → Measured.Channels l ≡ pick t (Measured.Channels told) Measured.Outside → (all ≡ true) × (l ≡ told)
+      by : (t : Bool) → all ≡ t → Some l ≡ pick t (Some told) None → (all ≡ true) × (l ≡ told)
       by true q e = (q, cc)
       by false q e = let z : ◌≡◌ {A = ℕ} 0 1 = cc in let w : ⊥ = omega arith in absurd w
 
@@ -253,7 +250,7 @@ pub record Found (m : Making) (l : Layout) : Type 0 where
   pub rows : RowsFit m.numbers m.bits m.channels
   pub layout : l ≡ layout_of 0 (channels_in m)
 
-pub found : (m : Making) (l : Layout) → own_fit m ≡ true → Measured.Channels l ≡ measured m.channels m.numbers m.bits → Found m l
+pub found : (m : Making) (l : Layout) → own_fit m ≡ true → Some l ≡ measured m.channels m.numbers m.bits → Found m l
 found m l e g =
     let k = measured_in m.channels m.numbers m.bits l g in
     let f = frame_split _ _ _ _ _ e in
@@ -316,9 +313,9 @@ module _ {m : Making} {d : List ℕ} (o : Octets m.samples) where
   made_as x e = record { octets = o; answers = ap (map_answer length) (sym e); leaves = ap (λ (y : Answer (List ℕ)). left_by y d) (sym e) }
 
   -- A refusal.
-  pub made-refused : {a : Answer ℕ} {number : ℕ} → a ≡ refused_as number 0 → made_in (length d) m ≡ refused_as number 0 → Made m d a d
+  pub made-refused : {a : Answer ℕ} {fault : Fault} → a ≡ refused_as fault 0 → made_in (length d) m ≡ refused_as fault 0 → Made m d a d
   unfolding left_by
-  made-refused {number = number} ea e = rw ea (made_as (refused_as number 0) e)
+  made-refused {fault = fault} ea e = rw ea (made_as (refused_as fault 0) e)
 
   -- A frame that is stored.
   pub made-whole : {l : Layout} {size r : ℕ} {z : ℤ} {left : List ℕ} → Found m l → length m.samples ≡ m.sequences * l.octets

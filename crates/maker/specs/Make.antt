@@ -2,7 +2,7 @@
 use Rattle.std.specs.Prelude.{◌≡◌, Bool, false, List, ℕ, ◌+◌, ◌*◌, eqb, leb, ℤ, length}
 use Rattle.octets.specs.Number.{Octets}
 use Rattle.octets.specs.Pick.{pick, both}
-use Rattle.heads.specs.Refusals.{no_room, setting_range, samples_length}
+use Rattle.heads.specs.declared.Fault.TheVariants.{NoRoom, SettingRange, SamplesLength}
 use Rattle.heads.specs.Answer.{Answer, answered, refused_as, map_answer, left_by}
 use Rattle.settings.specs.declared.Settings.{Settings}
 use Rattle.settings.specs.Settings.{channel_limit}
@@ -79,9 +79,9 @@ made_in room m =
     let octets = frame_octets (record_made m) in
     pick (settings_fit m)
     (pick (samples_fit m)
-    (pick (room_fits (length octets) room) (answered octets) (refused_as no_room 0))
-    (refused_as samples_length 0))
-    (refused_as setting_range 0)
+    (pick (room_fits (length octets) room) (answered octets) (refused_as NoRoom 0))
+    (refused_as SamplesLength 0))
+    (refused_as SettingRange 0)
 
 -- A call of the maker: what went in and what the buffer held, and then the answer and the buffer as the call leaves it. The samples are octets.
 pub record Made (m : Making) (buffer : List ℕ) (answer : Answer ℕ) (left : List ℕ) : Type 0 where

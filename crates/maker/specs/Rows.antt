@@ -1,10 +1,10 @@
 -- What the loops over rows are asked and answer. None of it is a rule of a paper.
-use Rattle.std.specs.Prelude.{◌≡◌, true, List, ℕ, suc, ◌*◌, ◌≤◌, ℤ, pos, length, get_or}
+use Rattle.std.specs.Prelude.{◌≡◌, true, List, ℕ, suc, ◌*◌, ◌≤◌, ℤ, pos, length, get_or, Option, Some, None}
 use Rattle.octets.specs.Pick.{pick}
 use Rattle.settings.specs.Settings.{channel_limit}
+use Rattle.layout.specs.declared.Layout.{Layout}
 use Rattle.layout.specs.Measure.{layout_of}
 use Rattle.numbers.specs.Numbers.{attribute_numbers}
-use Rattle.maker.specs.declared.rows.Measured.{Measured}
 use Rattle.maker.specs.Given.{bit_numbers, givens_in, all_in_table, channels_made}
 
 -- A number of the rows; past their end it is 0.
@@ -29,6 +29,6 @@ pub record RowsFit (numbers : List ℤ) (bits : List ℕ) (n : ℕ) : Type 0 whe
   pub fit : all_in_table (givens_in n numbers bits) ≡ true
 
 -- The layout of the channels of the first n rows, where every setting is in the table.
-unfoldable pub measured : ℕ → List ℤ → List ℕ → Measured
+unfoldable pub measured : ℕ → List ℤ → List ℕ → Option Layout
 measured n numbers bits =
-    pick (all_in_table (givens_in n numbers bits)) (Measured.Channels (layout_of 0 (channels_made n numbers bits))) Measured.Outside
+    pick (all_in_table (givens_in n numbers bits)) (Some (layout_of 0 (channels_made n numbers bits))) None

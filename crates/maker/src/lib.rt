@@ -11,21 +11,19 @@
 
 ghost use Rattle.std.specs.Prelude.{◌≡◌, map, ◌+◌, ◌≤◌, length};
 ghost use Rattle.stores.specs.Storing.{Put};
-ghost use Rattle.heads.specs.Answer.{refused_as};
+ghost use Rattle.heads.specs.Answer.{refused_as, answer_of};
 ghost use Rattle.standing.specs.Standing.{octets_limit};
 ghost use Rattle.layout.specs.Frame.{reported};
 ghost use Rattle.sizes.specs.Size.{frame_size};
 ghost use Rattle.layout.specs.Measure.{groups_size};
 ghost use Rattle.groups.specs.Group.{groups_octets};
 ghost use Rattle.frames.specs.Parts.{frame_parts};
-ghost use Rattle.canonical.specs.Write.{written_says};
 ghost use Rattle.maker.specs.Given.{channels_made};
 ghost use Rattle.maker.specs.Rows.{RowsFit};
 ghost use Rattle.maker.specs.Make.{making, frame_in_table, Made};
 
-use canonical::Written;
-use heads::Refusal;
-use rows::{Measured, Row};
+use heads::{Fault, Refusal};
+use rows::Row;
 use settings::Settings;
 use standing::Standing;
 
@@ -61,12 +59,14 @@ fn put_rows(out: &mut [u8], at: usize, numbers: &[i64], bits: &[u64], n: usize) 
     requires { RowsFit numbers.now bits.now n × (at + groups_size 0 (channels_made n numbers.now bits.now) ≤ length out.old) }
     ensures { Put out.old at (groups_octets 0 (map reported (channels_made n numbers.now bits.now))) result out.new }
 {
-    let mut i = 0usize;
     let mut next = at;
-    while i < n {
-        let c = rows::settings_at(numbers, bits, i);
-        next = groups::put_group(out, next, i as u8, c);
-        i += 1;
+    for index in 0..n {
+        let row = Row {
+            numbers,
+            bits,
+            index,
+        };
+        next = groups::put_group(out, next, index as u8, row.settings());
     }
     next
 }
@@ -92,10 +92,10 @@ fn store_frame(
 }
 
 // A refusal at no place of a file.
-fn refused(number: u8) -> Written
-    ensures { written_says result ≡ refused_as number 0 }
+fn refused(fault: Fault) -> Result<usize, Refusal>
+    ensures { answer_of result ≡ refused_as fault 0 }
 {
-    Written::Refused(Refusal { number, place: 0 })
+    Err(Refusal { fault, place: 0 })
 }
 
 // Makes a frame of its start pointer, its sequences, the settings of its channels, a row for each, and its samples, big-endian and in file order, into
@@ -108,29 +108,29 @@ pub fn make_frame(
     bits: &[u64],
     samples: &[u8],
     out: &mut [u8],
-) -> Written
-    ensures { Made (making start sequences channels numbers.now bits.now samples.now) out.old (written_says result) out.new }
+) -> Result<usize, Refusal>
+    ensures { Made (making start sequences channels numbers.now bits.now samples.now) out.old (answer_of result) out.new }
 {
     if !frame_fits(start, sequences, channels, numbers.len(), bits.len()) {
-        return refused(Refusal::SETTING_RANGE);
+        return refused(Fault::SettingRange);
     }
     let n = channels as usize;
     let m = rows::measure(numbers, bits, n);
-    let Measured::Channels(l) = m else {
-        return refused(Refusal::SETTING_RANGE);
+    let Some(l) = m else {
+        return refused(Fault::SettingRange);
     };
     if samples.len() as u64 != sequences * l.octets {
-        return refused(Refusal::SAMPLES_LENGTH);
+        return refused(Fault::SamplesLength);
     }
     if Standing::OCTETS < samples.len() {
-        return refused(Refusal::NO_ROOM);
+        return refused(Fault::NoRoom);
     }
     let size = sizes::frame_size(sequences as u32, l.groups as u32, samples.len() as u32) as usize;
     if Standing::OCTETS - ORDER < size {
-        return refused(Refusal::NO_ROOM);
+        return refused(Fault::NoRoom);
     }
     if out.len() < size {
-        return refused(Refusal::NO_ROOM);
+        return refused(Fault::NoRoom);
     }
     let stored = store_frame(
         start as i32,
@@ -141,5 +141,5 @@ pub fn make_frame(
         samples,
         out,
     );
-    Written::Octets(stored)
+    Ok(stored)
 }

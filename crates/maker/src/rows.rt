@@ -14,11 +14,17 @@ use layout::Layout;
 use settings::{Scale, Settings};
 use values::Bits;
 
-// The sizes of a row, and the places of what is looked at.
+// A row: that of channel `index`.
 #[derive(Clone, Copy)]
-pub struct Row {}
+pub(crate) struct Row<'a> {
+    pub numbers: &'a [i64],
+    pub bits: &'a [u64],
+    pub index: usize,
+    ghost there: { RowThere numbers.now bits.now index },
+}
 
-impl Row {
+// The sizes of a row, and the places of what is looked at.
+impl Row<'_> {
     // Numbers of a row.
     pub const NUMBERS: usize = numbers::NUMBERS;
 
@@ -44,13 +50,6 @@ impl Row {
 
     // The last mantissa.
     const LAST_MANTISSA: u64 = 2_147_483_647;
-}
-
-// The layout of channels, or that a setting of one is outside the table.
-#[derive(Clone, Copy)]
-pub enum Measured {
-    Channels(Layout),
-    Outside,
 }
 
 // Both tests hold.
@@ -141,79 +140,6 @@ fn scale_fits(numbers: &[i64], at: usize, last: u64) -> bool
     all(unit, all(exponent, mantissa))
 }
 
-// Block length, codes and data type of row i are in the table.
-fn numbers_fit(numbers: &[i64], bits: &[u64], i: usize) -> bool
-    requires { RowThere numbers.now bits.now i }
-    ensures { result ≡ numbers_in_table (given_at numbers.now bits.now i) }
-{
-    let at = i * Row::NUMBERS;
-    let block = is_within(numbers, at + Row::BLOCK, 1, Settings::BLOCK_LIMIT as u64);
-    let class = is_within(numbers, at + Row::CLASS, 0, Row::LAST_CODE);
-    let lead = is_within(numbers, at + Row::LEAD, 0, Row::LAST_CODE);
-    let datatype = is_within(
-        numbers,
-        at + Row::DATA_TYPE,
-        0,
-        Settings::LAST_DATA_TYPE as u64,
-    );
-    all(block, all(class, all(lead, datatype)))
-}
-
-// Interval and resolution of row i are.
-fn scales_fit(numbers: &[i64], bits: &[u64], i: usize) -> bool
-    requires { RowThere numbers.now bits.now i }
-    ensures { result ≡ scales_in_table (given_at numbers.now bits.now i) }
-{
-    let at = i * Row::NUMBERS;
-    let interval = scale_fits(
-        numbers,
-        at + Row::INTERVAL,
-        Settings::LAST_INTERVAL_UNIT as u64,
-    );
-    let resolution = scale_fits(
-        numbers,
-        at + Row::RESOLUTION,
-        Settings::LAST_RESOLUTION_UNIT as u64,
-    );
-    all(interval, resolution)
-}
-
-// The data type of row i, which is in the table.
-fn data_type(numbers: &[i64], bits: &[u64], i: usize) -> u8
-    requires { RowThere numbers.now bits.now i × (numbers_in_table (given_at numbers.now bits.now i) ≡ true) }
-    ensures { result ≡ natural_of (given_at numbers.now bits.now i).datatype }
-{
-    natural(numbers, i * Row::NUMBERS + Row::DATA_TYPE) as u8
-}
-
-// Offset and null of row i are not wider than its samples.
-fn bits_within(numbers: &[i64], bits: &[u64], i: usize) -> bool
-    requires { RowThere numbers.now bits.now i × (numbers_in_table (given_at numbers.now bits.now i) ≡ true) }
-    ensures { result ≡ bits_in_table (given_at numbers.now bits.now i) }
-{
-    let width = values::width(data_type(numbers, bits, i));
-    let offset = bits_fit(width, bits[i * Row::BITS]);
-    let null = bits_fit(width, bits[i * Row::BITS + 1]);
-    let none = no_null(numbers, i * Row::NUMBERS + Row::NULL_WIDTH);
-    if none {
-        return offset;
-    }
-    all(offset, null)
-}
-
-// Every setting of row i is in the table.
-fn row_fits(numbers: &[i64], bits: &[u64], i: usize) -> bool
-    requires { RowThere numbers.now bits.now i }
-    ensures { result ≡ in_table (given_at numbers.now bits.now i) }
-{
-    if !numbers_fit(numbers, bits, i) {
-        return false;
-    }
-    let scales = scales_fit(numbers, bits, i);
-    let within = bits_within(numbers, bits, i);
-    all(scales, within)
-}
-
 // A unit, an exponent and a mantissa that are in the table.
 fn scale(numbers: &[i64], at: usize, last: u64) -> Scale
     requires { (at + 2 < length numbers.now) × (last ≤ last_resolution_unit) × (scale_in_table last (given_scale (number_at numbers.now) at) ≡ true) }
@@ -226,67 +152,147 @@ fn scale(numbers: &[i64], at: usize, last: u64) -> Scale
     }
 }
 
-// The null of row i, of samples of so many octets.
-fn null_of(numbers: &[i64], bits: &[u64], i: usize, width: u8) -> Bits
-    requires { RowThere numbers.now bits.now i × (width ≡ width_given (given_at numbers.now bits.now i)) }
-    ensures { result ≡ null_made (given_at numbers.now bits.now i) }
-{
-    if no_null(numbers, i * Row::NUMBERS + Row::NULL_WIDTH) {
-        return Bits { width: 0, bits: 0 };
+impl Row<'_> {
+    // Block length, codes and data type are in the table.
+    fn numbers_fit(self) -> bool
+        ensures { result ≡ numbers_in_table (given_at self.entry.numbers.now self.entry.bits.now self.entry.index) }
+    {
+        let at = self.index * Row::NUMBERS;
+        let block = is_within(
+            self.numbers,
+            at + Row::BLOCK,
+            1,
+            Settings::BLOCK_LIMIT as u64,
+        );
+        let class = is_within(self.numbers, at + Row::CLASS, 0, Row::LAST_CODE);
+        let lead = is_within(self.numbers, at + Row::LEAD, 0, Row::LAST_CODE);
+        let datatype = is_within(
+            self.numbers,
+            at + Row::DATA_TYPE,
+            0,
+            Settings::LAST_DATA_TYPE as u64,
+        );
+        all(block, all(class, all(lead, datatype)))
     }
-    Bits {
-        width,
-        bits: bits[i * Row::BITS + 1],
-    }
-}
 
-// The settings of row i, which are in the table.
-pub(crate) fn settings_at(numbers: &[i64], bits: &[u64], i: usize) -> Settings
-    requires { RowThere numbers.now bits.now i × (in_table (given_at numbers.now bits.now i) ≡ true) }
-    ensures { result ≡ settings_made (given_at numbers.now bits.now i) }
-{
-    let at = i * Row::NUMBERS;
-    let datatype = data_type(numbers, bits, i);
-    let width = values::width(datatype) as u8;
-    let interval = scale(
-        numbers,
-        at + Row::INTERVAL,
-        Settings::LAST_INTERVAL_UNIT as u64,
-    );
-    let resolution = scale(
-        numbers,
-        at + Row::RESOLUTION,
-        Settings::LAST_RESOLUTION_UNIT as u64,
-    );
-    let null = null_of(numbers, bits, i, width);
-    Settings {
-        block: natural(numbers, at + Row::BLOCK) as u32,
-        class: natural(numbers, at + Row::CLASS) as u16,
-        lead: natural(numbers, at + Row::LEAD) as u16,
-        datatype,
-        interval,
-        resolution,
-        offset: Bits {
+    // Interval and resolution are.
+    fn scales_fit(self) -> bool
+        ensures { result ≡ scales_in_table (given_at self.entry.numbers.now self.entry.bits.now self.entry.index) }
+    {
+        let at = self.index * Row::NUMBERS;
+        let interval = scale_fits(
+            self.numbers,
+            at + Row::INTERVAL,
+            Settings::LAST_INTERVAL_UNIT as u64,
+        );
+        let resolution = scale_fits(
+            self.numbers,
+            at + Row::RESOLUTION,
+            Settings::LAST_RESOLUTION_UNIT as u64,
+        );
+        all(interval, resolution)
+    }
+
+    // The data type, which is in the table.
+    fn data_type(self) -> u8
+        requires { numbers_in_table (given_at self.numbers.now self.bits.now self.index) ≡ true }
+        ensures { result ≡ natural_of (given_at self.entry.numbers.now self.entry.bits.now self.entry.index).datatype }
+    {
+        natural(self.numbers, self.index * Row::NUMBERS + Row::DATA_TYPE) as u8
+    }
+
+    // Offset and null are not wider than its samples.
+    fn bits_within(self) -> bool
+        requires { numbers_in_table (given_at self.numbers.now self.bits.now self.index) ≡ true }
+        ensures { result ≡ bits_in_table (given_at self.entry.numbers.now self.entry.bits.now self.entry.index) }
+    {
+        let width = values::width(self.data_type());
+        let offset = bits_fit(width, self.bits[self.index * Row::BITS]);
+        let null = bits_fit(width, self.bits[self.index * Row::BITS + 1]);
+        let none = no_null(self.numbers, self.index * Row::NUMBERS + Row::NULL_WIDTH);
+        if none {
+            return offset;
+        }
+        all(offset, null)
+    }
+
+    // Every setting is in the table.
+    fn fits(self) -> bool
+        ensures { result ≡ in_table (given_at self.entry.numbers.now self.entry.bits.now self.entry.index) }
+    {
+        if !self.numbers_fit() {
+            return false;
+        }
+        let scales = self.scales_fit();
+        let within = self.bits_within();
+        all(scales, within)
+    }
+
+    // The null, of samples of so many octets.
+    fn null(self, width: u8) -> Bits
+        requires { width ≡ width_given (given_at self.numbers.now self.bits.now self.index) }
+        ensures { result ≡ null_made (given_at self.entry.numbers.now self.entry.bits.now self.entry.index) }
+    {
+        if no_null(self.numbers, self.index * Row::NUMBERS + Row::NULL_WIDTH) {
+            return Bits { width: 0, bits: 0 };
+        }
+        Bits {
             width,
-            bits: bits[i * Row::BITS],
-        },
-        null,
+            bits: self.bits[self.index * Row::BITS + 1],
+        }
+    }
+
+    // The settings, which are in the table.
+    pub(crate) fn settings(self) -> Settings
+        requires { in_table (given_at self.numbers.now self.bits.now self.index) ≡ true }
+        ensures { result ≡ settings_made (given_at self.entry.numbers.now self.entry.bits.now self.entry.index) }
+    {
+        let at = self.index * Row::NUMBERS;
+        let datatype = self.data_type();
+        let width = values::width(datatype) as u8;
+        let interval = scale(
+            self.numbers,
+            at + Row::INTERVAL,
+            Settings::LAST_INTERVAL_UNIT as u64,
+        );
+        let resolution = scale(
+            self.numbers,
+            at + Row::RESOLUTION,
+            Settings::LAST_RESOLUTION_UNIT as u64,
+        );
+        let null = self.null(width);
+        Settings {
+            block: natural(self.numbers, at + Row::BLOCK) as u32,
+            class: natural(self.numbers, at + Row::CLASS) as u16,
+            lead: natural(self.numbers, at + Row::LEAD) as u16,
+            datatype,
+            interval,
+            resolution,
+            offset: Bits {
+                width,
+                bits: self.bits[self.index * Row::BITS],
+            },
+            null,
+        }
     }
 }
 
 // The layout of the channels of the first n rows, or that one of them is outside the table.
-pub(crate) fn measure(numbers: &[i64], bits: &[u64], n: usize) -> Measured
+pub(crate) fn measure(numbers: &[i64], bits: &[u64], n: usize) -> Option<Layout>
     requires { RowsThere numbers.now bits.now n }
     ensures { result ≡ measured n numbers.now bits.now }
 {
     let mut l = Layout::none();
-    let mut i = 0usize;
-    while i < n {
-        if !row_fits(numbers, bits, i) {
-            return Measured::Outside;
+    for index in 0..n {
+        let row = Row {
+            numbers,
+            bits,
+            index,
+        };
+        if !row.fits() {
+            return None;
         }
-        l = l.more(i, 0, settings_at(numbers, bits, i));
-        i += 1;
+        l = l.more(index, 0, row.settings());
     }
-    Measured::Channels(l)
+    Some(l)
 }

@@ -79,7 +79,7 @@ pub fn mfer_samples_there(
 ) -> u32
     ensures { outputs result place.new count.new ≡ count_out (there_at file.now frame channel) }
 {
-    outputs::read_out(bulk::there(file, frame, channel), count, place)
+    outputs::count_out(bulk::there(file, frame, channel), count, place)
 }
 
 // The bits of a channel's samples from number `first` on, as the file has them, at the front of `out`: as many as fit or are there, and
@@ -96,7 +96,7 @@ pub fn mfer_samples(
     ensures count_after { outputs result place.new count.new ≡ count_out (count_read file.now frame channel first (length out.old)) }
     ensures out_after { out.new ≡ left_by (read_of file.now frame channel first (length out.old)) out.old }
 {
-    outputs::read_out(
+    outputs::count_out(
         bulk::samples(file, frame, channel, first, out),
         count,
         place,
@@ -120,7 +120,7 @@ pub fn mfer_values(
     ensures kinds_after { kinds.new ≡ left_by (kinds_in (values_of file.now frame channel first (min (length kinds.old) (length wholes.old)))) kinds.old }
     ensures wholes_after { wholes.new ≡ left_by (wholes_in (values_of file.now frame channel first (min (length kinds.old) (length wholes.old)))) wholes.old }
 {
-    outputs::read_out(
+    outputs::count_out(
         bulk::values(file, frame, channel, first, kinds, wholes),
         count,
         place,
@@ -131,7 +131,7 @@ pub fn mfer_values(
 pub fn mfer_canonical_length(file: &[u8], length: &mut u64, place: &mut u64) -> u32
     ensures { outputs result place.new length.new ≡ count_out (canonical_length_of file.now) }
 {
-    outputs::written_out(canonical::canonical_length(file), length, place)
+    outputs::count_out(canonical::canonical_length(file), length, place)
 }
 
 // Writes the canonical file of a file into the front of `out`: how long it is. The rest of `out`, and at a refusal all of it, keeps what it
@@ -139,7 +139,7 @@ pub fn mfer_canonical_length(file: &[u8], length: &mut u64, place: &mut u64) -> 
 pub fn mfer_canonical(file: &[u8], out: &mut [u8], written: &mut u64, place: &mut u64) -> u32
     ensures { CanonicalOut file.now out.old (outputs result place.new written.new) out.new }
 {
-    outputs::written_out(canonical::write_canonical(file, out), written, place)
+    outputs::count_out(canonical::write_canonical(file, out), written, place)
 }
 
 // Makes a frame into the front of `out`, as the canonical file has it: how long it is. `numbers` and `bits` are a row for each channel, as mfer_attributes tells
@@ -157,7 +157,7 @@ pub fn mfer_make_frame(
 ) -> u32
     ensures { MadeOut (making start sequences channels numbers.now bits.now samples.now) out.old (outputs result place.new written.new) out.new }
 {
-    outputs::written_out(
+    outputs::count_out(
         maker::make_frame(start, sequences, channels, numbers, bits, samples, out),
         written,
         place,

@@ -67,7 +67,7 @@ pub fn mfer_walk_samples_there(
 ) -> u32
     ensures { outputs result place.new count.new ≡ count_out (walk_there walk.now channel) }
 {
-    outputs::read_out(tour::there(walk, channel), count, place)
+    outputs::count_out(tour::there(walk, channel), count, place)
 }
 
 // The bits of a channel's samples as mfer_samples tells them, of the frame that a walk stands behind. Nothing of the file is read but these samples.
@@ -83,7 +83,7 @@ pub fn mfer_walk_samples(
     ensures count_after { outputs result place.new count.new ≡ count_out (map_answer length (walk_read file.now walk.now channel first (length out.old))) }
     ensures out_after { out.new ≡ left_by (walk_read file.now walk.now channel first (length out.old)) out.old }
 {
-    outputs::read_out(tour::samples(file, walk, channel, first, out), count, place)
+    outputs::count_out(tour::samples(file, walk, channel, first, out), count, place)
 }
 
 // The bits of all samples there of the frame that a walk stands behind: those of channel 0, then those of channel 1, at the front of `out`, as many as fit or are there.
@@ -98,7 +98,7 @@ pub fn mfer_walk_frame(
     ensures count_after { outputs result place.new count.new ≡ count_out (map_answer length (sweep_in file.now walk.now (length out.old))) }
     ensures out_after { out.new ≡ left_by (sweep_in file.now walk.now (length out.old)) out.old }
 {
-    outputs::read_out(sweep::sweep(file, walk, out), count, place)
+    outputs::count_out(sweep::sweep(file, walk, out), count, place)
 }
 
 // Their values: the kinds and the whole numbers of a channel's samples as mfer_sample tells them, of the frame that a walk stands behind.
@@ -116,7 +116,7 @@ pub fn mfer_walk_values(
     ensures kinds_after { kinds.new ≡ left_by (kinds_in (walk_values file.now walk.now channel first (min (length kinds.old) (length wholes.old)))) kinds.old }
     ensures wholes_after { wholes.new ≡ left_by (wholes_in (walk_values file.now walk.now channel first (min (length kinds.old) (length wholes.old)))) wholes.old }
 {
-    outputs::read_out(
+    outputs::count_out(
         tour::values(file, walk, channel, first, kinds, wholes),
         count,
         place,

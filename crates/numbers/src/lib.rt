@@ -25,20 +25,20 @@ pub fn numbers_of(a: Attributes) -> [i64; NUMBERS]
 {
     [
         a.start,
-        a.channels as i64,
-        a.sequences as i64,
-        a.settings.block as i64,
-        a.settings.class as i64,
-        a.settings.lead as i64,
-        a.settings.datatype as i64,
-        a.settings.interval.unit as i64,
-        a.settings.interval.exponent as i64,
-        a.settings.interval.mantissa as i64,
-        a.settings.resolution.unit as i64,
-        a.settings.resolution.exponent as i64,
-        a.settings.resolution.mantissa as i64,
-        a.settings.offset.width as i64,
-        a.settings.null.width as i64,
+        i64::from(a.channels),
+        i64::from(a.sequences),
+        i64::from(a.settings.block),
+        i64::from(a.settings.class),
+        i64::from(a.settings.lead),
+        i64::from(a.settings.datatype),
+        i64::from(a.settings.interval.unit),
+        i64::from(a.settings.interval.exponent),
+        i64::from(a.settings.interval.mantissa),
+        i64::from(a.settings.resolution.unit),
+        i64::from(a.settings.resolution.exponent),
+        i64::from(a.settings.resolution.mantissa),
+        i64::from(a.settings.offset.width),
+        i64::from(a.settings.null.width),
     ]
 }
 
@@ -83,7 +83,7 @@ pub fn whole_of(v: Value) -> i64
 fn flag_number(b: bool) -> u64
     ensures { result ≡ flag_number b }
 {
-    if b { 1 } else { 0 }
+    u64::from(b)
 }
 
 // The numbers of a frame, besides its start pointer.
@@ -91,8 +91,8 @@ pub fn frame_numbers(v: Waveform) -> [u64; FRAME_NUMBERS]
     ensures { result ≡ frame_numbers_of v }
 {
     [
-        v.channels as u64,
-        v.sequences as u64,
+        u64::from(v.channels),
+        u64::from(v.sequences),
         flag_number(v.little),
         v.place as u64,
         v.len as u64,

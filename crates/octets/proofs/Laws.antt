@@ -2,28 +2,30 @@
 --     part_past, part_rest, part_whole, take-length-le, part_short    a part that runs past the end
 --     drop-take, part_of    a part of a part
 --     take-octets, drop-octets, read_all    a part of octets, and octets that are no more than eight
---     range-suc, range-bits, range_pos, push, push_back, cap, push_fits    one octet more
---     big_turn, big_end, little-start, little_turn, little_end    a loop that reads octets from the front, and from the back
+--     range-suc, range-bits, range_pos, push, cap, push_fits    one octet more
+--     big_turn, big_end, back_octet, little-start, little_turn, little_end    a loop that reads octets from the front, and from the back
 --     big_below, little-below, number-below, number_first    a number is one of its width
 --     number_one    the number of one octet
---     twos-low, twos_high    what the machine reads back from a signed local's bits is the two's complement number
+--     twos-low, twos_high, twos-whole    what the machine reads back from a signed local's bits is the two's complement number
 -- Assumes nothing.
 use mathlib.Core.Path.{◌≡◌, refl, sym, ap, ◌∙◌}
-use mathlib.Core.List.{List, [], ◌∷◌}
+use mathlib.Core.List.{List, [], ◌∷◌, reverse}
 use mathlib.Core.Bool.{Bool, true, false}
 use Prim.Native.Nat.{ℕ, zero, suc, ◌+◌, ◌*◌, ◌-◌, ◌^◌, ◌<◌, ◌≤◌}
 use native.Mathlib.Nat.{lt_of_lt_of_le, min-le_left, one-le-pow, pow-suc, pow-le-pow_right, le_trans}
 use native.Mathlib.Numerals.{add-one}
 use native.Mathlib.Omega.{arith}
-use borrow.Author.Tests.{lt-ltb, le-ltb}
+use borrow.Author.Tests.{lt-ltb, le-ltb, ltb-true, ltb-false}
 use lib.Arith.{digits_lt}
-use lib.Dec.{lit<}
+use lib.Dec.{ltb, lit<}
 use lib.Pow.{pow-add}
 use lib.ListN.{length, get_or, take, drop, length-take, length-drop, drop_of_length-le}
 use lib.Seq.{drop-cons, drop-length, get_or-drop, take_all, take-nil, take-take}
 use mir.Syntax.{Width}
 use mir.Val.{bits, hbits, to_z}
 use mir.Facts.{to_z_pos, to_z-neg}
+use Rattle.std.proofs.lemmas.List.{get_or-reverse, length-reverse}
+use Rattle.std.proofs.lemmas.Grind.{get_or_default_zero}
 use Rattle.octets.specs.Number.{Octets, range, big_from, little_of, number_of, twos, NumberRead}
 
 -- What lies past the end is not there, so a part is at most as long as asked for.
@@ -96,12 +98,6 @@ push_fits i n b h k l =
     let e : i + 1 ≤ 8 = omega arith in
     lt_of_lt_of_le (push i n b k l) (cap (i + 1) 8 e)
 
--- The same, counted from the back: k of the l octets are still to be read.
-pub push_back : (l k n b : ℕ) → 0 < k → k ≤ l → n < range (l - k) → b < 256 → n * 256 + b < range (l - (k - 1))
-push_back l k n b z h q r =
-    let e : l - k + 1 ≡ l - (k - 1) = omega arith in
-    rw e at (push (l - k) n b q r)
-
 -- From the front: what is left to read gives the answer.
 pub big_turn : (s : List ℕ) (i n b e : ℕ) →
     i < length s → big_from n (drop i s) ≡ e → b ≡ get_or s i 0 → big_from (n * 256 + b) (drop (i + 1) s) ≡ e
@@ -112,12 +108,17 @@ pub big_end : (s : List ℕ) (i n e : ℕ) → length s ≤ i → big_from n (dr
 unfolding big_from
 big_end s i n e h q = rw (drop_of_length-le s h) at q
 
--- From the back: what has been read.
-pub little-start : (s : List ℕ) → 0 ≡ little_of (drop (length s) s)
+-- From the back: what has been read. The k-th octet from the back stands behind all that come before it from the front.
+pub back_octet : (s : List ℕ) (k b : ℕ) → k < length (reverse s) → b ≡ get_or (reverse s) k b → (k < length s) × (b ≡ get_or s (length s - (k + 1)) 0)
+back_octet s k b h e =
+    let q : k < length s = omega (arith, length-reverse s) in
+    let at : length s - 1 - k ≡ length s - (k + 1) = omega arith in
+    let l : length s - (k + 1) < length s = omega arith in
+    (q, e ∙ get_or-reverse s k b q ∙ ap (λ (i : ℕ). get_or s i b) at ∙ get_or_default_zero s _ b l)
+
+pub little-start : (s : List ℕ) (i : ℕ) → length s ≤ i → 0 ≡ little_of (drop i s)
 unfolding little_of
-little-start s =
-    let h : length s ≤ length s = omega arith in
-    rw (drop_of_length-le s h)
+little-start s i h = rw (drop_of_length-le s h)
 
 pub little_turn : (s : List ℕ) (i j n b : ℕ) →
     i < length s → j ≡ i + 1 → n ≡ little_of (drop j s) → b ≡ get_or s i 0 → n * 256 + b ≡ little_of (drop i s)
@@ -170,6 +171,14 @@ pub twos_high : (W : Width) (w n x : ℕ) →
     range w ≤ 2 * n → range w - suc n < 2 ^ hbits W → x ≡ 2 ^ bits W - suc (range w - suc n) → to_z W x ≡ twos w n
 unfolding twos
 twos_high W w n x h f e = ap (to_z W) e ∙ to_z-neg W (range w - suc n) f ∙ simp (le-ltb _ _ h)
+
+-- The same of all bits of a local of w octets.
+pub twos-whole : (W : Width) (w n : ℕ) → range w ≡ 2 ^ bits W → range w ≡ 2 * 2 ^ hbits W → n < range w → to_z W n ≡ twos w n
+twos-whole W w n e f h = by (ltb (2 * n) (range w)) refl
+  where
+    by : (t : Bool) → ltb (2 * n) (range w) ≡ t → to_z W n ≡ twos w n
+    by true q = let k = ltb-true (2 * n) (range w) q in twos-low W w n k (omega arith)
+    by false q = let k = ltb-false (2 * n) (range w) q in twos_high W w n n k (omega arith) (omega arith)
 
 -- The number of a part of at most eight octets, as it was read.
 module _ (little : Bool) (n : ℕ) (v x : List ℕ) {r : ℕ} (h : n ≤ 8) (e : x ≡ take n v) (q : NumberRead little (take 8 x) r) where

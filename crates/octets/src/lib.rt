@@ -6,8 +6,8 @@
 // Read first: specs/Number.antt; then the laws of proofs/Laws.antt and proofs/Octets.antt, which callers cite.
 #![tactic(auto)]
 
-ghost use Rattle.std.specs.Prelude.{◌≡◌, true, false, ◌+◌, ◌*◌, ◌<◌, ◌≤◌, length, take, drop};
-ghost use Rattle.octets.specs.Number.{range, NumberRead};
+ghost use Rattle.std.specs.Prelude.{◌≡◌, true, false, ◌+◌, ◌*◌, ◌≤◌, length, take, drop};
+ghost use Rattle.octets.specs.Number.{NumberRead};
 
 // How many numbers one octet, two, three and four can tell apart.
 pub const ONE_OCTET: u64 = 256;
@@ -33,23 +33,14 @@ pub fn part(s: &[u8], at: usize, n: usize) -> &[u8]
     &s[at..e]
 }
 
-// An octet as a number.
-fn wide(b: u8) -> u64
-    ensures { (result ≡ b) × (result < range 1) }
-{
-    b as u64
-}
-
 // Highest octet first.
 fn big_endian(s: &[u8]) -> u64
     requires { length s.now ≤ 8 }
     ensures { NumberRead false s.now result }
 {
-    let mut n = 0u64;
-    let mut i = 0usize;
-    while i < s.len() {
-        n = n * 256 + wide(s[i]);
-        i += 1;
+    let mut n = 0;
+    for b in s {
+        n = n * 256 + u64::from(*b);
     }
     n
 }
@@ -59,11 +50,9 @@ fn little_endian(s: &[u8]) -> u64
     requires { length s.now ≤ 8 }
     ensures { NumberRead true s.now result }
 {
-    let mut n = 0u64;
-    let mut i = s.len();
-    while 0 < i {
-        i -= 1;
-        n = n * 256 + wide(s[i]);
+    let mut n = 0;
+    for b in s.iter().rev() {
+        n = n * 256 + u64::from(*b);
     }
     n
 }
@@ -72,20 +61,20 @@ fn little_endian(s: &[u8]) -> u64
 pub fn two_octets(a: u8, b: u8) -> u64
     ensures { result ≡ a * 256 + b }
 {
-    a as u64 * 256 + b as u64
+    u64::from(u16::from_be_bytes([a, b]))
 }
 
 // The same of four octets, and of eight.
 pub fn four_octets(a: u8, b: u8, c: u8, d: u8) -> u64
     ensures { result ≡ ((a * 256 + b) * 256 + c) * 256 + d }
 {
-    ((a as u64 * 256 + b as u64) * 256 + c as u64) * 256 + d as u64
+    u64::from(u32::from_be_bytes([a, b, c, d]))
 }
 
 pub fn eight_octets(a: u8, b: u8, c: u8, d: u8, e: u8, f: u8, g: u8, h: u8) -> u64
     ensures { result ≡ ((((((a * 256 + b) * 256 + c) * 256 + d) * 256 + e) * 256 + f) * 256 + g) * 256 + h }
 {
-    four_octets(a, b, c, d) * FOUR_OCTETS + four_octets(e, f, g, h)
+    u64::from_be_bytes([a, b, c, d, e, f, g, h])
 }
 
 // The number of the first eight octets. Octets of a common width are read with no loop.
@@ -93,25 +82,21 @@ pub fn number(s: &[u8], little: bool) -> u64
     ensures { NumberRead «little» (take 8 s.now) result }
 {
     if s.len() == 1 {
-        return wide(s[0]);
+        return u64::from(s[0]);
     }
     if s.len() == 2 {
-        let a = s[0];
-        let b = s[1];
+        let x = [s[0], s[1]];
         if little {
-            return two_octets(b, a);
+            return u64::from(u16::from_le_bytes(x));
         }
-        return two_octets(a, b);
+        return u64::from(u16::from_be_bytes(x));
     }
     if s.len() == 4 {
-        let a = s[0];
-        let b = s[1];
-        let c = s[2];
-        let d = s[3];
+        let x = [s[0], s[1], s[2], s[3]];
         if little {
-            return four_octets(d, c, b, a);
+            return u64::from(u32::from_le_bytes(x));
         }
-        return four_octets(a, b, c, d);
+        return u64::from(u32::from_be_bytes(x));
     }
     let x = part(s, 0, 8);
     if little {

@@ -1,6 +1,7 @@
 -- What the functions for C hand out: a refusal's number as the result, 0 where there is none, and every output set in every case. At a
 -- refusal `place` is the refusal's, and every other output is 0.
 use Rattle.std.specs.Prelude.{List, ℕ, ℤ, pos, replicate}
+use Rattle.heads.specs.Faults.{number_of}
 use Rattle.heads.specs.Answer.{Answer, answered, refused_as}
 use Rattle.reader.specs.declared.Attributes.{Attributes}
 use Rattle.reader.specs.Answer.{FoundSample}
@@ -15,10 +16,10 @@ pub record Outputs (A : Type 0) : Type 0 where
 abbrev pub outputs : {A : Type 0} → ℕ → ℕ → A → Outputs A
 outputs refusal place values = record { refusal = refusal; place = place; values = values }
 
--- An answer: 0, a place, and the values. A refusal: its number, its place, and zeros.
+-- An answer: 0, a place, and the values. A refusal: the number of its fault, its place, and zeros.
 unfoldable pub handed_out : {A B : Type 0} → (A → ℕ) → (A → B) → B → Answer A → Outputs B
 handed_out place values zeros (answered a) = outputs 0 (place a) (values a)
-handed_out place values zeros (refused_as number at) = outputs number at zeros
+handed_out place values zeros (refused_as fault at) = outputs (number_of fault) at zeros
 
 -- ---- counts
 

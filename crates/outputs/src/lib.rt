@@ -6,103 +6,73 @@
 #![tactic(auto)]
 
 ghost use Rattle.std.specs.Prelude.{◌≡◌};
-ghost use Rattle.verdict.specs.Verdict.{checked_says};
-ghost use Rattle.reader.specs.Answer.{described_says, sampled_says, looked_up_says};
-ghost use Rattle.strides.specs.Channels.{read_says};
-ghost use Rattle.canonical.specs.Write.{written_says};
+ghost use Rattle.heads.specs.Answer.{answer_of};
+ghost use Rattle.reader.specs.Answer.{sampled_says};
 ghost use Rattle.walk.specs.Says.{step_says};
 ghost use Rattle.outputs.specs.Outputs.{outputs, count_out, attributes_values, attributes_out, sample_values, sample_out};
 ghost use Rattle.outputs.specs.Walks.{frame_values, frame_out, channel_values, channel_out};
 
-use canonical::Written;
-use heads::Refusal;
-use reader::{Described, LookedUp, Sampled};
-use strides::Read;
-use verdict::Checked;
-use walk::Step;
+use heads::{Fault, Refusal};
+use reader::{Attributes, Reading};
+use view::View;
+use walk::Waveform;
 
-// How many frames a file has, or the refusal.
-pub fn checked_out(r: Checked, frames: &mut u64, place: &mut u64) -> u32
-    ensures { outputs result place.new frames.new ≡ count_out (checked_says r) }
+// A count, or the refusal.
+pub fn count_out(r: Result<usize, Refusal>, count: &mut u64, place: &mut u64) -> u32
+    ensures { outputs result place.new count.new ≡ count_out (answer_of r) }
 {
     match r {
-        Checked::Frames(n) => {
-            *frames = n as u64;
-            *place = 0;
-            0
-        }
-        Checked::Refused(x) => {
-            *frames = 0;
-            *place = x.place as u64;
-            x.number as u32
-        }
-    }
-}
-
-// How many samples were read, or the refusal.
-pub fn read_out(r: Read, count: &mut u64, place: &mut u64) -> u32
-    ensures { outputs result place.new count.new ≡ count_out (read_says r) }
-{
-    match r {
-        Read::Samples(n) => {
+        Ok(n) => {
             *count = n as u64;
             *place = 0;
             0
         }
-        Read::Refused(x) => {
+        Err(x) => {
             *count = 0;
             *place = x.place as u64;
-            x.number as u32
+            x.fault.number() as u32
         }
     }
 }
 
-// How many octets are written, or the refusal.
-pub fn written_out(r: Written, length: &mut u64, place: &mut u64) -> u32
-    ensures { outputs result place.new length.new ≡ count_out (written_says r) }
+// How many frames a file has, or the refusal.
+pub fn checked_out(r: Result<u32, Refusal>, frames: &mut u64, place: &mut u64) -> u32
+    ensures { outputs result place.new frames.new ≡ count_out (answer_of r) }
 {
     match r {
-        Written::Octets(n) => {
-            *length = n as u64;
-            *place = 0;
-            0
-        }
-        Written::Refused(x) => {
-            *length = 0;
-            *place = x.place as u64;
-            x.number as u32
-        }
+        Ok(n) => count_out(Ok(n as usize), frames, place),
+        Err(x) => count_out(Err(x), frames, place),
     }
 }
 
 // The attributes of a channel, or the refusal.
 pub fn described_out(
-    r: Described,
+    r: Result<Attributes, Refusal>,
     numbers: &mut [i64; numbers::NUMBERS],
     bits: &mut [u64; 2],
     place: &mut u64,
 ) -> u32
-    ensures { outputs result place.new (attributes_values numbers.new bits.new) ≡ attributes_out (described_says r) }
+    ensures { outputs result place.new (attributes_values numbers.new bits.new) ≡ attributes_out (answer_of r) }
 {
     match r {
-        Described::Attributes(a) => {
+        Ok(a) => {
             *numbers = numbers::numbers_of(a);
             *bits = numbers::bit_pair_of(a);
             *place = 0;
             0
         }
-        Described::Refused(x) => {
+        Err(x) => {
             *numbers = [0; numbers::NUMBERS];
             *bits = [0; 2];
             *place = x.place as u64;
-            x.number as u32
+            x.fault.number() as u32
         }
     }
 }
 
 // A sample: its place, its kind, its number where it is whole, and its bits; or the refusal.
 pub fn sampled_out(
-    r: Sampled,
+    r: Result<Reading, Refusal>,
     place: &mut u64,
     kind: &mut u32,
     whole: &mut i64,
@@ -111,30 +81,27 @@ pub fn sampled_out(
     ensures { outputs result place.new (sample_values kind.new whole.new bits.new) ≡ sample_out (sampled_says r) }
 {
     match r {
-        Sampled::Sample {
-            place: at,
-            bits: b,
-            value,
-        } => {
-            *place = at as u64;
+        Ok(x) => {
+            let value = x.value;
+            *place = x.place as u64;
             *kind = numbers::kind_of(value);
             *whole = numbers::whole_of(value);
-            *bits = b;
+            *bits = x.bits;
             0
         }
-        Sampled::Refused(x) => {
+        Err(x) => {
             *place = x.place as u64;
             *kind = 0;
             *whole = 0;
             *bits = 0;
-            x.number as u32
+            x.fault.number() as u32
         }
     }
 }
 
 // The frame that a walk has come to, or the refusal; 20 at its end.
 pub fn step_out(
-    r: Step,
+    r: Result<Option<Waveform>, Refusal>,
     start: &mut i64,
     frame: &mut [u64; numbers::FRAME_NUMBERS],
     place: &mut u64,
@@ -142,40 +109,40 @@ pub fn step_out(
     ensures { outputs result place.new (frame_values start.new frame.new) ≡ frame_out (step_says r) }
 {
     match r {
-        Step::Frame(v) => {
+        Ok(Some(v)) => {
             let from = v.start;
             *start = from;
             *frame = numbers::frame_numbers(v);
             *place = 0;
             0
         }
-        Step::Ended => {
+        Ok(None) => {
             *start = 0;
             *frame = [0; numbers::FRAME_NUMBERS];
             *place = 0;
-            Refusal::NO_FRAME as u32
+            Fault::NoFrame.number() as u32
         }
-        Step::Refused(x) => {
+        Err(x) => {
             *start = 0;
             *frame = [0; numbers::FRAME_NUMBERS];
             *place = x.place as u64;
-            x.number as u32
+            x.fault.number() as u32
         }
     }
 }
 
 // A channel that is looked up: its attributes, and the octets of a sequence that lie below it; or the refusal.
 pub fn looked_up_out(
-    r: LookedUp,
+    r: Result<View, Refusal>,
     numbers: &mut [i64; numbers::NUMBERS],
     bits: &mut [u64; 2],
     below: &mut u64,
     place: &mut u64,
 ) -> u32
-    ensures { outputs result place.new (channel_values numbers.new bits.new below.new) ≡ channel_out (looked_up_says r) }
+    ensures { outputs result place.new (channel_values numbers.new bits.new below.new) ≡ channel_out (answer_of r) }
 {
     match r {
-        LookedUp::Channel(v) => {
+        Ok(v) => {
             let a = reader::attributes_seen(v);
             *numbers = numbers::numbers_of(a);
             *bits = numbers::bit_pair_of(a);
@@ -183,12 +150,12 @@ pub fn looked_up_out(
             *place = 0;
             0
         }
-        LookedUp::Refused(x) => {
+        Err(x) => {
             *numbers = [0; numbers::NUMBERS];
             *bits = [0; 2];
             *below = 0;
             *place = x.place as u64;
-            x.number as u32
+            x.fault.number() as u32
         }
     }
 }

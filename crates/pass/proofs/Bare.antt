@@ -3,6 +3,9 @@
 --     bare_root                behind a stretch of root definitions
 --     bare_more, bare_taken    a frame
 -- Assumes nothing.
+use Rattle.heads.specs.declared.Fault.{Fault}
+use Rattle.effects.specs.declared.Effect.{Effect}
+use Rattle.std.specs.Prelude.{Result, Ok}
 use mathlib.Core.Path.{◌≡◌, sym, ap, subst, ◌∙◌}
 use mathlib.Core.List.{List}
 use Prim.Native.Nat.{ℕ, ◌+◌, ◌-◌, ◌^◌, ◌≤◌, ◌<◌, min}
@@ -22,12 +25,9 @@ use Rattle.layout.specs.Measure.{More}
 use Rattle.layout.proofs.Laws.{Summing, summing_more}
 use Rattle.standing.specs.declared.Standing.{Standing}
 use Rattle.standing.specs.Standing.{octets_limit, first_standing, with_root}
-use Rattle.effects.specs.declared.Effect.{Effect}
 use Rattle.effects.specs.Effects.{standing_after}
 use Rattle.there.specs.There.{there_octets}
 use Rattle.framing.specs.Framing.{channels_of}
-use Rattle.framing.specs.declared.Framed.{Framed}
-use Rattle.framing.specs.declared.Framed.TheVariants.{Taken}
 use Rattle.stretch.specs.declared.Stretch.{Stretch}
 use Rattle.stretch.specs.Stretch.{stretch_of}
 use Rattle.pass.specs.declared.Asked.{Asked}
@@ -57,10 +57,10 @@ module _ {s : List ℕ} {q : Asked} {c : Cursor} {m : Met} where
   bare_at {st = st} e p = subst (λ (x : Cursor). Bare s q x st m) (sym e) p
 
 module _ {s : List ℕ} {q : Asked} {c : Cursor} {st : Standing} {m : Met} where
-  pub bare_all : {i : Item} {d : Cursor} {e : Effect} {ch : Change} {st' : Standing} → Facing s q (replicate channel_limit st.root) c st m i d e → e ≡ Effect.All ch → st' ≡ standing_after st (Effect.All ch) → Bare s q d st' m
+  pub bare_all : {i : Item} {d : Cursor} {e : Result Effect Fault} {f : Effect} {ch : Change} {st' : Standing} → Facing s q (replicate channel_limit st.root) c st m i d e → e ≡ Ok f → f ≡ Effect.All ch → st' ≡ standing_after st (Ok f) → Bare s q d st' m
   unfolding all_applied
-  bare_all {d = d} {ch = ch} {st' = st'} t b w =
-      let k = facing_all t b w in
+  bare_all {d = d} {ch = ch} {st' = st'} t a b w =
+      let k = facing_all t a b w in
       subst (λ (u : List Settings). Scanning s q u d st' m) (map-replicate (applied ch) channel_limit st.root ∙ ap (replicate channel_limit) (sym k.0)) k.1
 
   pub bare_root : {base : Settings} {t : Stretch} {st' : Standing} → Bare s q c st m → c.within ≡ Root → base ≡ default_settings → t ≡ stretch_of s c st.little base st.root → st' ≡ with_root t.settings st → Bare s q (cursor t.at Root) st' m
@@ -77,8 +77,8 @@ bare_more {channel = channel} {x = x} {i = i} {l = l} p m h g =
     summing_more p m h (subst (λ (y : Settings). More i channel y l m) (sym (get_or-replicate channel_limit i x zero_settings (omega (arith, p.few)))) g)
 
 -- A frame is taken, all of whose channels have the same.
-pub bare_taken : {s : List ℕ} {q : Asked} {c : Cursor} {st : Standing} {m : Met} {i : Item} {d : Cursor} {start len sequences : ℕ} {l : Layout} {r : Framed} {x : Standing} {m' : Met}
-    → Framing s q (replicate channel_limit st.root) c st m i d start len l r → r ≡ Taken sequences x
+pub bare_taken : {s : List ℕ} {q : Asked} {c : Cursor} {st : Standing} {m : Met} {i : Item} {d : Cursor} {start len sequences : ℕ} {l : Layout} {r : Result (ℕ × Standing) Fault} {x : Standing} {m' : Met}
+    → Framing s q (replicate channel_limit st.root) c st m i d start len l r → r ≡ Ok (sequences, x)
     → {there : ℕ} → there ≡ there_octets (take (channels_of st.counted) (replicate channel_limit st.root)) sequences len
     → (m' ≡ met_with q st sequences start len l there st.root m) × (frame_size sequences l.groups there < 2 ^ 32)
     → Bare s q d x m'

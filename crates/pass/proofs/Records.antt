@@ -5,6 +5,9 @@
 --     passing_group     behind the definitions at the front of a group
 --     settled_more, settled_seen    the channels of a frame
 -- Assumes nothing.
+use Rattle.std.specs.Prelude.{Result, Ok}
+use Rattle.heads.specs.declared.Fault.{Fault}
+use Rattle.effects.specs.declared.Effect.{Effect}
 use mathlib.Core.Path.{◌≡◌, refl, sym, ap, subst, ◌∙◌}
 use mathlib.Core.List.{List}
 use mathlib.Core.Bool.{false}
@@ -27,7 +30,6 @@ use Rattle.layout.specs.declared.Layout.{Layout}
 use Rattle.layout.specs.Measure.{More}
 use Rattle.layout.proofs.Laws.{Summing, summing_more}
 use Rattle.standing.specs.declared.Standing.{Standing}
-use Rattle.effects.specs.declared.Effect.{Effect}
 use Rattle.effects.specs.Effects.{standing_after}
 use Rattle.stretch.specs.declared.Stretch.{Stretch}
 use Rattle.stretch.specs.Stretch.{stretch_of}
@@ -75,7 +77,7 @@ module _ {s : List ℕ} {q : Asked} {table : List Dated} {dates : Dates} {c : Cu
 
   -- ---- behind an item
 
-  module _ {i : Item} {d : Cursor} {e : Effect} (t : Facing s q stands c st m i d e) where
+  module _ {i : Item} {d : Cursor} {e : Result Effect Fault} (t : Facing s q stands c st m i d e) where
     room : c.at + 1 + 1 < 2 ^ 32
     room = omega (arith, facing_later t, p.pass.long)
 
@@ -92,52 +94,52 @@ module _ {s : List ℕ} {q : Asked} {table : List Dated} {dates : Dates} {c : Cu
         }
 
     -- The effect carried out, by what it is.
-    does : {f : Effect} → e ≡ f → carried s (state st stands t.before.met) e ≡ carried s (state st stands t.before.met) f
-    does b = ap (carried s (state st stands t.before.met)) b
+    does : {f g : Effect} → e ≡ Ok f → f ≡ g → carried s (state st stands t.before.met) e ≡ carried s (state st stands t.before.met) (Ok g)
+    does a b = ap (carried s (state st stands t.before.met)) (a ∙ ap Ok b)
 
-    pub passing_count : {n : ℕ} {st' : Standing} {dates' : Dates} → e ≡ Effect.Count n → st' ≡ standing_after st e → dates' ≡ all_cleared dates → Passing s q table dates' d st' m
-    passing_count {n = n} {st' = st'} b w ed =
-        let v = w ∙ ap (standing_after st) b in
+    pub passing_count : {f : Effect} {n : ℕ} {st' : Standing} {dates' : Dates} → e ≡ Ok f → f ≡ Effect.Count n → st' ≡ standing_after st (Ok f) → dates' ≡ all_cleared dates → Passing s q table dates' d st' m
+    passing_count {n = n} {st' = st'} a b w ed =
+        let v = w ∙ ap (λ (x : Effect). standing_after st (Ok x)) b in
         rw ed
         (record {
           full = p.full;
           kept = timely_longer (timely_cleared p.kept room) on;
           pass = subst (λ (r : Settings). Scanning s q (settled_in r (all_cleared dates) table) d st' m) (sym (ap (λ (x : Standing). x.root) v))
-              (facing_goes t v (does b ∙ carried-count s st dates table t.before.met p.kept p.full n));
+              (facing_goes t v (does a b ∙ carried-count s st dates table t.before.met p.kept p.full n));
         })
 
-    pub passing_all : {ch : Change} {st' : Standing} {dates' : Dates} → e ≡ Effect.All ch → st' ≡ standing_after st (Effect.All ch) → dates' ≡ root_defined ch dates → Passing s q table dates' d st' m
-    passing_all {ch = ch} {st' = st'} b w ed =
+    pub passing_all : {f : Effect} {ch : Change} {st' : Standing} {dates' : Dates} → e ≡ Ok f → f ≡ Effect.All ch → st' ≡ standing_after st (Ok (Effect.All ch)) → dates' ≡ root_defined ch dates → Passing s q table dates' d st' m
+    passing_all {ch = ch} {st' = st'} a b w ed =
         rw ed
         (record {
           full = p.full;
           kept = timely_longer (timely_root p.kept room ch) on;
           pass = subst (λ (r : Settings). Scanning s q (settled_in r (root_defined ch dates) table) d st' m) (sym (ap (λ (x : Standing). x.root) w))
-              (facing_goes t w (does b ∙ carried-all s st dates table t.before.met p.kept p.full ch room));
+              (facing_goes t w (does a b ∙ carried-all s st dates table t.before.met p.kept p.full ch room));
         })
 
     -- The record of a channel, brought up to date and changed.
     abbrev changed : ℕ → Change → Dated
     changed channel ch = noted dates.now (applied ch (settled_at st.root dates (get_or table channel zero_dated)))
 
-    one_set : {channel : ℕ} {ch : Change} → e ≡ Effect.One channel ch → Scanning s q (settled_in st.root dates (set table channel (changed channel ch))) d st m
-    one_set {channel = channel} {ch = ch} b = facing_goes t refl (does b ∙ carried_one s st dates table t.before.met p.kept p.full channel ch)
+    one_set : {f : Effect} {channel : ℕ} {ch : Change} → e ≡ Ok f → f ≡ Effect.One channel ch → Scanning s q (settled_in st.root dates (set table channel (changed channel ch))) d st m
+    one_set {channel = channel} {ch = ch} a b = facing_goes t refl (does a b ∙ carried_one s st dates table t.before.met p.kept p.full channel ch)
 
-    pub passing_one : {channel : ℕ} {ch : Change} {stood v : Settings} {x : Dated} → e ≡ Effect.One channel ch
+    pub passing_one : {f : Effect} {channel : ℕ} {ch : Change} {stood v : Settings} {x : Dated} → e ≡ Ok f → f ≡ Effect.One channel ch
         → stood ≡ settled_at st.root dates (get_or table channel zero_dated) → v ≡ applied ch stood → x ≡ noted dates.now v
         → Passing s q (set table channel x) dates d st m
-    passing_one {channel = channel} {ch = ch} b es ev ex =
+    passing_one {channel = channel} {ch = ch} a b es ev ex =
         rw (ex ∙ ap (noted dates.now) (ev ∙ ap (applied ch) es))
         (record {
           full = length-set table channel (changed channel ch) ∙ p.full;
           kept = timely_longer (timely_set p.kept channel (changed channel ch).settings) (omega (arith, on));
-          pass = one_set b;
+          pass = one_set a b;
         })
 
     -- A channel that has no record.
-    pub passing_outside : {channel : ℕ} {ch : Change} → e ≡ Effect.One channel ch → channel_limit ≤ channel → Passing s q table dates d st m
-    passing_outside {channel = channel} {ch = ch} b h =
-        passing_on (refl, subst (λ (u : List Dated). Scanning s q (settled_in st.root dates u) d st m) (set_out table channel (changed channel ch) (rw p.full h)) (one_set b))
+    pub passing_outside : {f : Effect} {channel : ℕ} {ch : Change} → e ≡ Ok f → f ≡ Effect.One channel ch → channel_limit ≤ channel → Passing s q table dates d st m
+    passing_outside {channel = channel} {ch = ch} a b h =
+        passing_on (refl, subst (λ (u : List Dated). Scanning s q (settled_in st.root dates u) d st m) (set_out table channel (changed channel ch) (rw p.full h)) (one_set a b))
 
   -- ---- behind the definitions at the front of a group
 

@@ -2,6 +2,10 @@
 --     scanning_first, -on, -frame    before the first item, behind items that give no frame, behind a frame
 --     scanned_end, -refuses, -fault    the three ways out
 -- Assumes nothing.
+use Rattle.heads.specs.declared.Fault.{Fault}
+use Rattle.effects.specs.declared.Effect.{Effect}
+use Rattle.std.specs.Prelude.{Result, Ok, Err, Option, Some, None}
+use Rattle.view.specs.declared.View.{View}
 use mathlib.Core.Path.{◌≡◌, refl, sym, ap, ◌∙◌}
 use mathlib.Core.List.{List, [], ◌∷◌, ◌++◌}
 use mathlib.Core.Bool.{Bool}
@@ -18,10 +22,8 @@ use Rattle.octets.proofs.Pick.{pick_cases}
 use Rattle.items.specs.declared.Item.{Item}
 use Rattle.items.specs.declared.Cursor.{Cursor}
 use Rattle.heads.specs.declared.Refusal.{Refusal}
-use Rattle.items.specs.declared.Next.{Next}
-use Rattle.items.specs.declared.Next.TheVariants.{Found as FoundItem, End}
 use Rattle.items.specs.declared.Within.TheVariants.{Root}
-use Rattle.heads.specs.Refusals.{long_file}
+use Rattle.heads.specs.declared.Fault.TheVariants.{LongFile}
 use Rattle.items.specs.Walk.{next_of, items_from, cursor, refusal}
 use Rattle.items.proofs.Walks.{items_found, items_end, items_refused}
 use Rattle.settings.specs.declared.Settings.{Settings}
@@ -31,12 +33,7 @@ use Rattle.layout.specs.Frame.{Frame, channel_in}
 use Rattle.sizes.specs.Size.{frame_size}
 use Rattle.layout.specs.Measure.{layout_of}
 use Rattle.standing.specs.declared.Standing.{Standing}
-use Rattle.effects.specs.declared.Effect.{Effect}
-use Rattle.framing.specs.declared.Framed.{Framed}
-use Rattle.framing.specs.declared.Framed.TheVariants.{Taken}
 use Rattle.pass.specs.declared.Asked.{Asked}
-use Rattle.pass.specs.declared.Found.{Found}
-use Rattle.verdict.specs.declared.Checked.{Checked}
 use Rattle.standing.specs.Standing.{octets_limit, frames_limit, first_standing}
 use Rattle.effects.specs.Effects.{effect_of}
 use Rattle.framing.specs.Framing.{channels_of}
@@ -92,20 +89,20 @@ module _ {s : List ℕ} {q : Asked} {table : List Settings} {c : Cursor} {st : S
   left = reached-verdict s p.long p.reached
 
   -- The end.
-  pub scanned_end : {n : Next} → n ≡ next_of s c → n ≡ End → met_scan m ≡ scan_of q s
+  pub scanned_end : {n : Result (Option (Item × Cursor)) Refusal} → n ≡ next_of s c → n ≡ Ok None → met_scan m ≡ scan_of q s
   unfolding scan_of scanned_in interpret
   scanned_end e f =
       let v : accepted p.met ≡ verdict s = ap (interpret s scanned_state) (sym (items_end s c (sym e ∙ f))) ∙ left in
-      (λ k. record { checked = Checked.Frames (p.count k); found = p.kept k; size = p.sized k }) ∙ ap (scanned_in q) v
+      (λ k. record { checked = Ok (p.count k); found = p.kept k; size = p.sized k }) ∙ ap (scanned_in q) v
 
   -- A fault of form.
-  pub scanned_fault : {n : Next} (r : Refusal) → n ≡ next_of s c → n ≡ Next.Refused r → refused_scan r ≡ scan_of q s
+  pub scanned_fault : {n : Result (Option (Item × Cursor)) Refusal} (r : Refusal) → n ≡ next_of s c → n ≡ Err r → refused_scan r ≡ scan_of q s
   unfolding scan_of scanned_in interpret
   scanned_fault r e f =
       ap (scanned_in q) (ap (interpret s scanned_state) (sym (items_refused s c r (sym e ∙ f))) ∙ left)
 
   -- A refused item.
-  pub scanned_refuses : {n : Next} {i : Item} {d : Cursor} (k place : ℕ) → n ≡ next_of s c → n ≡ FoundItem i d → place ≡ place_at i → carried s scanned_state (effect_of s st i) ≡ refuses k → refused_scan (refusal k place) ≡ scan_of q s
+  pub scanned_refuses : {n : Result (Option (Item × Cursor)) Refusal} {i : Item} {d : Cursor} (k : Fault) (place : ℕ) → n ≡ next_of s c → n ≡ Ok (Some (i, d)) → place ≡ place_at i → carried s scanned_state (effect_of s st i) ≡ refuses k → refused_scan (refusal k place) ≡ scan_of q s
   unfolding scan_of scanned_in
   scanned_refuses {i = i} {d = d} k place e f ep g =
       ap (λ (x : ℕ). scanned_in q (refused (refusal k x))) ep
@@ -119,10 +116,10 @@ sizes-more [] g = rw (add-zero, zero-add)
 sizes-more (f ∷ fs) g = rw (sizes-more fs g) (sym (add_assoc (size_of f) (sizes fs) (size_of g)))
 
 -- One frame more is found where it is the one that is asked for.
-found_more : (q : Asked) (fs : List Frame) (g : Frame) → pick (eqb (length fs) q.frame) (Found.Frame (view_of q.channel g)) (found_in q fs) ≡ found_in q (fs ++ (g ∷ []))
+found_more : (q : Asked) (fs : List Frame) (g : Frame) → pick (eqb (length fs) q.frame) (Some (view_of q.channel g)) (found_in q fs) ≡ found_in q (fs ++ (g ∷ []))
 unfolding found_in
 found_more q fs g =
-    pick_cases (λ (r : Found). r ≡ found_in q (fs ++ (g ∷ []))) (eqb (length fs) q.frame)
+    pick_cases (λ (r : Option View). r ≡ found_in q (fs ++ (g ∷ []))) (eqb (length fs) q.frame)
     (λ e. let h = eqb-true (length fs) q.frame e in
     rw (← h) (simp (length-append, lt-ltb (length fs) (length fs + 1) (omega arith), get_or-append_seam fs g [] zero_frame)))
     (λ e. let h = eqb-false (length fs) q.frame e in other h (dec_lt q.frame (length fs)))
@@ -137,10 +134,10 @@ found_more q fs g =
         simp (length-append, le-ltb q.frame (length fs) k, le-ltb q.frame (length fs + 1) m)
 
 -- A frame is kept where it is the one that is asked for.
-pub kept_this : {a b : ℕ} (x y : Found) → a ≡ b → x ≡ pick (eqb a b) x y
+pub kept_this : {a b : ℕ} (x y : Option View) → a ≡ b → x ≡ pick (eqb a b) x y
 kept_this {a = a} {b = b} x y e = sym (ap (λ (t : Bool). pick t x y) (eq-eqb a b e))
 
-pub kept_before : {a b : ℕ} (x y : Found) → (a ≡ b → ⊥) → y ≡ pick (eqb a b) x y
+pub kept_before : {a b : ℕ} (x y : Option View) → (a ≡ b → ⊥) → y ≡ pick (eqb a b) x y
 kept_before {a = a} {b = b} x y n = sym (ap (λ (t : Bool). pick t x y) (ne_eqb a b n))
 
 -- The channel that is asked for, as the table has it and as the frame has it.
@@ -157,11 +154,11 @@ channel_seen channel count table h l =
 
 module _ {s : List ℕ} {q : Asked} {table : List Settings} {c : Cursor} {st : Standing} {m : Met} (p : Scanning s q table c st m)
     (l : Layout) (el : l ≡ layout_of q.channel (take (channels_of st.counted) table))
-    (i : Item) {start len sequences : ℕ} {x : Standing} {r : Framed}
-    (ee : Effect.Frame start len ≡ effect_of s st i) (er : r ≡ framed_by m.frames st l.agree l.octets len) (fr : r ≡ Taken sequences x) where
+    (i : Item) {start len sequences : ℕ} {x : Standing} {r : Result (ℕ × Standing) Fault}
+    (ee : Ok (Effect.Frame start len) ≡ effect_of s st i) (er : r ≡ framed_by m.frames st l.agree l.octets len) (fr : r ≡ Ok (sequences, x)) where
   -- The frame is met; v are the settings of the channel that is asked for, where the frame has it.
   pub scanning_frame : {d : Cursor} (v : Settings)
-      → next_of s c ≡ FoundItem i d
+      → next_of s c ≡ Ok (Some (i, d))
       → pick (ltb q.channel (channels_of st.counted)) v default_settings ≡ pick (ltb q.channel (channels_of st.counted)) (get_or table (min q.channel (channel_limit - 1)) zero_settings) default_settings
       → {there : ℕ} → there ≡ there_octets (take (channels_of st.counted) table) sequences len
       → frame_size sequences l.groups there < 2 ^ 32
@@ -183,12 +180,12 @@ module _ {s : List ℕ} {q : Asked} {table : List Settings} {c : Cursor} {st : S
         met = p.met ++ (g ∷ []);
         reached = behind p.reached en (frame-carried p.reached p.count q.channel l el i start len (waveform-small s st i p.long ee) ee er fr);
         count = simp length-append (omega (arith, p.count));
-        kept = (λ k. pick (eqb (p.count k) q.frame) (Found.Frame (vw k)) (p.kept k)) ∙ found_more q p.met g;
+        kept = (λ k. pick (eqb (p.count k) q.frame) (Some (vw k)) (p.kept k)) ∙ found_more q p.met g;
         sized = (λ k. p.sized k + sz k) ∙ sym (sizes-more p.met g);
         room = omega (arith, p.room, small);
       }
 
 -- 15 comes first.
-pub scanned_large : (s : List ℕ) (q : Asked) → octets_limit < length s → refused_scan (refusal long_file 0) ≡ scan_of q s
+pub scanned_large : (s : List ℕ) (q : Asked) → octets_limit < length s → refused_scan (refusal LongFile 0) ≡ scan_of q s
 unfolding scan_of scanned_in verdict
 scanned_large s q h = simp (lt-ltb octets_limit (length s) h)

@@ -4,6 +4,11 @@
 --     group_law         in a group, the record of its channel
 --     begins_root, opened_group, group_entered    where the pass takes a stretch
 -- Assumes nothing.
+use Rattle.heads.specs.declared.Fault.{Fault}
+use Rattle.effects.specs.declared.Effect.{Effect}
+use Rattle.heads.specs.declared.ItemHead.{ItemHead}
+use Rattle.std.specs.Prelude.{Result, Ok, Err, Option, Some, None}
+use Rattle.heads.specs.declared.Refusal.{Refusal}
 use mathlib.Core.Path.{◌≡◌, refl, sym, ap, subst, ◌∙◌}
 use mathlib.Core.List.{List, [], ◌∷◌}
 use mathlib.Core.Bool.{Bool, true, false}
@@ -21,23 +26,17 @@ use Rattle.items.specs.declared.Item.{Item}
 use Rattle.items.specs.declared.Item.TheVariants.{Plain, Member}
 use Rattle.items.specs.declared.Within.{Within}
 use Rattle.items.specs.declared.Cursor.{Cursor}
-use Rattle.heads.specs.declared.Head.{Head}
-use Rattle.items.specs.declared.Next.{Next}
-use Rattle.items.specs.declared.Next.TheVariants.{Found}
 use Rattle.heads.specs.Head.{root_only, head_of}
 use Rattle.items.specs.Walk.{cursor, stands_in, is_inside, extent, ends_open, ended, item_of, next_in, next_of}
 use Rattle.settings.specs.declared.Settings.{Settings}
 use Rattle.definitions.specs.declared.Attribute.{Attribute}
 use Rattle.settings.specs.declared.Change.{Change}
-use Rattle.definitions.specs.declared.Tagged.{Tagged}
-use Rattle.definitions.specs.declared.Defined.{Defined}
 use Rattle.settings.specs.Settings.{channel_limit, default_settings, zero_settings, applied, all_applied}
 use Rattle.definitions.specs.Define.{tagged, defined}
 use Rattle.settings.proofs.Repeats.{map-replicate}
 use Rattle.layout.specs.Frame.{Frame}
 use Rattle.standing.specs.declared.Standing.{Standing}
 use Rattle.standing.specs.Standing.{with_root}
-use Rattle.effects.specs.declared.Effect.{Effect}
 use Rattle.effects.specs.Effects.{value_at, all_effect, one_effect, root_effect, plain_effect, member_effect, group_effect, effect_of}
 use Rattle.stretch.specs.declared.Stretch.{Stretch}
 use Rattle.stretch.specs.Stretch.{Step, leaves, ends, stepped_over, step_of, stretch, onward, run_from, run_of, stretch_of}
@@ -48,8 +47,8 @@ use Rattle.pass.specs.Passing.{opened_by, begins_at}
 use Rattle.verdict.proofs.Keeps.{meaning}
 
 module _ (s : List ℕ) (w : Within) (little : Bool) (base : Settings) (X : Settings → State)
-    (defines : (held : Settings) (at tag n : ℕ) (a : Attribute) (c : Change) → tagged tag ≡ Tagged.Defines a → defined a little base (value_at s (at + 2) n) ≡ Defined.Changed c → meaning s (X held) (item_in w at tag n) ≡ goes (X (applied c held)))
-    (passes : (held : Settings) (at tag n : ℕ) → tagged tag ≡ Tagged.Other → root_only tag ≡ false → meaning s (X held) (item_in w at tag n) ≡ goes (X held)) where
+    (defines : (held : Settings) (at tag n : ℕ) (a : Attribute) (c : Change) → tagged tag ≡ Some a → defined a little base (value_at s (at + 2) n) ≡ Ok c → meaning s (X held) (item_in w at tag n) ≡ goes (X (applied c held)))
+    (passes : (held : Settings) (at tag n : ℕ) → tagged tag ≡ None → root_only tag ≡ false → meaning s (X held) (item_in w at tag n) ≡ goes (X held)) where
   -- One item.
   one_law : (at : ℕ) (held x : Settings) → InStretch little base held (extent s at w) x → Reached s (X held) (cursor at w) → Reached s (X x) (cursor (at + 2 + get_or (extent s at w) 1 0) w)
   one_law at held x p r = behind r (next_short s at w p.ordinary p.long p.short) (⊎_elim by_definition by_nothing p.does)
@@ -60,10 +59,10 @@ module _ (s : List ℕ) (w : Within) (little : Bool) (base : Settings) (X : Sett
       n : ℕ
       n = get_or (extent s at w) 1 0
 
-      by_definition : ((a : Attribute) × (c : Change) × (tagged tag ≡ Tagged.Defines a) × (defined a little base (take n (drop 2 (extent s at w))) ≡ Defined.Changed c) × (x ≡ applied c held)) → meaning s (X held) (item_in w at tag n) ≡ goes (X x)
+      by_definition : ((a : Attribute) × (c : Change) × (tagged tag ≡ Some a) × (defined a little base (take n (drop 2 (extent s at w))) ≡ Ok c) × (x ≡ applied c held)) → meaning s (X held) (item_in w at tag n) ≡ goes (X x)
       by_definition q = defines held at tag n q.0 q.1 q.2 (ap (defined q.0 little base) (value-ahead s at w n p.long) ∙ q.3) ∙ ap (λ (y : Settings). goes (X y)) (sym q.4)
 
-      by_nothing : ((tagged tag ≡ Tagged.Other) × (x ≡ held)) → meaning s (X held) (item_in w at tag n) ≡ goes (X x)
+      by_nothing : ((tagged tag ≡ None) × (x ≡ held)) → meaning s (X held) (item_in w at tag n) ≡ goes (X x)
       by_nothing q = passes held at tag n q.0 p.ordinary.anywhere ∙ ap (λ (y : Settings). goes (X y)) (sym q.1)
 
   -- From the place before a stretch the file's items lead behind it.
@@ -110,17 +109,17 @@ module _ (s : List ℕ) (st : Standing) (fs : List Frame) where
   abbrev root_state : Settings → State
   root_state held = state (with_root held st) (replicate channel_limit held) fs
 
-  root_defines : (held : Settings) (at tag n : ℕ) (a : Attribute) (c : Change) → tagged tag ≡ Tagged.Defines a → defined a st.little default_settings (value_at s (at + 2) n) ≡ Defined.Changed c → meaning s (root_state held) (Plain at tag (at + 2) n) ≡ goes (root_state (applied c held))
+  root_defines : (held : Settings) (at tag n : ℕ) (a : Attribute) (c : Change) → tagged tag ≡ Some a → defined a st.little default_settings (value_at s (at + 2) n) ≡ Ok c → meaning s (root_state held) (Plain at tag (at + 2) n) ≡ goes (root_state (applied c held))
   unfolding effect_of plain_effect all_effect carried all_applied
   root_defines held at tag n a c e f =
-      ap (λ (t : Tagged). carried s (root_state held) (plain_effect (with_root held st) tag (at + 2) (value_at s (at + 2) n) t)) e
-      ∙ ap (λ (d : Defined). carried s (root_state held) (all_effect d)) f
+      ap (λ (t : Option Attribute). carried s (root_state held) (plain_effect (with_root held st) tag (at + 2) (value_at s (at + 2) n) t)) e
+      ∙ ap (λ (d : Result Change Fault). carried s (root_state held) (all_effect d)) f
       ∙ ap (λ (t : List Settings). goes (state (with_root (applied c held) st) t fs)) (map-replicate (applied c) channel_limit held)
 
-  root_passes : (held : Settings) (at tag n : ℕ) → tagged tag ≡ Tagged.Other → root_only tag ≡ false → meaning s (root_state held) (Plain at tag (at + 2) n) ≡ goes (root_state held)
+  root_passes : (held : Settings) (at tag n : ℕ) → tagged tag ≡ None → root_only tag ≡ false → meaning s (root_state held) (Plain at tag (at + 2) n) ≡ goes (root_state held)
   unfolding effect_of plain_effect root_effect carried root_only
   root_passes held at tag n e f =
-      ap (λ (t : Tagged). carried s (root_state held) (plain_effect (with_root held st) tag (at + 2) (value_at s (at + 2) n) t)) e
+      ap (λ (t : Option Attribute). carried s (root_state held) (plain_effect (with_root held st) tag (at + 2) (value_at s (at + 2) n) t)) e
       ∙ pick_cases Done (eqb tag 0x01) (λ q. absurd (bar 0x01 tt q))
       (λ _. pick_cases Done (eqb tag 0x05) (λ q. absurd (bar 0x05 tt q))
       (λ _. pick_cases Done (eqb tag 0x06) (λ q. absurd (bar 0x06 tt q))
@@ -129,7 +128,7 @@ module _ (s : List ℕ) (st : Standing) (fs : List Frame) where
       (λ _. pick_cases Done (eqb tag 0x1E) (λ q. absurd (bar 0x1E tt q))
       (λ _. refl))))))
     where
-      Done : Effect → Type 0
+      Done : Result Effect Fault → Type 0
       Done x = carried s (root_state held) x ≡ goes (root_state held)
 
       bar : (k : ℕ) → Truth (root_only k) → eqb tag k ≡ true → ⊥
@@ -151,22 +150,22 @@ module _ (s : List ℕ) (st : Standing) (fs : List Frame) (table : List Settings
   abbrev group_state : Settings → State
   group_state held = state st (set table channel held) fs
 
-  member_defines : (held : Settings) (at tag n : ℕ) (a : Attribute) (c : Change) → tagged tag ≡ Tagged.Defines a → defined a st.little st.root (value_at s (at + 2) n) ≡ Defined.Changed c
+  member_defines : (held : Settings) (at tag n : ℕ) (a : Attribute) (c : Change) → tagged tag ≡ Some a → defined a st.little st.root (value_at s (at + 2) n) ≡ Ok c
       → meaning s (group_state held) (Member at channel tag (at + 2) n) ≡ goes (group_state (applied c held))
   unfolding effect_of member_effect one_effect carried one_changed
   member_defines held at tag n a c e f =
-      ap (λ (b : Bool). carried s (group_state held) (pick b Effect.Pass (member_effect st channel (value_at s (at + 2) n) (tagged tag)))) z
-      ∙ ap (λ (t : Tagged). carried s (group_state held) (member_effect st channel (value_at s (at + 2) n) t)) e
-      ∙ ap (λ (d : Defined). carried s (group_state held) (one_effect channel d)) f
+      ap (λ (b : Bool). carried s (group_state held) (pick b (Ok Effect.Pass) (member_effect st channel (value_at s (at + 2) n) (tagged tag)))) z
+      ∙ ap (λ (t : Option Attribute). carried s (group_state held) (member_effect st channel (value_at s (at + 2) n) t)) e
+      ∙ ap (λ (d : Result Change Fault). carried s (group_state held) (one_effect channel d)) f
       ∙ ap (λ (t : List Settings). goes (state st t fs))
       (set-set table channel held (applied c (get_or (set table channel held) channel zero_settings))
       ∙ ap (λ (x : Settings). set table channel (applied c x)) (get_or-set_same table channel held zero_settings l))
 
-  member_passes : (held : Settings) (at tag n : ℕ) → tagged tag ≡ Tagged.Other → root_only tag ≡ false → meaning s (group_state held) (Member at channel tag (at + 2) n) ≡ goes (group_state held)
+  member_passes : (held : Settings) (at tag n : ℕ) → tagged tag ≡ None → root_only tag ≡ false → meaning s (group_state held) (Member at channel tag (at + 2) n) ≡ goes (group_state held)
   unfolding effect_of member_effect carried
   member_passes held at tag n e f =
-      ap (λ (b : Bool). carried s (group_state held) (pick b Effect.Pass (member_effect st channel (value_at s (at + 2) n) (tagged tag)))) z
-      ∙ ap (λ (t : Tagged). carried s (group_state held) (member_effect st channel (value_at s (at + 2) n) t)) e
+      ap (λ (b : Bool). carried s (group_state held) (pick b (Ok Effect.Pass) (member_effect st channel (value_at s (at + 2) n) (tagged tag)))) z
+      ∙ ap (λ (t : Option Attribute). carried s (group_state held) (member_effect st channel (value_at s (at + 2) n) t)) e
 
   abbrev Law : Within → Type 0
   Law w = (at : ℕ) (held : Settings) (t : Stretch) → t ≡ stretch_of s (cursor at w) st.little st.root held → Reached s (group_state held) (cursor at w) → Reached s (group_state t.settings) (cursor t.at w)
@@ -218,33 +217,33 @@ opened_group counted (Item.Group place channel) {k = k} e h =
 opened_group counted (Item.Member place channel tag start len) e h = let z : ⊥ = omega arith in absurd z
 opened_group counted (Item.Mark place) e h = let z : ⊥ = omega arith in absurd z
 
-pub opened_nothing : (s : List ℕ) (st : Standing) {i : Item} {k : ℕ} → GroupOpened st.counted i k → effect_of s st i ≡ Effect.Pass
+pub opened_nothing : (s : List ℕ) (st : Standing) {i : Item} {k : ℕ} → GroupOpened st.counted i k → effect_of s st i ≡ Ok Effect.Pass
 unfolding effect_of group_effect
 opened_nothing s st {k = k} p =
     ap (effect_of s st) p.group
-    ∙ pick_cases (λ (e : Effect). e ≡ Effect.Pass) (eqb st.counted 0) (λ _. refl)
-    (λ _. pick_cases (λ (e : Effect). e ≡ Effect.Pass) (ltb k st.counted) (λ _. refl) (λ t. let z : ⊥ = omega (arith, ltb-false k st.counted t, p.counts) in absurd z))
+    ∙ pick_cases (λ (e : Result Effect Fault). e ≡ Ok Effect.Pass) (eqb st.counted 0) (λ _. refl)
+    (λ _. pick_cases (λ (e : Result Effect Fault). e ≡ Ok Effect.Pass) (ltb k st.counted) (λ _. refl) (λ t. let z : ⊥ = omega (arith, ltb-false k st.counted t, p.counts) in absurd z))
 
 pub opened-counted : {counted : ℕ} {i : Item} {k : ℕ} → GroupOpened counted i k → eqb counted 0 ≡ false
 opened-counted {counted = counted} p = ne_eqb counted 0 (λ z. let x : ⊥ = omega (arith, p.counts) in x)
 
 -- Behind a group's tag the walk stands in the group.
-abbrev Entered : Next → Type 0
-Entered (Found (Item.Plain place tag start len) d) = Unit {0}
-Entered (Found (Item.Group place channel) d) = InGroup d.within channel
-Entered (Found (Item.Member place channel tag start len) d) = Unit {0}
-Entered (Found (Item.Mark place) d) = Unit {0}
-Entered Next.End = Unit {0}
-Entered (Next.Refused r) = Unit {0}
+abbrev Entered : Result (Option (Item × Cursor)) Refusal → Type 0
+Entered (Ok (Some (Item.Plain place tag start len, d))) = Unit {0}
+Entered (Ok (Some (Item.Group place channel, d))) = InGroup d.within channel
+Entered (Ok (Some (Item.Member place channel tag start len, d))) = Unit {0}
+Entered (Ok (Some (Item.Mark place, d))) = Unit {0}
+Entered (Ok None) = Unit {0}
+Entered (Err r) = Unit {0}
 
-item_entered : (at : ℕ) (w : Within) (h : Head) → Entered (item_of at w h)
+item_entered : (at : ℕ) (w : Within) (h : Result ItemHead Fault) → Entered (item_of at w h)
 unfolding item_of
-item_entered at Within.Root (Head.Primitive tag start len) = tt
-item_entered at (Within.Definite channel end) (Head.Primitive tag start len) = tt
-item_entered at (Within.Open channel place) (Head.Primitive tag start len) = pick_cases Entered (ends_open tag len) (λ _. tt) (λ _. tt)
-item_entered at w (Head.Definite channel start len) = refl
-item_entered at w (Head.Open channel start) = refl
-item_entered at w (Head.Refused number) = tt
+item_entered at Within.Root (Ok (ItemHead.Primitive tag start len)) = tt
+item_entered at (Within.Definite channel end) (Ok (ItemHead.Primitive tag start len)) = tt
+item_entered at (Within.Open channel place) (Ok (ItemHead.Primitive tag start len)) = pick_cases Entered (ends_open tag len) (λ _. tt) (λ _. tt)
+item_entered at w (Ok (ItemHead.Definite channel start len)) = refl
+item_entered at w (Ok (ItemHead.Open channel start)) = refl
+item_entered at w (Err fault) = tt
 
 ended_entered : (w : Within) → Entered (ended w)
 ended_entered Within.Root = tt
@@ -260,8 +259,8 @@ next_entered : (s : List ℕ) (c : Cursor) → Entered (next_of s c)
 unfolding next_of
 next_entered s c = in_entered c.at (stands_in c.at c.within) (extent s c.at (stands_in c.at c.within))
 
-pub group_entered : (s : List ℕ) (c : Cursor) {n : Next} {i : Item} {d : Cursor} {counted k : ℕ} → n ≡ next_of s c → n ≡ Found i d → GroupOpened counted i k → InGroup d.within k
-group_entered s c {d = d} e f p = subst Entered (sym e ∙ f ∙ ap (λ (x : Item). Found x d) p.group) (next_entered s c)
+pub group_entered : (s : List ℕ) (c : Cursor) {n : Result (Option (Item × Cursor)) Refusal} {i : Item} {d : Cursor} {counted k : ℕ} → n ≡ next_of s c → n ≡ Ok (Some (i, d)) → GroupOpened counted i k → InGroup d.within k
+group_entered s c {d = d} e f p = subst Entered (sym e ∙ f ∙ ap (λ (x : Item). Ok (Some (x, d))) p.group) (next_entered s c)
 
 -- A stretch goes forward.
 pub stretch-on : (s : List ℕ) (c : Cursor) (little : Bool) (base held : Settings) {t : Stretch} → t ≡ stretch_of s c little base held → c.at ≤ t.at

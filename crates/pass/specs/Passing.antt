@@ -1,5 +1,5 @@
 -- What a pass knows and asks on its way. None of it is a rule of document 01.
-use Rattle.std.specs.Prelude.{◌≡◌, List, Bool, false, ℕ, ◌+◌, ◌*◌, ◌^◌, ◌≤◌, ltb, eqb, length, get_or}
+use Rattle.std.specs.Prelude.{◌≡◌, List, Bool, false, ℕ, ◌+◌, ◌*◌, ◌^◌, ◌≤◌, ltb, eqb, length, get_or, Ok, Some, None}
 use Rattle.octets.specs.Pick.{pick}
 use Rattle.items.specs.declared.Item.{Item}
 use Rattle.items.specs.declared.Cursor.{Cursor}
@@ -15,8 +15,6 @@ use Rattle.framing.specs.Framing.{channels_of}
 use Rattle.stretch.specs.Stretch.{stepped_over}
 use Rattle.pass.specs.declared.Asked.{Asked}
 use Rattle.view.specs.declared.View.{View}
-use Rattle.pass.specs.declared.Found.{Found}
-use Rattle.verdict.specs.declared.Checked.{Checked}
 use Rattle.pass.specs.declared.Scan.{Scan}
 use Rattle.pass.specs.declared.Met.{Met}
 use Rattle.verdict.specs.Verdict.{state}
@@ -35,11 +33,11 @@ pub record Scanning (s : List ℕ) (q : Asked) (table : List Settings) (c : Curs
 
 -- No frame met yet.
 abbrev pub none_met : Met
-none_met = record { frames = 0; found = Found.Nothing; size = 0 }
+none_met = record { frames = 0; found = None; size = 0 }
 
 -- What a pass answers at the end of the file.
 abbrev pub met_scan : Met → Scan
-met_scan m = record { checked = Checked.Frames m.frames; found = m.found; size = m.size }
+met_scan m = record { checked = Ok m.frames; found = m.found; size = m.size }
 
 -- What is kept of a frame, where c are the settings of the channel that is asked for if the frame has it.
 abbrev pub view_met : ℕ → Standing → ℕ → ℕ → ℕ → Layout → Settings → View
@@ -68,7 +66,7 @@ abbrev pub met_with : Asked → Standing → ℕ → ℕ → ℕ → Layout → 
 met_with q st sequences start len l there c m =
     record {
       frames = m.frames + 1;
-      found = pick (eqb m.frames q.frame) (Found.Frame (view_met q.channel st sequences start len l c)) m.found;
+      found = pick (eqb m.frames q.frame) (Some (view_met q.channel st sequences start len l c)) m.found;
       size = m.size + frame_size sequences l.groups there;
     }
 

@@ -25,14 +25,12 @@ ghost use Rattle.pass.specs.Passing.{Scanning, Room, opened_by, begins_at, none_
 
 use dated::{Dated, Dates};
 use effects::Effect;
-use framing::Framed;
-use heads::Refusal;
-use items::{Cursor, Item, Next, Within};
+use heads::{Fault, Refusal};
+use items::{Cursor, Item, Within};
 use layout::Layout;
 use settings::Settings;
 use standing::Standing;
 use stretch::Stretch;
-use verdict::Checked;
 use view::View;
 
 // The frame and the channel that a question names.
@@ -42,18 +40,11 @@ pub struct Asked {
     pub channel: u32,
 }
 
-// The frame that is asked for, if the file has it.
-#[derive(Clone, Copy)]
-pub enum Found {
-    Frame(View),
-    Nothing,
-}
-
 // What one pass over a file answers; `size` is how many octets its frames take in the canonical file.
 #[derive(Clone, Copy)]
 pub struct Scan {
-    pub checked: Checked,
-    pub found: Found,
+    pub checked: Result<u32, Refusal>,
+    pub found: Option<View>,
     pub size: u64,
 }
 
@@ -61,18 +52,18 @@ fn refused_scan(x: Refusal) -> Scan
     ensures { result ≡ refused_scan x }
 {
     Scan {
-        checked: Checked::Refused(x),
-        found: Found::Nothing,
+        checked: Err(x),
+        found: None,
         size: 0,
     }
 }
 
 // A refused item decides at its place.
-fn refused_item(number: u8, item: Item) -> Scan
-    ensures { result ≡ refused_scan (refusal number (place_at item)) }
+fn refused_item(fault: Fault, item: Item) -> Scan
+    ensures { result ≡ refused_scan (refusal fault (place_at item)) }
 {
     refused_scan(Refusal {
-        number,
+        fault,
         place: verdict::place_of(item),
     })
 }
@@ -114,7 +105,7 @@ fn view_of(
 #[derive(Clone, Copy)]
 struct Met {
     frames: u32,
-    found: Found,
+    found: Option<View>,
     size: u64,
 }
 
@@ -124,7 +115,7 @@ impl Met {
     {
         Met {
             frames: 0,
-            found: Found::Nothing,
+            found: None,
             size: 0,
         }
     }
@@ -135,7 +126,7 @@ impl Met {
     {
         let found = self.found;
         Scan {
-            checked: Checked::Frames(self.frames),
+            checked: Ok(self.frames),
             found,
             size: self.size,
         }
@@ -161,7 +152,7 @@ impl Met {
         if self.frames == asked.frame {
             return Met {
                 frames,
-                found: Found::Frame(view_of(asked.channel, st, sequences, start, len, l, c)),
+                found: Some(view_of(asked.channel, st, sequences, start, len, l, c)),
                 size,
             };
         }
@@ -320,13 +311,13 @@ fn scan_channels(s: &[u8], asked: Asked, from: Cursor, standing: Standing, befor
     let mut met = before;
     loop {
         match items::next_item(s, c) {
-            Next::End => {
+            Ok(None) => {
                 return met.scan();
             }
-            Next::Refused(x) => {
+            Err(x) => {
                 return refused_scan(x);
             }
-            Next::Found(item, next) => {
+            Ok(Some((item, next))) => {
                 c = next.renewed();
                 let root = st.root;
                 // The definitions at the front of a group are taken as a stretch.
@@ -339,59 +330,60 @@ fn scan_channels(s: &[u8], asked: Asked, from: Cursor, standing: Standing, befor
                     c = moved(c, ahead.at);
                     continue;
                 }
-                let effect = effects::item_effect(s, st, item);
-                match effect {
-                    Effect::Count(_) => {
-                        dates = dates.cleared();
-                        st = effects::standing_after(st, effect);
+                match effects::item_effect(s, st, item) {
+                    Err(fault) => {
+                        return refused_item(fault, item);
                     }
-                    Effect::All(change) => {
-                        dates = dates.defined(change);
-                        st = effects::standing_after(st, effect);
-                    }
-                    Effect::One(channel, change) => {
-                        let k = channel as usize;
-                        if k < Settings::CHANNELS {
-                            let stood = dated::settle(root, dates, table[k]);
-                            table[k] = dates.note(settings::apply(stood, change));
+                    Ok(effect) => match effect {
+                        Effect::Count(_) => {
+                            dates = dates.cleared();
+                            st = effects::standing_after(st, effect);
                         }
-                    }
-                    Effect::Frame { start, len } => {
-                        let n = framing::channels_of(st.counted) as usize;
-                        let mut l = Layout::none();
-                        let mut i = 0usize;
-                        while i < n {
-                            l = l.more(i, asked.channel, dated::settle(root, dates, table[i]));
-                            i += 1;
+                        Effect::All(change) => {
+                            dates = dates.defined(change);
+                            st = effects::standing_after(st, effect);
                         }
-                        match framing::frame_of(met.frames, st, l.agree, l.octets, len) {
-                            Framed::Refused(number) => {
-                                return refused_item(number, item);
+                        Effect::One(channel, change) => {
+                            let k = channel as usize;
+                            if k < Settings::CHANNELS {
+                                let stood = dated::settle(root, dates, table[k]);
+                                table[k] = dates.note(settings::apply(stood, change));
                             }
-                            Framed::Taken(sequences, after) => {
-                                let k = index(asked.channel);
-                                let seen = dated::settle(root, dates, table[k]);
-                                let mut there = 0u64;
-                                if sizes::holds(len as u64, sequences, l.octets) {
-                                    there = sequences as u64 * l.octets;
-                                } else {
-                                    there = channels_there(
-                                        root, dates, table, n, sequences, l.octets, len,
-                                    );
+                        }
+                        Effect::Frame { start, len } => {
+                            let n = framing::channels_of(st.counted) as usize;
+                            let mut l = Layout::none();
+                            let mut i = 0usize;
+                            while i < n {
+                                l = l.more(i, asked.channel, dated::settle(root, dates, table[i]));
+                                i += 1;
+                            }
+                            match framing::frame_of(met.frames, st, l.agree, l.octets, len) {
+                                Err(fault) => {
+                                    return refused_item(fault, item);
                                 }
-                                met = met.with_frame(
-                                    asked, st, sequences, start, len, l, there, seen,
-                                );
-                                st = after;
+                                Ok((sequences, after)) => {
+                                    let k = index(asked.channel);
+                                    let seen = dated::settle(root, dates, table[k]);
+                                    let mut there = 0u64;
+                                    if sizes::holds(len as u64, sequences, l.octets) {
+                                        there = sequences as u64 * l.octets;
+                                    } else {
+                                        there = channels_there(
+                                            root, dates, table, n, sequences, l.octets, len,
+                                        );
+                                    }
+                                    met = met.with_frame(
+                                        asked, st, sequences, start, len, l, there, seen,
+                                    );
+                                    st = after;
+                                }
                             }
                         }
-                    }
-                    Effect::Refused(number) => {
-                        return refused_item(number, item);
-                    }
-                    _ => {
-                        st = effects::standing_after(st, effect);
-                    }
+                        _ => {
+                            st = effects::standing_after(st, effect);
+                        }
+                    },
                 }
             }
         }
@@ -417,46 +409,47 @@ fn scan_root(s: &[u8], asked: Asked) -> Scan
             }
         }
         match items::next_item(s, c) {
-            Next::End => {
+            Ok(None) => {
                 return met.scan();
             }
-            Next::Refused(x) => {
+            Err(x) => {
                 return refused_scan(x);
             }
-            Next::Found(item, next) => {
-                let effect = effects::item_effect(s, st, item);
-                match effect {
-                    // An arm of its own, so that the last one need not keep up the root settings.
-                    Effect::All(_) => {
-                        st = effects::standing_after(st, effect);
-                        c = next.renewed();
+            Ok(Some((item, next))) => {
+                match effects::item_effect(s, st, item) {
+                    Err(fault) => {
+                        return refused_item(fault, item);
                     }
-                    Effect::One(_, _) => {
-                        return scan_channels(s, asked, c, st, met);
-                    }
-                    Effect::Frame { start, len } => {
-                        let l = root_layout(st, asked.channel);
-                        match framing::frame_of(met.frames, st, l.agree, l.octets, len) {
-                            Framed::Refused(number) => {
-                                return refused_item(number, item);
-                            }
-                            Framed::Taken(sequences, after) => {
-                                let there = root_there(st, sequences, l.octets, len);
-                                met = met.with_frame(
-                                    asked, st, sequences, start, len, l, there, st.root,
-                                );
-                                st = after;
-                                c = next.renewed();
+                    Ok(effect) => match effect {
+                        // An arm of its own, so that the last one need not keep up the root settings.
+                        Effect::All(_) => {
+                            st = effects::standing_after(st, effect);
+                            c = next.renewed();
+                        }
+                        Effect::One(_, _) => {
+                            return scan_channels(s, asked, c, st, met);
+                        }
+                        Effect::Frame { start, len } => {
+                            let l = root_layout(st, asked.channel);
+                            match framing::frame_of(met.frames, st, l.agree, l.octets, len) {
+                                Err(fault) => {
+                                    return refused_item(fault, item);
+                                }
+                                Ok((sequences, after)) => {
+                                    let there = root_there(st, sequences, l.octets, len);
+                                    met = met.with_frame(
+                                        asked, st, sequences, start, len, l, there, st.root,
+                                    );
+                                    st = after;
+                                    c = next.renewed();
+                                }
                             }
                         }
-                    }
-                    Effect::Refused(number) => {
-                        return refused_item(number, item);
-                    }
-                    _ => {
-                        st = effects::standing_after(st, effect);
-                        c = next.renewed();
-                    }
+                        _ => {
+                            st = effects::standing_after(st, effect);
+                            c = next.renewed();
+                        }
+                    },
                 }
             }
         }
@@ -469,7 +462,7 @@ pub fn scan_file(s: &[u8], asked: Asked) -> Scan
 {
     if Standing::OCTETS < s.len() {
         return refused_scan(Refusal {
-            number: Refusal::LONG_FILE,
+            fault: Fault::LongFile,
             place: 0,
         });
     }

@@ -4,6 +4,8 @@
 --     change_timed      a definition's time goes by its attribute
 --     passed_part       the octets between two places
 -- Assumes nothing.
+use Rattle.std.specs.Prelude.{Result, Ok, Err, Option, Some, None}
+use Rattle.heads.specs.declared.Fault.{Fault}
 use Rattle.std.proofs.Common.{◌≡◌, ℕ, zero, suc, ◌+◌, ◌-◌, ◌%◌, ◌^◌, ◌<◌, ◌≤◌, Bool, true, not, eqb, List, [], ◌∷◌, length, get_or, take, drop, sym, refl, ap, ◌∙◌, subst, arith, length-drop, length-take, get_or-drop, get_or-take, drop-drop}
 use Rattle.octets.proofs.Laws.{drop-take}
 use Rattle.octets.proofs.Pick.{pick_cases}
@@ -11,8 +13,6 @@ use Rattle.settings.specs.declared.Settings.{Settings}
 use Rattle.settings.specs.declared.Change.{Change}
 use Rattle.settings.specs.Settings.{default_settings}
 use Rattle.definitions.specs.declared.Attribute.{Attribute}
-use Rattle.definitions.specs.declared.Tagged.{Tagged}
-use Rattle.definitions.specs.declared.Defined.{Defined}
 use Rattle.definitions.specs.Define.{tagged, length_fits, standing_in, change_of, in_range, defined}
 use Rattle.dated.specs.declared.Times.{Times}
 use Rattle.dated.specs.declared.Dates.{Dates}
@@ -64,12 +64,12 @@ module _ (u : List ℕ) (at : ℕ) (x : Passed) where
 abbrev pub counted : Passed → Times → ℕ → ℕ → Bool → Passed
 counted x times now items defines = record { dates = record { times = times; cleared = x.dates.cleared; now = now }; items = items; defines = defines }
 
-module _ (tag : ℕ) (x : Passed) {t : Tagged} {times : Times} {now items : ℕ} {defines : Bool} (e : t ≡ tagged tag) (ei : items ≡ (x.items + 1) % 2 ^ 64) where
-  pub item_defines : {a : Attribute} → t ≡ Tagged.Defines a → times ≡ timed (standing_in a default_settings) x.dates.now x.dates.times → now ≡ (x.dates.now + 1) % 2 ^ 32 → defines ≡ true → counted x times now items defines ≡ passed_item (tagged tag) x
-  item_defines f et en ed = (λ i. counted x (et i) (en i) (ei i) (ed i)) ∙ ap (λ (z : Tagged). passed_item z x) (sym f ∙ e)
+module _ (tag : ℕ) (x : Passed) {t : Option Attribute} {times : Times} {now items : ℕ} {defines : Bool} (e : t ≡ tagged tag) (ei : items ≡ (x.items + 1) % 2 ^ 64) where
+  pub item_defines : {a : Attribute} → t ≡ Some a → times ≡ timed (standing_in a default_settings) x.dates.now x.dates.times → now ≡ (x.dates.now + 1) % 2 ^ 32 → defines ≡ true → counted x times now items defines ≡ passed_item (tagged tag) x
+  item_defines f et en ed = (λ i. counted x (et i) (en i) (ei i) (ed i)) ∙ ap (λ (z : Option Attribute). passed_item z x) (sym f ∙ e)
 
-  pub item_other : t ≡ Tagged.Other → times ≡ x.dates.times → now ≡ x.dates.now → defines ≡ x.defines → counted x times now items defines ≡ passed_item (tagged tag) x
-  item_other f et en ed = (λ i. counted x (et i) (en i) (ei i) (ed i)) ∙ ap (λ (z : Tagged). passed_item z x) (sym f ∙ e)
+  pub item_other : t ≡ None → times ≡ x.dates.times → now ≡ x.dates.now → defines ≡ x.defines → counted x times now items defines ≡ passed_item (tagged tag) x
+  item_other f et en ed = (λ i. counted x (et i) (en i) (ei i) (ed i)) ∙ ap (λ (z : Option Attribute). passed_item z x) (sym f ∙ e)
 
 -- ---- a definition's time goes by its attribute
 
@@ -86,9 +86,9 @@ both-timed Attribute.Resolution little base v = (λ now t. refl, λ now t. refl)
 both-timed Attribute.Offset little base v = (λ now t. refl, λ now t. refl)
 both-timed Attribute.Null little base v = (λ now t. refl, λ now t. refl)
 
-abbrev TimedBy : Attribute → Defined → Type 0
-TimedBy a (Defined.Changed c) = AsTimed a c
-TimedBy a (Defined.Refused number) = Unit {0}
+abbrev TimedBy : Attribute → Result Change Fault → Type 0
+TimedBy a (Ok c) = AsTimed a c
+TimedBy a (Err fault) = Unit {0}
 
 defined-timed : (a : Attribute) (little : Bool) (base : Settings) (v : List ℕ) → TimedBy a (defined a little base v)
 unfolding defined
@@ -98,7 +98,7 @@ defined-timed a little base v =
     (λ _. pick_cases (TimedBy a) (eqb (length v) 0) (λ _. k.0)
     (λ _. pick_cases (TimedBy a) (in_range (change_of a little v)) (λ _. k.1) (λ _. tt)))
 
-pub change_timed : (a : Attribute) (little : Bool) (base : Settings) (v : List ℕ) {c : Change} → defined a little base v ≡ Defined.Changed c → (d : Dates) → root_defined (standing_in a default_settings) d ≡ root_defined c d
+pub change_timed : (a : Attribute) (little : Bool) (base : Settings) (v : List ℕ) {c : Change} → defined a little base v ≡ Ok c → (d : Dates) → root_defined (standing_in a default_settings) d ≡ root_defined c d
 change_timed a little base v e d =
     let k = subst (TimedBy a) e (defined-timed a little base v) in
     (λ i. record { times = sym (k d.now d.times) i; cleared = d.cleared; now = (d.now + 1) % 2 ^ 32 })

@@ -1,8 +1,8 @@
 -- What a stretch counts. None of it is a rule of document 01; that it is what its items count one by one is shown where a walk takes it
 -- (ahead/proofs/Stretches.antt).
-use Rattle.std.specs.Prelude.{ℕ, zero, suc, ◌+◌, ◌%◌, ◌^◌, true, false, List, [], ◌∷◌}
+use Rattle.definitions.specs.declared.Attribute.{Attribute}
+use Rattle.std.specs.Prelude.{ℕ, zero, suc, ◌+◌, ◌%◌, ◌^◌, true, false, List, [], ◌∷◌, Option, Some, None}
 use Rattle.settings.specs.Settings.{default_settings}
-use Rattle.definitions.specs.declared.Tagged.{Tagged}
 use Rattle.definitions.specs.Define.{tagged, standing_in}
 use Rattle.dated.specs.declared.Dates.{Dates}
 use Rattle.dated.specs.Dated.{root_defined}
@@ -13,9 +13,9 @@ abbrev pub passed_from : Dates → ℕ → Passed
 passed_from d items = record { dates = d; items = items; defines = false }
 
 -- One item more, by what its tag defines. A definition's time goes by its attribute alone.
-abbrev pub passed_item : Tagged → Passed → Passed
-passed_item (Tagged.Defines a) x = record { dates = root_defined (standing_in a default_settings) x.dates; items = (x.items + 1) % 2 ^ 64; defines = true }
-passed_item Tagged.Other x = record { dates = x.dates; items = (x.items + 1) % 2 ^ 64; defines = x.defines }
+abbrev pub passed_item : Option Attribute → Passed → Passed
+passed_item (Some a) x = record { dates = root_defined (standing_in a default_settings) x.dates; items = (x.items + 1) % 2 ^ 64; defines = true }
+passed_item None x = record { dates = x.dates; items = (x.items + 1) % 2 ^ 64; defines = x.defines }
 
 -- The items of octets whose first so many belong to the value of an item before them.
 unfoldable pub passed_in : ℕ → List ℕ → Passed → Passed

@@ -14,7 +14,7 @@ ghost use Rattle.dated.specs.Dated.{timed};
 ghost use Rattle.passed.specs.Passed.{passed_from, passed_over};
 
 use dated::{Dates, Times};
-use definitions::{Attribute, Tagged};
+use definitions::Attribute;
 
 // What a stretch counts: the times of its definitions, where they are the root's, its items, and whether it has a definition.
 #[derive(Clone, Copy)]
@@ -59,6 +59,7 @@ fn timed(t: Times, a: Attribute, now: u32) -> Times
 }
 
 // What the items of octets count, each with a length of one octet.
+#[tactic(auto, using(crate::proofs::Laws::passed_item_lem, crate::proofs::Laws::passed_last, crate::proofs::Laws::passed_short, crate::proofs::Laws::item_defines, crate::proofs::Laws::item_other))]
 pub fn over(u: &[u8], dates: Dates, before: u64) -> Passed
     ensures { result ≡ passed_over u.now (passed_from dates before) }
 {
@@ -69,12 +70,12 @@ pub fn over(u: &[u8], dates: Dates, before: u64) -> Passed
     let mut at = 0usize;
     while at + 1 < u.len() {
         match definitions::attribute_of(u[at]) {
-            Tagged::Defines(a) => {
+            Some(a) => {
                 times = timed(times, a, now);
                 now = std::num::wrapping_add_u32(now, 1);
                 defines = true;
             }
-            Tagged::Other => {}
+            None => {}
         }
         items = std::num::wrapping_add_u64(items, 1);
         let n = u[at + 1] as usize;

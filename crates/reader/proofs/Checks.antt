@@ -1,6 +1,7 @@
 -- What the check answers, and exactly when.
 --     check-accepted, check-refused    the check's answer is the verdict's
 -- Assumes nothing.
+use Rattle.heads.specs.declared.Fault.{Fault}
 use Prim.Native.Nat.{ℕ}
 use mathlib.Core.Path.{◌≡◌, refl, ap, ◌∙◌}
 use mathlib.Core.Logic.{◌↔◌}
@@ -22,14 +23,14 @@ pub check-accepted : (s : List ℕ) (n : ℕ) → (check_of s ≡ answered n) �
 unfolding check_of checked_as
 check-accepted s n = (check_by (verdict s) n, λ h. ap checked_as h.1 ∙ ap answered h.2)
 
-refused_by : (v : Verdict) (number place : ℕ) → checked_as v ≡ refused_as number place → v ≡ refused (refusal number place)
+refused_by : (v : Verdict) (fault : Fault) (place : ℕ) → checked_as v ≡ refused_as fault place → v ≡ refused (refusal fault place)
 unfolding checked_as
-refused_by (accepted fs) number place e = let z : ◌≡◌ {A = ℕ} 0 1 = cc in let w : ⊥ = omega arith in absurd w
-refused_by (refused q) number place e =
-    let n : q.number ≡ number = cc in
+refused_by (accepted fs) fault place e = let z : ◌≡◌ {A = ℕ} 0 1 = cc in let w : ⊥ = omega arith in absurd w
+refused_by (refused q) fault place e =
+    let n : q.fault ≡ fault = cc in
     let p : q.place ≡ place = cc in
     λ i. refused (refusal (n i) (p i))
 
-pub check-refused : (s : List ℕ) (number place : ℕ) → (check_of s ≡ refused_as number place) ↔ (verdict s ≡ refused (refusal number place))
+pub check-refused : (s : List ℕ) (fault : Fault) (place : ℕ) → (check_of s ≡ refused_as fault place) ↔ (verdict s ≡ refused (refusal fault place))
 unfolding check_of checked_as
-check-refused s number place = (refused_by (verdict s) number place, ap checked_as)
+check-refused s fault place = (refused_by (verdict s) fault place, ap checked_as)

@@ -1,10 +1,12 @@
 -- The questions (document 01, "Frames and samples" and "What comes back when it is no"; document 02, request 2): the attributes of a channel in a frame, and
 -- the place, bits and value of a sample.
-use Rattle.std.specs.Prelude.{List, ℕ, ltb, ℤ, length, get_or}
-use Rattle.std.proofs.Math.Option.{Option, none, some}
+use Rattle.heads.specs.declared.Refusal.{Refusal}
+use Rattle.reader.specs.declared.Reading.{Reading}
+use Rattle.std.specs.Prelude.{List, ℕ, ltb, ℤ, length, get_or, Result, Ok, Err, Option, Some, None}
+use Rattle.std.proofs.Math.Option.{Option as Maybe, none, some}
 use Rattle.octets.specs.Pick.{pick}
 use Rattle.values.specs.Sample.{Said, no_data_said, value_says, value_of}
-use Rattle.heads.specs.Refusals.{no_frame, no_channel, no_sample}
+use Rattle.heads.specs.declared.Fault.TheVariants.{NoFrame, NoChannel, NoSample}
 use Rattle.heads.specs.Answer.{Answer, answered, refused_as, refused_by}
 use Rattle.settings.specs.declared.Settings.{Settings}
 use Rattle.layout.specs.Frame.{Frame, reported, channel_in, samples_of, place_of}
@@ -13,21 +15,10 @@ use Rattle.there.specs.There.{is_there}
 use Rattle.view.specs.declared.View.{View}
 use Rattle.view.specs.View.{view_of}
 use Rattle.reader.specs.declared.Attributes.{Attributes}
-use Rattle.reader.specs.declared.Described.{Described}
-use Rattle.reader.specs.declared.LookedUp.{LookedUp}
-use Rattle.reader.specs.declared.Placed.{Placed}
-use Rattle.reader.specs.declared.Placed.TheVariants.{At, Lacking}
-use Rattle.reader.specs.declared.Sampled.{Sampled}
-use Rattle.reader.specs.declared.Sampled.TheVariants.{Sample}
 use Rattle.verdict.specs.Verdict.{Verdict, accepted, refused, verdict}
 use Rattle.pass.specs.Scan.{zero_frame}
 
 -- ---- what the answers say
-
--- The attributes of a channel.
-abbrev pub described_says : Described → Answer Attributes
-described_says (Described.Attributes a) = answered a
-described_says (Described.Refused r) = refused_by r
 
 -- A sample: its place, its bits, and what its value says.
 pub record FoundSample : Type 0 where
@@ -38,14 +29,9 @@ pub record FoundSample : Type 0 where
 abbrev pub found_sample : ℕ → ℕ → Said → FoundSample
 found_sample place bits value = record { place = place; bits = bits; value = value }
 
-abbrev pub sampled_says : Sampled → Answer FoundSample
-sampled_says (Sample place bits value) = answered (found_sample place bits (value_says value))
-sampled_says (Sampled.Refused r) = refused_by r
-
--- A channel as the pass keeps it.
-abbrev pub looked_up_says : LookedUp → Answer View
-looked_up_says (LookedUp.Channel v) = answered v
-looked_up_says (LookedUp.Refused r) = refused_by r
+abbrev pub sampled_says : Result Reading Refusal → Answer FoundSample
+sampled_says (Ok x) = answered (found_sample x.place x.bits (value_says x.value))
+sampled_says (Err r) = refused_by r
 
 -- The place of a sample, with its channel as the pass keeps it.
 pub record FoundPlace : Type 0 where
@@ -55,10 +41,10 @@ pub record FoundPlace : Type 0 where
 abbrev pub found_place : ℕ → View → FoundPlace
 found_place place v = record { place = place; channel = v }
 
-abbrev pub placed_says : Placed → Answer (Option FoundPlace)
-placed_says (At place v) = answered (some (found_place place v))
-placed_says Lacking = answered none
-placed_says (Placed.Refused r) = refused_by r
+abbrev pub placed_says : Result (Option (ℕ × View)) Refusal → Answer (Maybe FoundPlace)
+placed_says (Ok (Some (place, v))) = answered (some (found_place place v))
+placed_says (Ok None) = answered none
+placed_says (Err r) = refused_by r
 
 -- ---- the order of the refusals
 
@@ -68,13 +54,13 @@ asked answer frame channel (refused r) = refused_by r
 asked answer frame channel (accepted fs) =
     let f = get_or fs frame zero_frame in
     pick (ltb frame (length fs))
-    (pick (ltb channel (length f.channels)) (answer f) (refused_as no_channel 0))
-    (refused_as no_frame 0)
+    (pick (ltb channel (length f.channels)) (answer f) (refused_as NoChannel 0))
+    (refused_as NoFrame 0)
 
 -- Where a question names a sample too, 22 comes after them: no such sample is declared.
 abbrev pub asked_sample : {A : Type 0} → (Frame → A) → ℕ → ℕ → ℕ → Verdict → Answer A
 asked_sample answer frame channel n v =
-    asked (λ f. pick (ltb n (samples_of channel f)) (answered (answer f)) (refused_as no_sample 0)) frame channel v
+    asked (λ f. pick (ltb n (samples_of channel f)) (answered (answer f)) (refused_as NoSample 0)) frame channel v
 
 -- ---- attributes
 
@@ -122,6 +108,6 @@ unfoldable pub seen_of : List ℕ → ℕ → ℕ → Answer View
 seen_of s frame channel = asked (λ f. answered (view_of channel f)) frame channel (verdict s)
 
 -- The place of the sample that a question names, with its channel as the pass keeps it; none where it is not there.
-unfoldable pub placed_of : List ℕ → ℕ → ℕ → ℕ → Answer (Option FoundPlace)
+unfoldable pub placed_of : List ℕ → ℕ → ℕ → ℕ → Answer (Maybe FoundPlace)
 placed_of s frame channel n =
     asked_sample (λ f. if_there channel n f (some (found_place (place_of channel n f) (view_of channel f))) none) frame channel n (verdict s)

@@ -26,10 +26,8 @@ pub fn clear(t: &mut [u64])
     ensures { Holding t.old (map outdated (records_in t.old)) t.new }
 {
     let n = t.len() / Records::WORDS;
-    let mut k = 0;
-    while k < n {
+    for k in 0..n {
         t[k * Records::WORDS + Records::TIME] = 0;
-        k += 1;
     }
 }
 
@@ -44,9 +42,7 @@ pub fn settled(t: &[u64], k: usize, root: Settings, dates: Dates) -> Settings
 pub fn at_most(t: &[u64], count: usize) -> usize
     ensures { result ≡ min (min count channel_limit) (length (records_in t.now)) }
 {
-    let n = Settings::at_most(count);
-    let held = t.len() / Records::WORDS;
-    if n < held { n } else { held }
+    Settings::at_most(count).min(t.len() / Records::WORDS)
 }
 
 // The layout of the first `count` channels by what their records hold, as far as there are records.
@@ -55,10 +51,8 @@ pub fn layout_in(t: &[u64], count: usize) -> Layout
 {
     let n = at_most(t, count);
     let mut l = Layout::none();
-    let mut i = 0usize;
-    while i < n {
+    for i in 0..n {
         l = l.more(i, 0, words::held(t, i));
-        i += 1;
     }
     l
 }
@@ -107,10 +101,8 @@ fn overtake(
     requires { i + record_numbers ≤ length t.old }
     ensures { Overtaken t.old i w.now since.now from record_numbers t.new }
 {
-    let mut a = 0;
-    while a < Records::NUMBERS {
+    for a in 0..Records::NUMBERS {
         store_if(t, i + a, from <= since[a], w[a]);
-        a += 1;
     }
 }
 
@@ -144,10 +136,8 @@ fn renew(
 {
     let i = k * Records::WORDS;
     let at = time(t, i);
-    if dates.cleared < at {
-        if at == dates.now {
-            return;
-        }
+    if dates.cleared < at && at == dates.now {
+        return;
     }
     overtake(t, i, behind_from(at, dates.cleared), w, since);
 }
@@ -178,11 +168,9 @@ fn renew_all(
     ensures { Refreshed t.old n (settings_by w.now) dates result t.new }
 {
     let mut l = Layout::none();
-    let mut i = 0usize;
-    while i < n {
+    for i in 0..n {
         renew(t, i, dates, w, since);
         l = lay_next(t, i, l);
-        i += 1;
     }
     l
 }

@@ -61,7 +61,7 @@ octets_written {s} {d} {e} {k} room w = by (output_in 120000 (verdict s)) (w.ans
     by (answered x) long left =
         let n : k ≡ length x = cc in
         ap (take k) left ∙ ap (λ m. take m (x ++ drop (length x) d)) n ∙ take-append_seam x (drop (length x) d)
-    by (refused_as number place) long left = let z : ◌≡◌ {A = ℕ} 0 1 = cc in absurd (omega arith)
+    by (refused_as fault place) long left = let z : ◌≡◌ {A = ℕ} 0 1 = cc in absurd (omega arith)
 
 -- The refusal.
 pub refusal_written : {s d e : List ℕ} (x : Refusal) → 120000 ≡ length d → Wrote s d (refused_by x) e → line_of (refused_by x) ≡ written_or_line (output_in 120000 (verdict s))
@@ -70,4 +70,4 @@ refusal_written {s} {d} x room w = by (output_in 120000 (verdict s)) (w.answers 
   where
     by : (o : Answer (List ℕ)) → refused_by x ≡ map_answer length o → line_of (refused_by x) ≡ written_or_line o
     by (answered y) same = let z : ◌≡◌ {A = ℕ} 0 1 = cc in absurd (omega arith)
-    by (refused_as number place) same = ap line_of same
+    by (refused_as fault place) same = ap line_of same

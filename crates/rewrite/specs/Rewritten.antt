@@ -9,7 +9,7 @@ use Rattle.line.specs.Line.{ascii, line_of}
 -- What is written, or the line of the refusal.
 abbrev pub written_or_line : Answer (List ℕ) → List ℕ
 written_or_line (answered octets) = octets
-written_or_line (refused_as number place) = line_of (refused_as number place)
+written_or_line (refused_as fault place) = line_of (refused_as fault place)
 
 -- On the output. There is room for a canonical file of 120,000 octets.
 unfoldable pub rewritten : List ℕ → List ℕ

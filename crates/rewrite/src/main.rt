@@ -13,11 +13,10 @@ ghost use Rattle.heads.specs.Answer.{refused_by};
 ghost use Rattle.line.specs.Line.{line_of};
 ghost use Rattle.rewrite.specs.Rewritten.{rewritten, complaint};
 
-use canonical::Written;
 use heads::Refusal;
+use line::Line;
 use std::io;
 use std::io::{Read, Write};
-use verdict::Checked;
 
 // The octets of a file at most.
 const LIMIT: usize = 60_000;
@@ -29,9 +28,7 @@ const ROOM: usize = 120_000;
 fn say_refused<W: Write>(to: &mut W, x: Refusal) -> io::Result<()>
     ensures { OnOk result (Appends (W.contents to.old) (W.contents to.new) (line_of (refused_by x))) }
 {
-    let mut line = [0u8; line::BUFFER];
-    let k = line::put_line(Checked::Refused(x), &mut line);
-    to.write_all(octets::part(&line, 0, k))
+    write!(to, "{}", Line(Err(x)))
 }
 
 // Reads a file and writes its canonical file. One octet more than the limit is read, to see that a file is longer.
@@ -46,8 +43,8 @@ fn rewrite<R: Read, W: Write, E: Write>(from: &mut R, to: &mut W, errors: &mut E
     }
     let mut out = [0u8; ROOM];
     match canonical::write_canonical(&file[..n], &mut out) {
-        Written::Octets(k) => to.write_all(octets::part(&out, 0, k)),
-        Written::Refused(x) => say_refused(to, x),
+        Ok(k) => to.write_all(octets::part(&out, 0, k)),
+        Err(x) => say_refused(to, x),
     }
 }
 

@@ -113,10 +113,8 @@ fn told(datatype: u8, null: Bits, bits: u64) -> Shown
     requires { bits < range (width_of datatype) }
     ensures { result ≡ shown_as (value_of datatype null bits) }
 {
-    if null.width != 0 {
-        if null.bits == bits {
-            return other(5);
-        }
+    if null.width != 0 && null.bits == bits {
+        return other(5);
     }
     plain(datatype, bits)
 }
@@ -129,22 +127,12 @@ fn put_row(c: Sampling, at: Spot, place: u64, bits: u64, out: &mut [u64], p: usi
 {
     let missing = c.null;
     let x = told(c.datatype, missing, bits);
-    out[p] = at.channel as u64;
-    out[p + 1] = at.sequence as u64 * c.block as u64 + at.index as u64;
+    out[p] = u64::from(at.channel);
+    out[p + 1] = u64::from(at.sequence) * u64::from(c.block) + u64::from(at.index);
     out[p + 2] = place;
     out[p + 3] = x.kind;
     out[p + 4] = x.whole;
     out[p + 5] = bits;
-}
-
-// How many octets have come before these.
-fn before(count: u64, n: usize) -> u64
-    ensures { result ≡ count - n }
-{
-    if count < n as u64 {
-        return 0;
-    }
-    count - n as u64
 }
 
 // The row of the sample that octets complete, at the front of the buffer; nothing where it has no room. `count` octets have come, these the last of them.
@@ -159,7 +147,7 @@ pub fn put_sample(t: &[u64], little: bool, at: Spot, octets: &[u8], count: u64, 
     put_row(
         c,
         at,
-        before(count, octets.len()),
+        count.saturating_sub(octets.len() as u64),
         octets::number(x, little),
         out,
         0,
@@ -196,12 +184,12 @@ fn next(at: Spot, block: u32, channels: u32) -> Spot
     let mut sequence = at.sequence;
     let mut channel = at.channel;
     let mut index = 0u32;
-    let behind = at.index as u64 + 1;
-    if behind < block as u64 {
+    let behind = u64::from(at.index) + 1;
+    if behind < u64::from(block) {
         index = behind as u32;
     } else {
-        let beside = at.channel as u64 + 1;
-        if beside < channels as u64 {
+        let beside = u64::from(at.channel) + 1;
+        if beside < u64::from(channels) {
             channel = beside as u32;
         } else {
             channel = 0;
@@ -219,26 +207,14 @@ fn next(at: Spot, block: u32, channels: u32) -> Spot
 fn lays(at: Spot, sequences: u32, w: usize, octets: usize, room: usize) -> bool
     ensures { result ≡ both (ltb at.sequence sequences) (both (ltb 0 w) (both (leb w octets) (leb row_words room))) }
 {
-    if at.sequence < sequences {
-        if 0 < w {
-            if w <= octets {
-                return Row::WORDS <= room;
-            }
-        }
-    }
-    false
+    at.sequence < sequences && 0 < w && w <= octets && Row::WORDS <= room
 }
 
 // The same of a sample of two octets with a sign whose channel has one of the records that are held.
 fn lays_two(held: usize, datatype: u8, at: Spot, sequences: u32, octets: usize, room: usize) -> bool
     ensures { result ≡ both (ltb at.channel held) (both (eqb datatype 0) (both (ltb at.sequence sequences) (both (ltb 0 2) (both (leb 2 octets) (leb row_words room))))) }
 {
-    if (at.channel as usize) < held {
-        if datatype == 0 {
-            return lays(at, sequences, 2, octets, room);
-        }
-    }
-    false
+    (at.channel as usize) < held && datatype == 0 && lays(at, sequences, 2, octets, room)
 }
 
 // Rows of whole samples, as far as they are of two octets with a sign, as most are, and their channels have records: a loop of its own, which asks for less.

@@ -2,5 +2,3 @@ pub mod Places
 pub mod Turned
 pub mod Samples
 pub mod Blocks
-pub mod Numbers
-pub mod Moves

@@ -37,7 +37,7 @@ left_less {s} {from} {n} {w} {d₀} {at} {d} {e} {q} {p} {left} k b size h store
           ∙ rw m l.rest);
     }
 
-turned-sample : (w : ℕ) (xs : List ℕ) → turned w 1 xs ≡ reverse (take w xs)
+pub turned-sample : (w : ℕ) (xs : List ℕ) → turned w 1 xs ≡ reverse (take w xs)
 unfolding turned
 turned-sample w xs = append-nil (reverse (take w xs))
 

@@ -48,10 +48,19 @@ impl Settings {
     // The last unit of a resolution.
     pub const LAST_RESOLUTION_UNIT: u8 = 22;
 
-    // Document 01's defaults.
-    pub fn default() -> Settings
-        ensures { result ≡ default_settings }
+    // No more channels than a frame may have.
+    pub fn at_most(count: usize) -> usize
+        ensures { result ≡ min count channel_limit }
     {
+        count.min(Settings::CHANNELS)
+    }
+}
+
+// Document 01's defaults.
+impl Default for Settings {
+    ghost is_default = { λ s. s ≡ default_settings };
+
+    fn default() -> Settings {
         Settings {
             block: 1,
             class: 0,
@@ -69,17 +78,6 @@ impl Settings {
             },
             offset: Bits { width: 0, bits: 0 },
             null: Bits { width: 0, bits: 0 },
-        }
-    }
-
-    // No more channels than a frame may have.
-    pub fn at_most(count: usize) -> usize
-        ensures { result ≡ min count channel_limit }
-    {
-        if count < Settings::CHANNELS {
-            count
-        } else {
-            Settings::CHANNELS
         }
     }
 }

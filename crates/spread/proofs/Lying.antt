@@ -1,16 +1,14 @@
 -- Laws of where the samples of a channel lie.
 --     rest_test       a sum that fits
 --     lies_in_lem, in_lies            the test whether samples lie in a file
---     lies_narrow, lies_tests     and that test as it is computed
 --     there-named, spread_inside    a sample that is there is declared, and ends in the file
 -- Assumes nothing.
 use mathlib.Core.Path.{◌≡◌, refl, sym}
 use mathlib.Core.Bool.{Bool, true, false}
 use Prim.Native.Nat.{ℕ, ◌+◌, ◌-◌, ◌*◌, ◌≤◌, ◌<◌}
 use native.Mathlib.Omega.{arith}
-use borrow.Author.Tests.{ltb-true, leb-true, leb-false, lt-ltb, le-ltb, le-leb, lt-leb}
+use borrow.Author.Tests.{ltb-true, leb-true, leb-false, lt-ltb, le-leb, lt-leb}
 use lib.Dec.{ltb, leb}
-use Rattle.octets.specs.Pick.{both}
 use Rattle.octets.proofs.Pick.{both_split}
 use Rattle.there.proofs.Counts.{count-few, count-inside}
 use Rattle.standing.specs.Standing.{octets_limit}
@@ -36,16 +34,6 @@ module _ {size : ℕ} {x : Spread} where
 
   pub in_lies : Lies size x → lies_spread size x ≡ true
   in_lies l = simp (le-leb _ _ l.small, lt-ltb _ _ l.wide, le-leb _ _ l.block, le-leb _ _ l.inside)
-
--- The tests as they are computed, with the width as it was read.
-module _ (size : ℕ) (x : Spread) {w : ℕ} (e : w ≡ width_spread x) (h : size ≤ octets_limit) where
-  pub lies_narrow : w ≡ 0 → false ≡ lies_spread size x
-  lies_narrow z = let k : width_spread x ≤ 0 = omega arith in simp (le-leb _ _ h, le-ltb _ _ k)
-
-  pub lies_tests : (w ≡ 0 → ⊥) → {t : Bool} → t ≡ leb (x.below + x.block * w) x.octets → both t (leb (x.place + x.long) size) ≡ lies_spread size x
-  lies_tests n f =
-      let k : 0 < width_spread x = omega arith in
-      simp (le-leb _ _ h, lt-ltb _ _ k, f, e)
 
 -- A sample that is there is declared.
 pub there-named : (x : Spread) (n : ℕ) → n < there_spread x → n < count_spread x

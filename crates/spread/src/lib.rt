@@ -39,50 +39,27 @@ pub struct Sequences {
 fn block_inside(below: u64, block: u64, octets: u64) -> bool
     ensures { result ≡ leb (below + block) octets }
 {
-    if octets < block {
-        return false;
-    }
-    below <= octets - block
+    block <= octets && below <= octets - block
 }
 
 // Whether a waveform from a place on ends by the end of a file.
 fn waveform_inside(place: usize, long: usize, size: usize) -> bool
     ensures { result ≡ leb (place + long) size }
 {
-    if size < place {
-        return false;
-    }
-    long <= size - place
+    place <= size && long <= size - place
 }
 
 // How often b octets are in a, and what is left of them; of no octets never, and all.
 fn times(a: u64, b: u64) -> u64
     ensures { result ≡ a / b }
 {
-    if b == 0 { 0 } else { a / b }
+    a.checked_div(b).unwrap_or(0)
 }
 
 fn rest(a: u64, b: u64) -> u64
     ensures { result ≡ a % b }
 {
-    if b == 0 { a } else { a % b }
-}
-
-// What is left of a behind b.
-fn behind(a: u64, b: u64) -> u64
-    ensures { result ≡ a - b }
-{
-    if a < b { 0 } else { a - b }
-}
-
-// How many of so many there is room for.
-fn fitting(room: usize, count: u64) -> usize
-    ensures { result ≡ min room count }
-{
-    if count < room as u64 {
-        return count as usize;
-    }
-    room
+    a.checked_rem(b).unwrap_or(a)
 }
 
 impl Spread {
@@ -90,7 +67,7 @@ impl Spread {
     pub fn count(self) -> u64
         ensures { result ≡ count_spread self }
     {
-        self.sequences as u64 * self.block as u64
+        u64::from(self.sequences) * u64::from(self.block)
     }
 
     // How many of them are there, where more sequences are declared than are in the waveform: those of whole sequences, and those of a part of the block in the
@@ -98,29 +75,26 @@ impl Spread {
     fn cut(self) -> u64
         ensures { result ≡ there_spread self }
     {
-        let block = self.block as u64;
+        let sequences = u64::from(self.sequences);
+        let block = u64::from(self.block);
         let whole = times(self.long as u64, self.octets);
-        if self.sequences as u64 <= whole {
-            return self.sequences as u64 * block;
+        if sequences <= whole {
+            return sequences * block;
         }
-        let left = behind(rest(self.long as u64, self.octets), self.below);
+        let left = rest(self.long as u64, self.octets).saturating_sub(self.below);
         let some = times(left, values::width(self.datatype) as u64);
-        if some < block {
-            return whole * block + some;
-        }
-        whole * block + block
+        whole * block + some.min(block)
     }
 
     // How many samples of the channel are there. Where its sequences all are in the waveform no division tells it.
     pub fn there(self) -> u64
         ensures { result ≡ there_spread self }
     {
-        if 0 < self.octets {
-            if self.octets < octets::FOUR_OCTETS {
-                if self.sequences as u64 * self.octets <= self.long as u64 {
-                    return self.count();
-                }
-            }
+        if 0 < self.octets
+            && self.octets < octets::FOUR_OCTETS
+            && u64::from(self.sequences) * self.octets <= self.long as u64
+        {
+            return self.count();
         }
         self.cut()
     }
@@ -129,7 +103,7 @@ impl Spread {
     pub fn readable(self, first: u64, room: usize) -> usize
         ensures { result ≡ min room (there_spread self - first) }
     {
-        fitting(room, behind(self.there(), first))
+        self.there().saturating_sub(first).min(room as u64) as usize
     }
 
     // Whether the waveform lies in a file of `size` octets, and the channel's blocks in their sequences.
@@ -137,16 +111,10 @@ impl Spread {
         ensures { result ≡ lies_spread size self }
     {
         let w = values::width(self.datatype) as u64;
-        if Standing::OCTETS < size {
-            return false;
-        }
-        if w == 0 {
-            return false;
-        }
-        if block_inside(self.below, self.block as u64 * w, self.octets) {
-            return waveform_inside(self.place, self.long, size);
-        }
-        false
+        size <= Standing::OCTETS
+            && 0 < w
+            && block_inside(self.below, u64::from(self.block) * w, self.octets)
+            && waveform_inside(self.place, self.long, size)
     }
 }
 
@@ -154,5 +122,5 @@ impl Spread {
 pub fn smaller(a: usize, b: usize) -> usize
     ensures { result ≡ min a b }
 {
-    if a < b { a } else { b }
+    a.min(b)
 }

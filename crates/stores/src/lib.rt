@@ -28,12 +28,10 @@ pub fn put_number(buf: &mut [u8], at: usize, w: usize, x: u64) -> usize
     if overruns(buf.len(), at, w) {
         return at;
     }
-    let mut i = w;
     let mut v = x;
-    while 0 < i {
-        i -= 1;
+    for i in (0..w).rev() {
         buf[at + i] = (v % 256) as u8;
-        v = v / 256;
+        v /= 256;
     }
     at + w
 }
@@ -68,7 +66,7 @@ pub fn length_octets(n: u32) -> usize
     if n < 128 {
         return 1;
     }
-    let x = n as u64;
+    let x = u64::from(n);
     if x < octets::ONE_OCTET {
         return 2;
     }
@@ -93,16 +91,16 @@ pub fn put_length(buf: &mut [u8], at: usize, n: u32) -> usize
         return put_octet(buf, at, n as u8);
     }
     let next = put_octet(buf, at, (127 + size) as u8);
-    put_number(buf, next, size - 1, n as u64)
+    put_number(buf, next, size - 1, u64::from(n))
 }
 
 // Stores a number's item: its tag, its width, and its w low octets.
 pub fn put_field(buf: &mut [u8], at: usize, tag: u8, w: u8, x: u64) -> usize
     ensures { Putting buf.old at (field tag w x) result buf.new }
 {
-    if overruns(buf.len(), at, 2 + w as usize) {
+    if overruns(buf.len(), at, 2 + usize::from(w)) {
         return at;
     }
     let next = put_two(buf, at, tag, w);
-    put_number(buf, next, w as usize, x)
+    put_number(buf, next, usize::from(w), x)
 }

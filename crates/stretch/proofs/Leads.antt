@@ -4,6 +4,10 @@
 --     item_in, next_short        the item that the walk finds there
 --     value-ahead, extent-later its value, and what lies ahead behind it
 -- Assumes nothing.
+use Rattle.std.specs.Prelude.{Result, Ok, Err, Option, Some, None}
+use Rattle.heads.specs.declared.Fault.{Fault}
+use Rattle.heads.specs.declared.Length.{Length}
+use Rattle.heads.specs.declared.ItemHead.{ItemHead}
 use mathlib.Core.Path.{◌≡◌, refl, sym, ap, subst, ◌∙◌}
 use mathlib.Core.List.{List, [], ◌∷◌}
 use mathlib.Core.Bool.{Bool, true, false}
@@ -20,17 +24,12 @@ use Rattle.octets.proofs.Pick.{pick_cases, both_false}
 use Rattle.items.specs.declared.Item.{Item}
 use Rattle.items.specs.declared.Item.TheVariants.{Plain, Member}
 use Rattle.items.specs.declared.Within.{Within}
-use Rattle.heads.specs.declared.Head.TheVariants.{Primitive}
-use Rattle.heads.specs.declared.Length.TheVariants.{Known}
-use Rattle.items.specs.declared.Next.TheVariants.{Found}
 use Rattle.heads.specs.Head.{unknown_context, root_only, primitive_form, head_of}
 use Rattle.items.specs.Walk.{cursor, stands_in, is_inside, extent, item_of, next_in, next_of}
 use Rattle.heads.proofs.Heads.{length_short, form_primitive, primitive_fits}
 use Rattle.settings.specs.declared.Settings.{Settings}
 use Rattle.definitions.specs.declared.Attribute.{Attribute}
 use Rattle.settings.specs.declared.Change.{Change}
-use Rattle.definitions.specs.declared.Tagged.{Tagged}
-use Rattle.definitions.specs.declared.Defined.{Defined}
 use Rattle.settings.specs.Settings.{applied}
 use Rattle.definitions.specs.Define.{tagged, defined}
 use Rattle.stretch.specs.Stretch.{Step, leaves, ends, stepped_over, leaves_by, step_by, step_of}
@@ -67,9 +66,9 @@ over_ordinary tag =
         let m = ne_eqb tag 0x3F (λ q. let r : (0x3F / 32) % 2 ≡ 0 = ap (λ (k : ℕ). k / 32 % 2) (sym q) ∙ z in let y : ⊥ = omega arith in y) in
         record { known = simp z; anywhere = simp (b, c, d, e, f, g, m); single = m; nonzero = a }
 
-abbrev OrdinaryBy : ℕ → Tagged → Type 0
-OrdinaryBy tag (Tagged.Defines a) = Ordinary tag
-OrdinaryBy tag Tagged.Other = Unit {0}
+abbrev OrdinaryBy : ℕ → Option Attribute → Type 0
+OrdinaryBy tag (Some a) = Ordinary tag
+OrdinaryBy tag None = Unit {0}
 
 defined_ordinary : (tag : ℕ) → OrdinaryBy tag (tagged tag)
 unfolding tagged unknown_context root_only
@@ -92,8 +91,8 @@ defined_ordinary tag =
 -- What an item does to the settings that are held: a change by its definition, or nothing.
 abbrev pub Does : Bool → Settings → Settings → ℕ → List ℕ → Settings → Type 0
 Does little base held tag v x =
-    ((a : Attribute) × (c : Change) × (tagged tag ≡ Tagged.Defines a) × (defined a little base v ≡ Defined.Changed c) × (x ≡ applied c held))
-    ⊎ ((tagged tag ≡ Tagged.Other) × (x ≡ held))
+    ((a : Attribute) × (c : Change) × (tagged tag ≡ Some a) × (defined a little base v ≡ Ok c) × (x ≡ applied c held))
+    ⊎ ((tagged tag ≡ None) × (x ≡ held))
 
 -- An item that belongs to a stretch.
 pub record InStretch (little : Bool) (base held : Settings) (u : List ℕ) (x : Settings) : Type 0 where
@@ -113,20 +112,20 @@ module _ (little : Bool) (base held : Settings) (u : List ℕ) (l : 2 + get_or u
   abbrev value : List ℕ
   value = take (get_or u 1 0) (drop 2 u)
 
-  leads-defined : (a : Attribute) → tagged tag ≡ Tagged.Defines a → (d : Defined) → defined a little base value ≡ d → Leads little base held u (leaves_by held d)
+  leads-defined : (a : Attribute) → tagged tag ≡ Some a → (d : Result Change Fault) → defined a little base value ≡ d → Leads little base held u (leaves_by held d)
   unfolding leaves_by
-  leads-defined a e (Defined.Changed c) f =
+  leads-defined a e (Ok c) f =
       record { long = l; short = h; ordinary = subst (OrdinaryBy tag) e (defined_ordinary tag); does = inl (a, c, e, f, refl) }
-  leads-defined a e (Defined.Refused number) f = tt
+  leads-defined a e (Err fault) f = tt
 
-  leads_other : tagged tag ≡ Tagged.Other → (t : Bool) → stepped_over tag ≡ t → Leads little base held u (pick t (leaves held) ends)
+  leads_other : tagged tag ≡ None → (t : Bool) → stepped_over tag ≡ t → Leads little base held u (pick t (leaves held) ends)
   leads_other e true f = record { long = l; short = h; ordinary = subst (OrdinaryIf tag) f (over_ordinary tag); does = inr (e, refl) }
   leads_other e false f = tt
 
-  leads_by : (t : Tagged) → tagged tag ≡ t → Leads little base held u (step_by little base held tag value t)
+  leads_by : (t : Option Attribute) → tagged tag ≡ t → Leads little base held u (step_by little base held tag value t)
   unfolding step_by
-  leads_by (Tagged.Defines a) e = leads-defined a e (defined a little base value) refl
-  leads_by Tagged.Other e = leads_other e (stepped_over tag) refl
+  leads_by (Some a) e = leads-defined a e (defined a little base value) refl
+  leads_by None e = leads_other e (stepped_over tag) refl
 
 step-leads : (little : Bool) (base held : Settings) (u : List ℕ) → Leads little base held u (step_of little base held u)
 unfolding step_of
@@ -161,26 +160,26 @@ stays_in s at (Within.Open channel place) h = refl
 next-head : (at : ℕ) (w : Within) (u : List ℕ) → 2 ≤ length u → next_in at w u ≡ item_of at w (head_of (is_inside w) u)
 unfolding next_in
 next-head at w [] h = let z : ⊥ = omega arith in absurd z
-next-head at w (tag ∷ u) h = refl
+next-head at w (o ∷ u) h = refl
 
-item-there : (at : ℕ) (w : Within) (tag n : ℕ) → eqb tag 0 ≡ false → item_of at w (Primitive tag 2 n) ≡ Found (item_in w at tag n) (cursor (at + 2 + n) w)
+item-there : (at : ℕ) (w : Within) (tag n : ℕ) → eqb tag 0 ≡ false → item_of at w (Ok (ItemHead.Primitive tag 2 n)) ≡ Ok (Some ((item_in w at tag n), (cursor (at + 2 + n) w)))
 unfolding item_of
 item-there at Within.Root tag n z = refl
 item-there at (Within.Definite channel end) tag n z = refl
 item-there at (Within.Open channel place) tag n z = simp z
 
-head_short : (inside : Bool) (u : List ℕ) → Ordinary (get_or u 0 0) → 2 + get_or u 1 0 ≤ length u → get_or u 1 0 ≤ 127 → head_of inside u ≡ Primitive (get_or u 0 0) 2 (get_or u 1 0)
+head_short : (inside : Bool) (u : List ℕ) → Ordinary (get_or u 0 0) → 2 + get_or u 1 0 ≤ length u → get_or u 1 0 ≤ 127 → head_of inside u ≡ Ok (ItemHead.Primitive (get_or u 0 0) 2 (get_or u 1 0))
 unfolding primitive_form
 head_short inside u o l h =
     let d = length-drop 1 u in
     let g = get_or-drop 1 u 0 0 in
     primitive_fits inside u 2 (get_or u 1 0) l (get_or u 0 0)
     (sym (form_primitive inside u (λ z. let x : ⊥ = omega arith in x) o.known (ap (both inside) o.anywhere ∙ both_false inside) (eqb-false (get_or u 0 0) 0x3F o.single))
-    ∙ ap (primitive_form (get_or u 0 0)) (sym (length_short (drop 1 u) (λ z. let x : ⊥ = omega arith in x) (omega arith)) ∙ ap (λ (k : ℕ). Known k 1) g))
+    ∙ ap (primitive_form (get_or u 0 0)) (sym (length_short (drop 1 u) (λ z. let x : ⊥ = omega arith in x) (omega arith)) ∙ ap (λ (k : ℕ). Ok (Some (Length.Known k 1))) g))
 
 -- The walk finds it, and goes on behind it where it was.
 pub next_short : (s : List ℕ) (at : ℕ) (w : Within) → Ordinary (get_or (extent s at w) 0 0) → 2 + get_or (extent s at w) 1 0 ≤ length (extent s at w) → get_or (extent s at w) 1 0 ≤ 127
-    → next_of s (cursor at w) ≡ Found (item_in w at (get_or (extent s at w) 0 0) (get_or (extent s at w) 1 0)) (cursor (at + 2 + get_or (extent s at w) 1 0) w)
+    → next_of s (cursor at w) ≡ Ok (Some ((item_in w at (get_or (extent s at w) 0 0) (get_or (extent s at w) 1 0)), (cursor (at + 2 + get_or (extent s at w) 1 0) w)))
 unfolding next_of
 next_short s at w o l h =
     ap (λ (v : Within). next_in at v (extent s at v)) (stays_in s at w (omega arith))

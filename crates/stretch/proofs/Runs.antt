@@ -2,13 +2,15 @@
 --     step-none, -long, -past, -here    the item at a place of u, by its octets
 --     RunningStretch                    the loop's invariant: what is left of u gives the stretch
 --     running_first, -ends, -goes       at the front; where the stretch ends; after an item
+--     running_stops, running_item       the same at an item that goes by its tag
 --     value-here                        the value of the item at a place
 --     leaves_read                       what was read of an attribute leaves what its definition does
 --     block-step and its like           what an attribute leaves, by what was read of it
 --     leaves-block and its like         what a definition leaves
 --     leaves-same, -nothing             what another item leaves
---     ends-within, run_ahead            the place where it ends is a place; the run ahead of a cursor
+--     ends-within                       the place where it ends is a place
 -- Assumes nothing.
+use Rattle.std.specs.Prelude.{Ok, Err, Option, Some, None}
 use mathlib.Core.Path.{◌≡◌, refl, sym, ap, ◌∙◌}
 use mathlib.Core.List.{List}
 use mathlib.Core.Bool.{Bool, true, false, not}
@@ -21,28 +23,19 @@ use lib.Dec.{eqb}
 use lib.ListN.{length, get_or, take, drop, length-drop}
 use lib.Seq.{get_or-drop, drop-drop}
 use Rattle.items.specs.declared.Within.{Within}
-use Rattle.items.specs.declared.Cursor.{Cursor}
 use Rattle.items.specs.Walk.{extent}
 use Rattle.items.proofs.Walks.{extent_found}
 use Rattle.octets.specs.Pick.{pick}
 use Rattle.octets.proofs.Laws.{part_whole}
-use Rattle.heads.specs.Refusals.{unfit_length, unfit_value}
+use Rattle.heads.specs.declared.Fault.TheVariants.{UnfitLength, UnfitValue}
 use Rattle.values.specs.declared.Bits.{Bits}
 use Rattle.settings.specs.declared.Scale.{Scale}
 use Rattle.settings.specs.declared.Settings.{Settings}
 use Rattle.settings.specs.declared.Change.{Change}
 use Rattle.settings.specs.Settings.{applied, last_interval_unit, last_resolution_unit}
 use Rattle.definitions.specs.declared.Attribute.{Attribute}
-use Rattle.definitions.specs.declared.Tagged.{Tagged}
-use Rattle.definitions.specs.declared.Defined.{Defined}
-use Rattle.definitions.specs.declared.BlockRead.{BlockRead}
-use Rattle.definitions.specs.declared.CodeRead.{CodeRead}
-use Rattle.definitions.specs.declared.TypeRead.{TypeRead}
-use Rattle.definitions.specs.declared.ScaleRead.{ScaleRead}
-use Rattle.definitions.specs.declared.BitsRead.{BitsRead}
 use Rattle.definitions.specs.Define.{tagged, length_fits, standing_in, change_of, in_range, defined, read_as, block_read, code_read, type_read, scale_read, bits_read}
-use Rattle.stretch.specs.declared.Stretch.{Stretch}
-use Rattle.stretch.specs.Stretch.{Step, leaves, ends, stepped_over, leaves_by, step_by, step_of, stretch, onward, run_from, run_of, stretch_of}
+use Rattle.stretch.specs.Stretch.{Step, leaves, ends, stepped_over, leaves_by, step_by, step_of, stretch, onward, run_from, run_of}
 
 module _ (little : Bool) (base held : Settings) (u : List ℕ) (at : ℕ) where
   long : length (drop at u) ≡ length u - at
@@ -120,6 +113,14 @@ module _ {little : Bool} {base held₀ : Settings} {u : List ℕ} {held : Settin
             same = (λ i. run_from turns little base (sym behind i) x (drop (sym behind i) u)) ∙ ap (run_from turns little base (at + (2 + get_or (drop at u) 1 0)) x) (sym (drop-drop (2 + get_or (drop at u) 1 0) at u)) ∙ sym (run_goes turns little base at held x (drop at u) s) ∙ q;
           }
 
+  -- An item that goes by its tag: where it ends the stretch, and where it is a part of it.
+  module _ {n : ℕ} (e : n ≡ get_or u (at + 1) 0) (h : at + 1 < length u) (l : n ≤ 127) (k : n ≤ length u - at - 2) where
+    pub running_stops : {first : Settings} → held₀ ≡ first → step_by little base held (get_or u at 0) (take n (drop (at + 2) u)) (tagged (get_or u at 0)) ≡ ends → (stretch at held ≡ run_of little base first u) × (at ≤ length u)
+    running_stops f s = (running_ends f (step-here little base held u at e h l k ∙ s), p.low)
+
+    pub running_item : {x : Settings} → step_by little base held (get_or u at 0) (take n (drop (at + 2) u)) (tagged (get_or u at 0)) ≡ leaves x → RunningStretch little base held₀ u x (at + 2 + n)
+    running_item s = running_goes e h k (step-here little base held u at e h l k ∙ s)
+
 -- ---- what an item leaves
 
 -- The value of the item at a place.
@@ -141,65 +142,65 @@ unfolding read_as defined leaves_by
 leaves_read a little base held v f value refused g b x none back new fits =
     three f (not (length_fits a (length v))) (eqb (length v) 0) g refused (value b) (value x) refused
     ∙ (λ i. pick (not (length_fits a (length v))) (none i) (pick (eqb (length v) 0) (back i) (pick (fits i) (new i) (none i))))
-    ∙ sym (three (leaves_by held) (not (length_fits a (length v))) (eqb (length v) 0) (in_range (change_of a little v)) (Defined.Refused unfit_length) (Defined.Changed (standing_in a base)) (Defined.Changed (change_of a little v)) (Defined.Refused unfit_value))
+    ∙ sym (three (leaves_by held) (not (length_fits a (length v))) (eqb (length v) 0) (in_range (change_of a little v)) (Err UnfitLength) (Ok (standing_in a base)) (Ok (change_of a little v)) (Err UnfitValue))
 
 -- What an attribute leaves, by what was read of it.
-abbrev pub block-step : Settings → BlockRead → Step
-block-step held (BlockRead.Value n) = leaves (applied (Change.Block n) held)
-block-step held BlockRead.Refused = ends
+abbrev pub block-step : Settings → Option ℕ → Step
+block-step held (Some n) = leaves (applied (Change.Block n) held)
+block-step held None = ends
 
-abbrev pub type_step : Settings → TypeRead → Step
-type_step held (TypeRead.Value n) = leaves (applied (Change.DataType n) held)
-type_step held TypeRead.Refused = ends
+abbrev pub type_step : Settings → Option ℕ → Step
+type_step held (Some n) = leaves (applied (Change.DataType n) held)
+type_step held None = ends
 
-abbrev pub code_step : (ℕ → Change) → Settings → CodeRead → Step
-code_step change held (CodeRead.Value n) = leaves (applied (change n) held)
-code_step change held CodeRead.Refused = ends
+abbrev pub code_step : (ℕ → Change) → Settings → Option ℕ → Step
+code_step change held (Some n) = leaves (applied (change n) held)
+code_step change held None = ends
 
-abbrev pub scale_step : (Scale → Change) → Settings → ScaleRead → Step
-scale_step change held (ScaleRead.Value x) = leaves (applied (change x) held)
-scale_step change held ScaleRead.Refused = ends
+abbrev pub scale_step : (Scale → Change) → Settings → Option Scale → Step
+scale_step change held (Some x) = leaves (applied (change x) held)
+scale_step change held None = ends
 
-abbrev pub bits-step : (Bits → Change) → Settings → BitsRead → Step
-bits-step change held (BitsRead.Value x) = leaves (applied (change x) held)
-bits-step change held BitsRead.Refused = ends
+abbrev pub bits-step : (Bits → Change) → Settings → Option Bits → Step
+bits-step change held (Some x) = leaves (applied (change x) held)
+bits-step change held None = ends
 
-module _ (little : Bool) (base held : Settings) (tag : ℕ) (v : List ℕ) {t : Tagged} (e : t ≡ tagged tag) where
-  leaves-defined : {a : Attribute} {w : List ℕ} → t ≡ Tagged.Defines a → w ≡ v → step_by little base held tag v (tagged tag) ≡ leaves_by held (defined a little base w)
+module _ (little : Bool) (base held : Settings) (tag : ℕ) (v : List ℕ) {t : Option Attribute} (e : t ≡ tagged tag) where
+  leaves-defined : {a : Attribute} {w : List ℕ} → t ≡ Some a → w ≡ v → step_by little base held tag v (tagged tag) ≡ leaves_by held (defined a little base w)
   unfolding step_by
   leaves-defined {a = a} f h = ap (step_by little base held tag v) (sym e ∙ f) ∙ ap (λ (x : List ℕ). leaves_by held (defined a little base x)) (sym h)
 
   -- A definition, whose value is kept as w, by what was read of it.
-  pub leaves-block : {w : List ℕ} {r y : BlockRead} → t ≡ Tagged.Defines Attribute.Block → w ≡ v → r ≡ block_read little base.block w → r ≡ y → step_by little base held tag v (tagged tag) ≡ block-step held y
+  pub leaves-block : {w : List ℕ} {r y : Option ℕ} → t ≡ Some Attribute.Block → w ≡ v → r ≡ block_read little base.block w → r ≡ y → step_by little base held tag v (tagged tag) ≡ block-step held y
   leaves-block {w = w} f h g q = leaves-defined f h ∙ sym (leaves_read Attribute.Block little base held w (block-step held) _ _ _ _ _ refl refl refl refl) ∙ ap (block-step held) (sym g ∙ q)
 
-  pub leaves-class : {w : List ℕ} {r y : CodeRead} → t ≡ Tagged.Defines Attribute.Class → w ≡ v → r ≡ code_read little base.class w → r ≡ y → step_by little base held tag v (tagged tag) ≡ code_step Change.Class held y
+  pub leaves-class : {w : List ℕ} {r y : Option ℕ} → t ≡ Some Attribute.Class → w ≡ v → r ≡ code_read little base.class w → r ≡ y → step_by little base held tag v (tagged tag) ≡ code_step Change.Class held y
   leaves-class {w = w} f h g q = leaves-defined f h ∙ sym (leaves_read Attribute.Class little base held w (code_step Change.Class held) _ _ _ _ _ refl refl refl refl) ∙ ap (code_step Change.Class held) (sym g ∙ q)
 
-  pub leaves-lead : {w : List ℕ} {r y : CodeRead} → t ≡ Tagged.Defines Attribute.Lead → w ≡ v → r ≡ code_read little base.lead w → r ≡ y → step_by little base held tag v (tagged tag) ≡ code_step Change.Lead held y
+  pub leaves-lead : {w : List ℕ} {r y : Option ℕ} → t ≡ Some Attribute.Lead → w ≡ v → r ≡ code_read little base.lead w → r ≡ y → step_by little base held tag v (tagged tag) ≡ code_step Change.Lead held y
   leaves-lead {w = w} f h g q = leaves-defined f h ∙ sym (leaves_read Attribute.Lead little base held w (code_step Change.Lead held) _ _ _ _ _ refl refl refl refl) ∙ ap (code_step Change.Lead held) (sym g ∙ q)
 
-  pub leaves_type : {w : List ℕ} {r y : TypeRead} → t ≡ Tagged.Defines Attribute.DataType → w ≡ v → r ≡ type_read base.datatype w → r ≡ y → step_by little base held tag v (tagged tag) ≡ type_step held y
+  pub leaves_type : {w : List ℕ} {r y : Option ℕ} → t ≡ Some Attribute.DataType → w ≡ v → r ≡ type_read base.datatype w → r ≡ y → step_by little base held tag v (tagged tag) ≡ type_step held y
   leaves_type {w = w} f h g q = leaves-defined f h ∙ sym (leaves_read Attribute.DataType little base held w (type_step held) _ _ _ _ _ refl refl refl refl) ∙ ap (type_step held) (sym g ∙ q)
 
-  pub leaves-interval : {w : List ℕ} {r y : ScaleRead} → t ≡ Tagged.Defines Attribute.Interval → w ≡ v → r ≡ scale_read last_interval_unit little base.interval w → r ≡ y → step_by little base held tag v (tagged tag) ≡ scale_step Change.Interval held y
+  pub leaves-interval : {w : List ℕ} {r y : Option Scale} → t ≡ Some Attribute.Interval → w ≡ v → r ≡ scale_read last_interval_unit little base.interval w → r ≡ y → step_by little base held tag v (tagged tag) ≡ scale_step Change.Interval held y
   leaves-interval {w = w} f h g q = leaves-defined f h ∙ sym (leaves_read Attribute.Interval little base held w (scale_step Change.Interval held) _ _ _ _ _ refl refl refl refl) ∙ ap (scale_step Change.Interval held) (sym g ∙ q)
 
-  pub leaves-resolution : {w : List ℕ} {r y : ScaleRead} → t ≡ Tagged.Defines Attribute.Resolution → w ≡ v → r ≡ scale_read last_resolution_unit little base.resolution w → r ≡ y → step_by little base held tag v (tagged tag) ≡ scale_step Change.Resolution held y
+  pub leaves-resolution : {w : List ℕ} {r y : Option Scale} → t ≡ Some Attribute.Resolution → w ≡ v → r ≡ scale_read last_resolution_unit little base.resolution w → r ≡ y → step_by little base held tag v (tagged tag) ≡ scale_step Change.Resolution held y
   leaves-resolution {w = w} f h g q = leaves-defined f h ∙ sym (leaves_read Attribute.Resolution little base held w (scale_step Change.Resolution held) _ _ _ _ _ refl refl refl refl) ∙ ap (scale_step Change.Resolution held) (sym g ∙ q)
 
-  pub leaves-offset : {w : List ℕ} {r y : BitsRead} → t ≡ Tagged.Defines Attribute.Offset → w ≡ v → r ≡ bits_read little base.offset w → r ≡ y → step_by little base held tag v (tagged tag) ≡ bits-step Change.Offset held y
+  pub leaves-offset : {w : List ℕ} {r y : Option Bits} → t ≡ Some Attribute.Offset → w ≡ v → r ≡ bits_read little base.offset w → r ≡ y → step_by little base held tag v (tagged tag) ≡ bits-step Change.Offset held y
   leaves-offset {w = w} f h g q = leaves-defined f h ∙ sym (leaves_read Attribute.Offset little base held w (bits-step Change.Offset held) _ _ _ _ _ refl refl refl refl) ∙ ap (bits-step Change.Offset held) (sym g ∙ q)
 
-  pub leaves-null : {w : List ℕ} {r y : BitsRead} → t ≡ Tagged.Defines Attribute.Null → w ≡ v → r ≡ bits_read little base.null w → r ≡ y → step_by little base held tag v (tagged tag) ≡ bits-step Change.Null held y
+  pub leaves-null : {w : List ℕ} {r y : Option Bits} → t ≡ Some Attribute.Null → w ≡ v → r ≡ bits_read little base.null w → r ≡ y → step_by little base held tag v (tagged tag) ≡ bits-step Change.Null held y
   leaves-null {w = w} f h g q = leaves-defined f h ∙ sym (leaves_read Attribute.Null little base held w (bits-step Change.Null held) _ _ _ _ _ refl refl refl refl) ∙ ap (bits-step Change.Null held) (sym g ∙ q)
 
   -- Another item that the stretch may hold, or not.
-  pub leaves-same : t ≡ Tagged.Other → stepped_over tag ≡ true → step_by little base held tag v (tagged tag) ≡ leaves held
+  pub leaves-same : t ≡ None → stepped_over tag ≡ true → step_by little base held tag v (tagged tag) ≡ leaves held
   unfolding step_by
   leaves-same f g = ap (step_by little base held tag v) (sym e ∙ f) ∙ simp g
 
-  pub leaves_nothing : t ≡ Tagged.Other → stepped_over tag ≡ false → step_by little base held tag v (tagged tag) ≡ ends
+  pub leaves_nothing : t ≡ None → stepped_over tag ≡ false → step_by little base held tag v (tagged tag) ≡ ends
   unfolding step_by
   leaves_nothing f g = ap (step_by little base held tag v) (sym e ∙ f) ∙ simp g
 
@@ -212,8 +213,3 @@ ends-within s at w {u = u} k e h l m = by_length_lem (ℕ_discrete (length u) 0)
     by_length_lem : Dec (length u ≡ 0) → at + k < 2 ^ 64
     by_length_lem (yes z) = omega arith
     by_length_lem (no z) = omega (arith, extent_found s at w u e z)
-
--- A run over what lies ahead of a cursor is the stretch there.
-pub run_ahead : (s : List ℕ) (c : Cursor) (little : Bool) (base held : Settings) {u : List ℕ} {r : Stretch} → u ≡ extent s c.at c.within → r ≡ run_of little base held u → stretch (c.at + r.at) r.settings ≡ stretch_of s c little base held
-unfolding stretch_of
-run_ahead s c little base held e f = ap (λ (x : Stretch). stretch (c.at + x.at) x.settings) (f ∙ ap (run_of little base held) e)

@@ -1,13 +1,14 @@
 -- A stretch: definitions and items that are stepped over, one after the other, each with a length of one octet. No sentence of document 01 knows
 -- it; that a stretch does what its items do one by one is shown where the pass takes it (pass/proofs/Stretches.antt).
-use Rattle.std.specs.Prelude.{List, Bool, false, ℕ, zero, suc, ◌+◌, ◌-◌, ◌/◌, ◌%◌, eqb, ltb, length, get_or, take, drop}
+use Rattle.heads.specs.declared.Fault.{Fault}
+use Rattle.settings.specs.declared.Change.{Change}
+use Rattle.definitions.specs.declared.Attribute.{Attribute}
+use Rattle.std.specs.Prelude.{List, Bool, false, ℕ, zero, suc, ◌+◌, ◌-◌, ◌/◌, ◌%◌, eqb, ltb, length, get_or, take, drop, Result, Ok, Err, Option, Some, None}
 use Rattle.octets.specs.Pick.{pick}
 use Rattle.items.specs.declared.Cursor.{Cursor}
 use Rattle.items.specs.Walk.{extent}
 use Rattle.settings.specs.declared.Settings.{Settings}
 use Rattle.settings.specs.Settings.{applied}
-use Rattle.definitions.specs.declared.Defined.{Defined}
-use Rattle.definitions.specs.declared.Tagged.{Tagged}
 use Rattle.definitions.specs.Define.{tagged, defined}
 use Rattle.stretch.specs.declared.Stretch.{Stretch}
 
@@ -29,14 +30,14 @@ pub data Step : Type 0 where
   ends : Step
 
 -- A definition is carried out; one that is refused ends the stretch.
-unfoldable pub leaves_by : Settings → Defined → Step
-leaves_by held (Defined.Changed c) = leaves (applied c held)
-leaves_by held (Defined.Refused number) = ends
+unfoldable pub leaves_by : Settings → Result Change Fault → Step
+leaves_by held (Ok c) = leaves (applied c held)
+leaves_by held (Err fault) = ends
 
 -- An item goes by what its tag defines.
-unfoldable pub step_by : Bool → Settings → Settings → ℕ → List ℕ → Tagged → Step
-step_by little base held tag v (Tagged.Defines a) = leaves_by held (defined a little base v)
-step_by little base held tag v Tagged.Other = pick (stepped_over tag) (leaves held) ends
+unfoldable pub step_by : Bool → Settings → Settings → ℕ → List ℕ → Option Attribute → Step
+step_by little base held tag v (Some a) = leaves_by held (defined a little base v)
+step_by little base held tag v None = pick (stepped_over tag) (leaves held) ends
 
 -- The item at the front of u. It belongs to the stretch where its length takes one octet, below 128, and its value is all there.
 unfoldable pub step_of : Bool → Settings → Settings → List ℕ → Step

@@ -9,7 +9,7 @@
 ghost use Rattle.std.specs.Prelude.{◌≡◌, ◌≤◌, length};
 ghost use Rattle.stretch.specs.Stretch.{stepped_over, run_of, stretch_of};
 
-use definitions::{Attribute, BitsRead, BlockRead, CodeRead, ScaleRead, Tagged, TypeRead};
+use definitions::Attribute;
 use items::Cursor;
 use settings::Settings;
 use values::Bits;
@@ -22,6 +22,7 @@ pub struct Stretch {
 }
 
 // The tags of other items that a stretch may hold.
+#[tactic(auto, unfolding(crate::specs::Stretch::stepped_over))]
 pub fn stepped_over(tag: u8) -> bool
     ensures { result ≡ stepped_over tag }
 {
@@ -80,24 +81,24 @@ fn run(u: &[u8], little: bool, base: Settings, held: Settings) -> Stretch
         let from = at + 2;
         let next = from + n;
         match definitions::attribute_of(tag) {
-            Tagged::Defines(a) => {
+            Some(a) => {
                 let v = &u[from..next];
                 match a {
                     Attribute::Block => match definitions::block_read(v, little, base.block) {
-                        BlockRead::Value(x) => settings.block = x,
-                        BlockRead::Refused => break,
+                        Some(x) => settings.block = x,
+                        None => break,
                     },
                     Attribute::Class => match definitions::code_read(v, little, base.class) {
-                        CodeRead::Value(x) => settings.class = x,
-                        CodeRead::Refused => break,
+                        Some(x) => settings.class = x,
+                        None => break,
                     },
                     Attribute::Lead => match definitions::code_read(v, little, base.lead) {
-                        CodeRead::Value(x) => settings.lead = x,
-                        CodeRead::Refused => break,
+                        Some(x) => settings.lead = x,
+                        None => break,
                     },
                     Attribute::DataType => match definitions::type_read(v, base.datatype) {
-                        TypeRead::Value(x) => settings.datatype = x,
-                        TypeRead::Refused => break,
+                        Some(x) => settings.datatype = x,
+                        None => break,
                     },
                     Attribute::Interval => match definitions::scale_read(
                         v,
@@ -105,8 +106,8 @@ fn run(u: &[u8], little: bool, base: Settings, held: Settings) -> Stretch
                         Settings::LAST_INTERVAL_UNIT,
                         base.interval,
                     ) {
-                        ScaleRead::Value(x) => settings.interval = x,
-                        ScaleRead::Refused => break,
+                        Some(x) => settings.interval = x,
+                        None => break,
                     },
                     Attribute::Resolution => match definitions::scale_read(
                         v,
@@ -114,20 +115,20 @@ fn run(u: &[u8], little: bool, base: Settings, held: Settings) -> Stretch
                         Settings::LAST_RESOLUTION_UNIT,
                         base.resolution,
                     ) {
-                        ScaleRead::Value(x) => settings.resolution = x,
-                        ScaleRead::Refused => break,
+                        Some(x) => settings.resolution = x,
+                        None => break,
                     },
                     Attribute::Offset => match definitions::bits_read(v, little, base.offset) {
-                        BitsRead::Value(x) => settings.offset = x,
-                        BitsRead::Refused => break,
+                        Some(x) => settings.offset = x,
+                        None => break,
                     },
                     Attribute::Null => match definitions::bits_read(v, little, base.null) {
-                        BitsRead::Value(x) => settings.null = x,
-                        BitsRead::Refused => break,
+                        Some(x) => settings.null = x,
+                        None => break,
                     },
                 }
             }
-            Tagged::Other => {
+            None => {
                 if !stepped_over(tag) {
                     break;
                 }
@@ -140,6 +141,7 @@ fn run(u: &[u8], little: bool, base: Settings, held: Settings) -> Stretch
 
 // The stretch at a cursor of the file s: definitions are carried out in `held`, and a definition of length 0 goes back to what stands in
 // `base`.
+#[tactic(auto, unfolding(crate::specs::Stretch::stretch_of))]
 pub fn along(s: &[u8], c: Cursor, little: bool, base: Settings, held: Settings) -> Stretch
     ensures { result ≡ stretch_of s.now c «little» base held }
 {

@@ -5,6 +5,7 @@
 --     Laying, laying_begins, laying_can, laying_turns, laying-ends    a loop that lays them
 --     swept_refused, swept_count, swept_left    the answer
 -- Assumes nothing.
+use Rattle.heads.specs.declared.Fault.{Fault}
 use mathlib.Core.Path.{◌≡◌, refl, sym, ap, ◌∙◌}
 use mathlib.Core.Bool.{Bool, true, false}
 use mathlib.Core.List.{List, [], ◌∷◌, ◌++◌}
@@ -16,7 +17,7 @@ use lib.Seq.{sets, length-sets}
 use Rattle.octets.specs.Pick.{pick, both}
 use Rattle.octets.proofs.Pick.{both_split}
 use Rattle.stores.proofs.Stores.{sets_front}
-use Rattle.heads.specs.Refusals.{no_frame}
+use Rattle.heads.specs.declared.Fault.TheVariants.{NoFrame}
 use Rattle.heads.specs.Answer.{Answer, answered, refused_as, map_answer, left_by}
 use Rattle.spread.specs.declared.Spread.{Spread}
 use Rattle.spread.specs.declared.Sequences.{Sequences}
@@ -29,7 +30,7 @@ use Rattle.strides.proofs.Walks.{length-bits, stores_join}
 
 -- The buffer, by what is read.
 module _ {A : Type 0} {a : Answer (List A)} (out : List A) where
-  pub kept : {number place : ℕ} → refused_as number place ≡ a → out ≡ left_by a out
+  pub kept : {fault : Fault} {place : ℕ} → refused_as fault place ≡ a → out ≡ left_by a out
   unfolding left_by
   kept e = ap (λ (x : Answer (List A)). left_by x out) e
 
@@ -143,14 +144,14 @@ module _ (s t : List ℕ) (q : Sequences) (channels : ℕ) (out₀ : List ℕ) w
 -- ---- the answer
 
 module _ (s out : List ℕ) (xs : List Spread) where
-  pub swept_refused : all_lie (length s) xs ≡ false → refused_as no_frame 0 ≡ swept_of s (length out) xs
+  pub swept_refused : all_lie (length s) xs ≡ false → refused_as NoFrame 0 ≡ swept_of s (length out) xs
   unfolding swept_of
-  swept_refused e = ap (λ (b : Bool). pick b (answered (take (length out) (swept_bits s xs))) (refused_as no_frame 0)) (sym e)
+  swept_refused e = ap (λ (b : Bool). pick b (answered (take (length out) (swept_bits s xs))) (refused_as NoFrame 0)) (sym e)
 
   module _ (e : all_lie (length s) xs ≡ true) where
     swept : answered (take (length out) (swept_bits s xs)) ≡ swept_of s (length out) xs
     unfolding swept_of
-    swept = ap (λ (b : Bool). pick b (answered (take (length out) (swept_bits s xs))) (refused_as no_frame 0)) (sym e)
+    swept = ap (λ (b : Bool). pick b (answered (take (length out) (swept_bits s xs))) (refused_as NoFrame 0)) (sym e)
 
     pub swept_count : {n : ℕ} → n ≡ length (take (length out) (swept_bits s xs)) → answered n ≡ map_answer length (swept_of s (length out) xs)
     swept_count f = ap answered f ∙ ap (map_answer length) swept

@@ -1,9 +1,9 @@
 -- How the loops walk samples.
 --     length-spaced, length-bits, bits-append, bits-same    lists of bits
 --     stores_join                one run of stores after another
---     Running, run_begins, run_there, run_turns, run_within, run_long, four_there, run_four, run_ends    a loop over evenly spaced samples, for any width
+--     Running, run_begins, run_there, run_turns, run_within, four_there, run_four, run_ends    a loop over evenly spaced samples, for any width
 --     spaced-is                  bits whose places are evenly spaced
---     wide_eight, wide-small     widths
+--     wide-small     widths
 --     Blocking, blocks_begin, piece_some, block-starts, block_within, blocks_turn, blocks_end    a loop over blocks
 --     even_there, even_within, even_is    blocks whose samples are evenly spaced
 -- Assumes nothing.
@@ -101,9 +101,6 @@ module _ (little : Bool) (w : ℕ) (s : List ℕ) (step : ℕ) where
   pub run_within : {from n : ℕ} {out₀ : List ℕ} {at : ℕ} {out : List ℕ} {q p left : ℕ} → Running from n out₀ at out q p left → InFile (length s) q step left w
   run_within r = record { small = r.small; apart = r.apart; each = r.each }
 
-  pub run_long : {from n : ℕ} {out₀ : List ℕ} {at : ℕ} {out : List ℕ} {q p left : ℕ} {new : List ℕ} → new ≡ sets out p (spaced little w s step q left) → Running from n out₀ at out q p left → length new ≡ length out₀
-  run_long {out = out} {q = q} {p = p} {left = left} e r = ap length e ∙ length-sets out p (spaced little w s step q left) ∙ r.long
-
   -- Four turns at once, of samples that are there.
   pub four_there : {from n : ℕ} {out₀ : List ℕ} {at : ℕ} {out : List ℕ} {q p left : ℕ} → 4 ≤ left → Running from n out₀ at out q p left → q + 3 * step + w ≤ length s
   four_there h r = r.each 3 h
@@ -134,9 +131,6 @@ module _ (little : Bool) (w : ℕ) (s : List ℕ) (step : ℕ) where
 -- ---- widths
 
 module _ {w : ℕ} (h : Wide w) where
-  pub wide_eight : (w ≡ 1 → ⊥) → (w ≡ 2 → ⊥) → (w ≡ 4 → ⊥) → w ≡ 8
-  wide_eight a b c = ⊎_elim (λ e. absurd (a e)) (⊎_elim (λ e. absurd (b e)) (⊎_elim (λ e. absurd (c e)) (λ e. e))) h
-
   pub wide-small : w ≤ 8
   wide-small = ⊎_elim (λ e. omega arith) (⊎_elim (λ e. omega arith) (⊎_elim (λ e. omega arith) (λ e. omega arith))) h
 

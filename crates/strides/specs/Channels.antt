@@ -1,21 +1,14 @@
 -- All samples there of a frame, channel after channel, by the words of the channels' records.
 use Rattle.std.specs.Prelude.{Bool, true, List, [], ◌∷◌, ◌++◌, ℕ, zero, suc, length, get_or, take}
 use Rattle.octets.specs.Pick.{pick, both}
-use Rattle.heads.specs.Refusals.{no_frame}
-use Rattle.heads.specs.Answer.{Answer, answered, refused_as, refused_by}
+use Rattle.heads.specs.declared.Fault.TheVariants.{NoFrame}
+use Rattle.heads.specs.Answer.{Answer, answered, refused_as}
 use Rattle.dated.specs.Dated.{zero_dated}
 use Rattle.words.specs.Words.{records_in, below_in}
 use Rattle.spread.specs.declared.Spread.{Spread}
 use Rattle.spread.specs.declared.Sequences.{Sequences}
 use Rattle.spread.specs.Spread.{there_spread, lies_spread, bits_spread}
-use Rattle.strides.specs.declared.Read.{Read}
-use Rattle.strides.specs.declared.Read.TheVariants.{Samples}
 use Rattle.strides.specs.Laying.{bits_from}
-
--- What the answer says: how many samples were written.
-abbrev pub read_says : Read → Answer ℕ
-read_says (Samples n) = answered n
-read_says (Read.Refused r) = refused_by r
 
 -- Where the samples of a channel of a frame lie.
 abbrev pub spread_at : List ℕ → Sequences → ℕ → Spread
@@ -49,4 +42,4 @@ swept_bits s (x ∷ xs) = bits_from (bits_spread s x) 0 (there_spread x) ++ swep
 
 -- The answer: as many of these bits as there is room for, or are there; 20 where the samples of a channel do not lie in the file.
 unfoldable pub swept_of : List ℕ → ℕ → List Spread → Answer (List ℕ)
-swept_of s room xs = pick (all_lie (length s) xs) (answered (take room (swept_bits s xs))) (refused_as no_frame 0)
+swept_of s room xs = pick (all_lie (length s) xs) (answered (take room (swept_bits s xs))) (refused_as NoFrame 0)

@@ -5,7 +5,7 @@
 // Promises, whatever numbers a spread holds: `lay` lays the bits of samples into a buffer where they are there, lie in the file and the buffer
 // holds them, `lay_channels` as many as fit or are there; else they leave it as it is.
 // Read first: crate spread, specs/Laying.antt and specs/Channels.antt, then `lay` and upwards. A change to a loop wants its speed measured again: each width
-// has a loop of its own, with straight-line reads, because the compiler makes one wide load of them only so.
+// has an instance of its own, with straight-line reads, because the compiler makes one wide load of them only so.
 #![tactic(auto)]
 
 ghost use Rattle.std.specs.Prelude.{◌≡◌, true, ◌⊎◌, ◌+◌, ◌*◌, ◌/◌, ◌≤◌, ◌<◌, min, length, take, leb};
@@ -14,216 +14,106 @@ ghost use Rattle.std.proofs.lemmas.List.Edits.{sets};
 ghost use Rattle.octets.specs.Pick.{pick, both};
 ghost use Rattle.spread.specs.Spread.{bits_spread};
 ghost use Rattle.strides.specs.Laying.{bits_from, lays_in};
-ghost use Rattle.heads.specs.Answer.{map_answer, left_by};
-ghost use Rattle.strides.specs.Channels.{read_says, spread_at, spreads_from, all_lie, swept_bits, swept_of};
+ghost use Rattle.heads.specs.Answer.{map_answer, left_by, answer_of};
+ghost use Rattle.strides.specs.Channels.{spread_at, spreads_from, all_lie, swept_bits, swept_of};
 ghost use Rattle.strides.specs.Walked.{bits_here, four_laid, spaced, blocked, Wide, InFile, InBlocks, Even, Layable};
 
-use heads::Refusal;
+use heads::{Fault, Refusal};
 use spread::{Sequences, Spread};
 use standing::Standing;
 
-// The answer to reading samples: how many were written, or why none.
-#[derive(Clone, Copy)]
-pub enum Read {
-    Samples(usize),
-    Refused(Refusal),
-}
-
-// The number of one octet.
-fn one_octet(a: u8) -> u64
-    ensures { result ≡ a }
-{
-    a as u64
-}
-
-// The bits of the sample at a place.
-fn one(s: &[u8], at: usize, little: bool) -> u64
-    requires { at + 1 ≤ length s.now }
-    ensures { result ≡ bits_here «little» 1 s.now at }
-{
-    one_octet(s[at])
-}
-
-fn two(s: &[u8], at: usize, little: bool) -> u64
-    requires { at + 2 ≤ length s.now }
-    ensures { result ≡ bits_here «little» 2 s.now at }
-{
-    let a = s[at];
-    let b = s[at + 1];
-    if little {
-        return octets::two_octets(b, a);
-    }
-    octets::two_octets(a, b)
-}
-
-fn four(s: &[u8], at: usize, little: bool) -> u64
-    requires { at + 4 ≤ length s.now }
-    ensures { result ≡ bits_here «little» 4 s.now at }
-{
-    let a = s[at];
-    let b = s[at + 1];
-    let c = s[at + 2];
-    let d = s[at + 3];
-    if little {
-        return octets::four_octets(d, c, b, a);
-    }
-    octets::four_octets(a, b, c, d)
-}
-
+// The bits of the sample of eight octets at a place. `octets::number` has a loop for them, which takes up to 1.5 times as long.
 fn eight(s: &[u8], at: usize, little: bool) -> u64
     requires { at + 8 ≤ length s.now }
     ensures { result ≡ bits_here «little» 8 s.now at }
 {
-    let a = s[at];
-    let b = s[at + 1];
-    let c = s[at + 2];
-    let d = s[at + 3];
-    let e = s[at + 4];
-    let f = s[at + 5];
-    let g = s[at + 6];
-    let h = s[at + 7];
+    let x = [
+        s[at],
+        s[at + 1],
+        s[at + 2],
+        s[at + 3],
+        s[at + 4],
+        s[at + 5],
+        s[at + 6],
+        s[at + 7],
+    ];
     if little {
-        return octets::eight_octets(h, g, f, e, d, c, b, a);
+        return u64::from_le_bytes(x);
     }
-    octets::eight_octets(a, b, c, d, e, f, g, h)
+    u64::from_be_bytes(x)
+}
+
+// The bits of the sample of W octets at a place.
+fn bits_at<const W: usize>(s: &[u8], at: usize, little: bool) -> u64
+    requires small { W ≤ 8 }
+    requires in_bounds { at + W ≤ length s.now }
+    ensures { result ≡ bits_here «little» W s.now at }
+{
+    if W == 8 {
+        return eight(s, at, little);
+    }
+    octets::number(&s[at..at + W], little)
 }
 
 // The bits of n samples, each `step` octets after the one before it, from `at` on in the buffer.
-fn run1(s: &[u8], from: usize, step: usize, n: usize, little: bool, out: &mut [u64], at: usize)
-    requires in_file { InFile (length s.now) from step n 1 }
+fn run_of<const W: usize>(
+    s: &[u8],
+    from: usize,
+    step: usize,
+    n: usize,
+    little: bool,
+    out: &mut [u64],
+    at: usize,
+)
+    requires small { W ≤ 8 }
+    requires in_file { InFile (length s.now) from step n W }
     requires n_in_bounds { at + n ≤ length out.old }
-    ensures { out.new ≡ sets out.old at (spaced «little» 1 s.now step from n) }
+    ensures { out.new ≡ sets out.old at (spaced «little» W s.now step from n) }
 {
     let mut q = from;
-    let mut p = at;
-    let mut left = n;
-    while 0 < left {
-        out[p] = one(s, q, little);
-        p += 1;
+    for k in 0..n {
+        out[at + k] = bits_at::<W>(s, q, little);
         q += step;
-        left -= 1;
     }
 }
 
-fn run2(s: &[u8], from: usize, step: usize, n: usize, little: bool, out: &mut [u64], at: usize)
-    requires in_file { InFile (length s.now) from step n 2 }
-    requires n_in_bounds { at + n ≤ length out.old }
-    ensures { out.new ≡ sets out.old at (spaced «little» 2 s.now step from n) }
-{
-    let mut q = from;
-    let mut p = at;
-    let mut left = n;
-    while 0 < left {
-        out[p] = two(s, q, little);
-        p += 1;
-        q += step;
-        left -= 1;
-    }
-}
-
-fn run4(s: &[u8], from: usize, step: usize, n: usize, little: bool, out: &mut [u64], at: usize)
-    requires in_file { InFile (length s.now) from step n 4 }
-    requires n_in_bounds { at + n ≤ length out.old }
-    ensures { out.new ≡ sets out.old at (spaced «little» 4 s.now step from n) }
-{
-    let mut q = from;
-    let mut p = at;
-    let mut left = n;
-    while 0 < left {
-        out[p] = four(s, q, little);
-        p += 1;
-        q += step;
-        left -= 1;
-    }
-}
-
-fn run8(s: &[u8], from: usize, step: usize, n: usize, little: bool, out: &mut [u64], at: usize)
-    requires in_file { InFile (length s.now) from step n 8 }
-    requires n_in_bounds { at + n ≤ length out.old }
-    ensures { out.new ≡ sets out.old at (spaced «little» 8 s.now step from n) }
-{
-    let mut q = from;
-    let mut p = at;
-    let mut left = n;
-    while 0 < left {
-        out[p] = eight(s, q, little);
-        p += 1;
-        q += step;
-        left -= 1;
-    }
-}
-
-// Four samples of two octets.
-fn turn2(s: &[u8], q: usize, step: usize, little: bool, out: &mut [u64], p: usize)
-    requires step_in_bounds { q + 3 * step + 2 ≤ length s.now }
+// Four samples.
+fn four_of<const W: usize>(s: &[u8], q: usize, step: usize, little: bool, out: &mut [u64], p: usize)
+    requires small { W ≤ 8 }
+    requires step_in_bounds { q + 3 * step + W ≤ length s.now }
     requires p_in_bounds { p + 4 ≤ length out.old }
-    ensures { out.new ≡ four_laid «little» 2 s.now step q out.old p }
+    ensures { out.new ≡ four_laid «little» W s.now step q out.old p }
 {
-    out[p] = two(s, q, little);
-    out[p + 1] = two(s, q + step, little);
-    out[p + 2] = two(s, q + 2 * step, little);
-    out[p + 3] = two(s, q + 3 * step, little);
+    out[p] = bits_at::<W>(s, q, little);
+    out[p + 1] = bits_at::<W>(s, q + step, little);
+    out[p + 2] = bits_at::<W>(s, q + 2 * step, little);
+    out[p + 3] = bits_at::<W>(s, q + 3 * step, little);
 }
 
-// The same as `run2`, four samples a turn, and then those that are left. Tried for one octet and for eight, it gained nothing (docs/DECISIONS.md 76).
-fn fours2(s: &[u8], from: usize, step: usize, n: usize, little: bool, out: &mut [u64], at: usize)
-    requires in_file { InFile (length s.now) from step n 2 }
+// The same as `run_of`, four samples a turn, and then those that are left. Tried for one octet and for eight, it gained nothing (docs/DECISIONS.md 76). WHOLE changes
+// nothing: `lay_whole` has an instance of its own by it, since a loop that one function calls the compiler lays into that function (docs/DECISIONS.md 78).
+fn fours_of<const W: usize, const WHOLE: bool>(
+    s: &[u8],
+    from: usize,
+    step: usize,
+    n: usize,
+    little: bool,
+    out: &mut [u64],
+    at: usize,
+)
+    requires small { W ≤ 8 }
+    requires in_file { InFile (length s.now) from step n W }
     requires n_in_bounds { at + n ≤ length out.old }
-    ensures { out.new ≡ sets out.old at (spaced «little» 2 s.now step from n) }
+    ensures { out.new ≡ sets out.old at (spaced «little» W s.now step from n) }
 {
     let turn = 4 * step;
+    let turns = n / 4;
     let mut q = from;
-    let mut p = at;
-    let mut left = n;
-    while 4 <= left {
-        turn2(s, q, step, little, out, p);
-        p += 4;
+    for k in 0..turns {
+        four_of::<W>(s, q, step, little, out, at + k * 4);
         q += turn;
-        left -= 4;
     }
-    run2(s, q, step, left, little, out, p);
-}
-
-fn fours4(s: &[u8], from: usize, step: usize, n: usize, little: bool, out: &mut [u64], at: usize)
-    requires in_file { InFile (length s.now) from step n 4 }
-    requires n_in_bounds { at + n ≤ length out.old }
-    ensures { out.new ≡ sets out.old at (spaced «little» 4 s.now step from n) }
-{
-    let twice = 2 * step;
-    let thrice = 3 * step;
-    let turn = 4 * step;
-    let mut q = from;
-    let mut p = at;
-    let mut left = n;
-    while 4 <= left {
-        out[p] = four(s, q, little);
-        out[p + 1] = four(s, q + step, little);
-        out[p + 2] = four(s, q + twice, little);
-        out[p + 3] = four(s, q + thrice, little);
-        p += 4;
-        q += turn;
-        left -= 4;
-    }
-    run4(s, q, step, left, little, out, p);
-}
-
-// `fours2` once more, for `lay_whole` alone: a loop that one function calls the compiler lays into that function (docs/DECISIONS.md 78).
-fn column2(s: &[u8], from: usize, step: usize, n: usize, little: bool, out: &mut [u64], at: usize)
-    requires in_file { InFile (length s.now) from step n 2 }
-    requires n_in_bounds { at + n ≤ length out.old }
-    ensures { out.new ≡ sets out.old at (spaced «little» 2 s.now step from n) }
-{
-    let turn = 4 * step;
-    let mut q = from;
-    let mut p = at;
-    let mut left = n;
-    while 4 <= left {
-        turn2(s, q, step, little, out, p);
-        p += 4;
-        q += turn;
-        left -= 4;
-    }
-    run2(s, q, step, left, little, out, p);
+    run_of::<W>(s, q, step, n % 4, little, out, at + turns * 4);
 }
 
 // The same for samples of any width. Where one lies right behind the other the compiler is told the step, and makes wide moves.
@@ -242,27 +132,14 @@ fn run(
     requires n_in_bounds { at + n ≤ length out.old }
     ensures { out.new ≡ sets out.old at (spaced «little» w s.now step from n) }
 {
-    if w == 1 {
-        run1(s, from, step, n, little, out, at);
-        return;
+    match w {
+        1 => run_of::<1>(s, from, step, n, little, out, at),
+        2 if step == 2 => run_of::<2>(s, from, 2, n, little, out, at),
+        2 => fours_of::<2, false>(s, from, step, n, little, out, at),
+        4 if step == 4 => run_of::<4>(s, from, 4, n, little, out, at),
+        4 => fours_of::<4, false>(s, from, step, n, little, out, at),
+        _ => run_of::<8>(s, from, step, n, little, out, at),
     }
-    if w == 2 {
-        if step == 2 {
-            run2(s, from, 2, n, little, out, at);
-            return;
-        }
-        fours2(s, from, step, n, little, out, at);
-        return;
-    }
-    if w == 4 {
-        if step == 4 {
-            run4(s, from, 4, n, little, out, at);
-            return;
-        }
-        fours4(s, from, step, n, little, out, at);
-        return;
-    }
-    run8(s, from, step, n, little, out, at);
 }
 
 // The bits of n samples of blocks of b samples that lie g octets apart, from sample `first` of the block at `from` on, from `at` on in the buffer.
@@ -434,12 +311,9 @@ fn spread_at(t: &[u64], q: Sequences, channel: usize) -> Spread
 fn all_lie(size: usize, t: &[u64], q: Sequences, channels: u32) -> bool
     ensures { result ≡ all_lie size (spreads_from t.now q 0 channels) }
 {
-    let mut channel = 0usize;
-    while channel < channels as usize {
+    for channel in 0..channels as usize {
         let x = spread_at(t, q, channel);
-        if x.lies(size) {
-            channel += 1;
-        } else {
+        if !x.lies(size) {
             return false;
         }
     }
@@ -457,7 +331,7 @@ fn lay_whole(s: &[u8], x: Spread, n: usize, out: &mut [u64], at: usize)
         let g = apart(x.octets);
         if x.block == 1 {
             if values::width(x.datatype) == 2 {
-                column2(s, start, g, n, x.little, out, at);
+                fours_of::<2, true>(s, start, g, n, x.little, out, at);
                 return;
             }
         }
@@ -482,29 +356,33 @@ fn lay_all(s: &[u8], t: &[u64], q: Sequences, channels: u32, out: &mut [u64]) ->
     ensures value { result ≡ length (take (length out.old) (swept_bits s.now (spreads_from t.now q 0 channels))) }
     ensures out_after { out.new ≡ sets out.old 0 (take (length out.old) (swept_bits s.now (spreads_from t.now q 0 channels))) }
 {
-    let mut channel = 0usize;
-    let mut at = 0usize;
-    while channel < channels as usize {
+    let mut at = 0;
+    for channel in 0..channels as usize {
         let x = spread_at(t, q, channel);
         let n = x.readable(0, out.len() - at);
         lay_whole(s, x, n, out, at);
         at += n;
-        channel += 1;
     }
     at
 }
 
 // The bits of the samples there of the first `channels` channels of a frame, those of one channel after those of another, at the front of the buffer: as many
 // as fit or are there.
-pub fn lay_channels(s: &[u8], t: &[u64], q: Sequences, channels: u32, out: &mut [u64]) -> Read
-    ensures result_value { read_says result ≡ map_answer length (swept_of s.now (length out.old) (spreads_from t.now q 0 channels)) }
+pub fn lay_channels(
+    s: &[u8],
+    t: &[u64],
+    q: Sequences,
+    channels: u32,
+    out: &mut [u64],
+) -> Result<usize, Refusal>
+    ensures result_value { answer_of result ≡ map_answer length (swept_of s.now (length out.old) (spreads_from t.now q 0 channels)) }
     ensures out_after { out.new ≡ left_by (swept_of s.now (length out.old) (spreads_from t.now q 0 channels)) out.old }
 {
     if all_lie(s.len(), t, q, channels) {
-        return Read::Samples(lay_all(s, t, q, channels, out));
+        return Ok(lay_all(s, t, q, channels, out));
     }
-    Read::Refused(Refusal {
-        number: Refusal::NO_FRAME,
+    Err(Refusal {
+        fault: Fault::NoFrame,
         place: 0,
     })
 }

@@ -12,7 +12,7 @@ use lib.Dec.{ltb, leb}
 use lib.ListN.{length, drop}
 use Rattle.octets.specs.Pick.{pick}
 use Rattle.octets.proofs.Pick.{both_split}
-use Rattle.heads.specs.Refusals.{no_frame}
+use Rattle.heads.specs.declared.Fault.TheVariants.{NoFrame}
 use Rattle.heads.specs.Answer.{refused_as}
 use Rattle.words.specs.Words.{records_held}
 use Rattle.strides.specs.Channels.{swept_of}
@@ -41,11 +41,11 @@ module _ (u : List ℕ) where
   frame-some e = ltb-true _ _ (both_split (ltb 0 (waveform_in u).channels) _ (both_split (leb head_words (length u)) _ e).1).0
 
 module _ (s u : List ℕ) (room : ℕ) where
-  by_test : {b : Bool} → holds_frame u ≡ b → pick b (swept_of s room (spreads_in u)) (refused_as no_frame 0) ≡ sweep_in s u room
+  by_test : {b : Bool} → holds_frame u ≡ b → pick b (swept_of s room (spreads_in u)) (refused_as NoFrame 0) ≡ sweep_in s u room
   unfolding sweep_in
-  by_test e = ap (λ (b : Bool). pick b (swept_of s room (spreads_in u)) (refused_as no_frame 0)) (sym e)
+  by_test e = ap (λ (b : Bool). pick b (swept_of s room (spreads_in u)) (refused_as NoFrame 0)) (sym e)
 
-  pub sweep_none : holds_frame u ≡ false → refused_as no_frame 0 ≡ sweep_in s u room
+  pub sweep_none : holds_frame u ≡ false → refused_as NoFrame 0 ≡ sweep_in s u room
   sweep_none e = by_test e
 
   pub sweep_held : holds_frame u ≡ true → swept_of s room (spreads_in u) ≡ sweep_in s u room

@@ -1,7 +1,7 @@
 -- All samples there of the frame that a walk stands behind, channel after channel.
 use Rattle.std.specs.Prelude.{Bool, List, ℕ, ltb, leb, drop}
 use Rattle.octets.specs.Pick.{pick, both}
-use Rattle.heads.specs.Refusals.{no_frame}
+use Rattle.heads.specs.declared.Fault.TheVariants.{NoFrame}
 use Rattle.heads.specs.Answer.{Answer, refused_as}
 use Rattle.words.specs.Words.{records_held}
 use Rattle.spread.specs.declared.Spread.{Spread}
@@ -24,4 +24,4 @@ spreads_in u = spreads_from (drop head_words u) (sequences_by (waveform_in u)) 0
 
 -- All its samples there, as many as there is room for: 20 where it told of none, and where the samples of a channel do not lie in the file.
 unfoldable pub sweep_in : List ℕ → List ℕ → ℕ → Answer (List ℕ)
-sweep_in s u room = pick (holds_frame u) (swept_of s room (spreads_in u)) (refused_as no_frame 0)
+sweep_in s u room = pick (holds_frame u) (swept_of s room (spreads_in u)) (refused_as NoFrame 0)

@@ -7,14 +7,12 @@
 #![tactic(auto)]
 
 ghost use Rattle.std.specs.Prelude.{◌≡◌, length};
-ghost use Rattle.heads.specs.Answer.{map_answer, left_by};
-ghost use Rattle.strides.specs.Channels.{read_says};
+ghost use Rattle.heads.specs.Answer.{map_answer, left_by, answer_of};
 ghost use Rattle.sweep.specs.Sweep.{holds_frame, sweep_in};
 
-use heads::Refusal;
+use heads::{Fault, Refusal};
 use kept::Kept;
 use spread::Sequences;
-use strides::Read;
 use words::Records;
 
 // Whether words hold a frame with a record for each of its channels.
@@ -32,8 +30,8 @@ fn holds_frame(w: &[u64]) -> bool
 }
 
 // The bits of all samples there of the frame that the last step told of, channel after channel, at the front of the buffer: as many as fit or are there.
-pub fn sweep(s: &[u8], w: &[u64], out: &mut [u64]) -> Read
-    ensures result_value { read_says result ≡ map_answer length (sweep_in s.now w.now (length out.old)) }
+pub fn sweep(s: &[u8], w: &[u64], out: &mut [u64]) -> Result<usize, Refusal>
+    ensures result_value { answer_of result ≡ map_answer length (sweep_in s.now w.now (length out.old)) }
     ensures out_after { out.new ≡ left_by (sweep_in s.now w.now (length out.old)) out.old }
 {
     if holds_frame(w) {
@@ -48,8 +46,8 @@ pub fn sweep(s: &[u8], w: &[u64], out: &mut [u64]) -> Read
         };
         return strides::lay_channels(s, &w[rest..], q, v.channels, out);
     }
-    Read::Refused(Refusal {
-        number: Refusal::NO_FRAME,
+    Err(Refusal {
+        fault: Fault::NoFrame,
         place: 0,
     })
 }

@@ -4,6 +4,9 @@
 --     refused_takes  an item at which the walk stops
 --     taken_last, Measured, measured-refused, measured-taken    a waveform, by the layout of its channels
 -- Assumes nothing.
+use Rattle.heads.specs.declared.Fault.{Fault}
+use Rattle.effects.specs.declared.Effect.{Effect}
+use Rattle.std.specs.Prelude.{Result, Ok, Err, Some, None}
 use Rattle.std.proofs.Common.{◌≡◌, ℕ, ◌+◌, ◌%◌, ◌^◌, ◌<◌, min, Bool, List, length, get_or, take, set, sym, refl, ap, ◌∙◌, subst, length-take}
 use types.Run.{OneOf}
 use denote.Enum.Declared.{tag_of}
@@ -20,20 +23,16 @@ use Rattle.layout.specs.declared.Layout.{Layout}
 use Rattle.layout.specs.Measure.{layout_of}
 use Rattle.standing.specs.declared.Standing.{Standing}
 use Rattle.standing.specs.Standing.{frames_limit}
-use Rattle.effects.specs.declared.Effect.{Effect}
 use Rattle.effects.specs.Effects.{standing_after}
 use Rattle.effects.specs.contracts.Effect.{the_type}
-use Rattle.framing.specs.declared.Framed.{Framed}
 use Rattle.framing.specs.Framing.{channels_of}
 use Rattle.framing.specs.AnyNumbers.{framed_by}
 use Rattle.words.specs.Words.{records_in, Holding}
 use Rattle.records.specs.Records.{PastKept, Refreshed}
 use Rattle.walk.specs.declared.Waveform.{Waveform}
-use Rattle.walk.specs.declared.Step.{Step}
 use Rattle.walk.specs.declared.Head.{Head}
 use Rattle.walk.specs.Advance.{Stand, stand, stop, stops, goes_on, framed_turn, effect_turn, stand_of, stands_for, channels_at, waveform_by}
 use Rattle.walk.proofs.Turns.{plain_keys, plain_goes, Few, framed_few, below-frame, past_put}
-use Rattle.taking.specs.declared.Went.{Went}
 use Rattle.taking.specs.declared.Taken.{Taken}
 use Rattle.taking.specs.Takes.{turn_by, went_on, stopped_at, stopped_behind, Takes}
 
@@ -42,68 +41,70 @@ past_same u = record { same = λ m h. refl }
 
 -- ---- an item that leads on
 
-module _ {u v : List ℕ} {h : Head} {c : Cursor} {place : ℕ} {e : Effect} {r : Taken} {st : Standing} {d : Dates} (is : r ≡ went_on h c st d) (long : length v ≡ length u) (past : PastKept u v)
+module _ {u v : List ℕ} {h : Head} {c : Cursor} {place : ℕ} {e : Result Effect Fault} {r : Taken} {st : Standing} {d : Dates} (is : r ≡ went_on h c st d) (long : length v ≡ length u) (past : PastKept u v)
     (stands : st ≡ standing_after h.standing e) where
   pub takes_on : effect_turn (stand_of h u) c place e ≡ goes_on (stand_of h u) c e d (records_in v) → Takes u h c place e r v
   takes_on t =
       subst (λ (q : Taken). Takes u h c place e q v) (sym is)
-      (record { same = ap (λ (s : Standing). turn_by Went.On (stand_of (went_on h c s d).head v)) stands ∙ sym t; long = long; past = past; below = tt })
+      (record { same = ap (λ (s : Standing). turn_by (Ok None) (stand_of (went_on h c s d).head v)) stands ∙ sym t; long = long; past = past; below = tt })
 
 -- The words stay as they are.
-module _ {u : List ℕ} {h : Head} {c : Cursor} {place : ℕ} {e : Effect} {r : Taken} {st : Standing} {d : Dates} (is : r ≡ went_on h c st d) (stands : st ≡ standing_after h.standing e) where
-  pub plain_takes : d ≡ h.dates → OneOf plain_keys (tag_of the_type e) → Takes u h c place e r u
-  plain_takes ed k =
-      takes_on is refl (past_same u) stands (plain_goes (stand_of h u) c place e k ∙ ap (λ (x : Dates). goes_on (stand_of h u) c e x (records_in u)) (sym ed))
+module _ {u : List ℕ} {h : Head} {c : Cursor} {place : ℕ} {e : Result Effect Fault} {r : Taken} {st : Standing} {d : Dates} (is : r ≡ went_on h c st d) (stands : st ≡ standing_after h.standing e) where
+  pub plain_takes : {f : Effect} → d ≡ h.dates → e ≡ Ok f → OneOf plain_keys (tag_of the_type f) → Takes u h c place e r u
+  plain_takes {f = f} ed b k =
+      takes_on is refl (past_same u) stands
+      (subst (λ (g : Result Effect Fault). effect_turn (stand_of h u) c place g ≡ goes_on (stand_of h u) c g h.dates (records_in u)) (sym b) (plain_goes (stand_of h u) c place f k)
+      ∙ ap (λ (x : Dates). goes_on (stand_of h u) c e x (records_in u)) (sym ed))
 
-  pub count_takes : {n : ℕ} → e ≡ Effect.Count n → d ≡ all_cleared h.dates → Takes u h c place e r u
+  pub count_takes : {n : ℕ} → e ≡ Ok (Effect.Count n) → d ≡ all_cleared h.dates → Takes u h c place e r u
   unfolding effect_turn
   count_takes {n = n} b ed =
       takes_on is refl (past_same u) stands
-      (subst (λ (f : Effect). effect_turn (stand_of h u) c place f ≡ goes_on (stand_of h u) c f d (records_in u)) (sym b) (ap (λ (x : Dates). goes_on (stand_of h u) c (Effect.Count n) x (records_in u)) (sym ed)))
+      (subst (λ (f : Result Effect Fault). effect_turn (stand_of h u) c place f ≡ goes_on (stand_of h u) c f d (records_in u)) (sym b) (ap (λ (x : Dates). goes_on (stand_of h u) c (Ok (Effect.Count n)) x (records_in u)) (sym ed)))
 
-pub all_takes : {u : List ℕ} {h : Head} {c : Cursor} {place : ℕ} {e : Effect} {r : Taken} {st : Standing} {d : Dates} {ch : Change} → r ≡ went_on h c st d → st ≡ standing_after h.standing (Effect.All ch) → e ≡ Effect.All ch
+pub all_takes : {u : List ℕ} {h : Head} {c : Cursor} {place : ℕ} {e : Result Effect Fault} {r : Taken} {st : Standing} {d : Dates} {ch : Change} → r ≡ went_on h c st d → st ≡ standing_after h.standing (Ok (Effect.All ch)) → e ≡ Ok (Effect.All ch)
     → d ≡ root_defined ch h.dates → Takes u h c place e r u
 unfolding effect_turn
 all_takes {u} {h} {c} {place} {e} {d = d} {ch = ch} is stands b ed =
     takes_on is refl (past_same u) (stands ∙ ap (standing_after h.standing) (sym b))
-    (subst (λ (f : Effect). effect_turn (stand_of h u) c place f ≡ goes_on (stand_of h u) c f d (records_in u)) (sym b) (ap (λ (x : Dates). goes_on (stand_of h u) c (Effect.All ch) x (records_in u)) (sym ed)))
+    (subst (λ (f : Result Effect Fault). effect_turn (stand_of h u) c place f ≡ goes_on (stand_of h u) c f d (records_in u)) (sym b) (ap (λ (x : Dates). goes_on (stand_of h u) c (Ok (Effect.All ch)) x (records_in u)) (sym ed)))
 
 -- One record is stored.
-pub one_takes : {u v : List ℕ} {h : Head} {c : Cursor} {place channel : ℕ} {ch : Change} {e : Effect} {r : Taken} {stood x : Settings} {new : Dated} → r ≡ went_on h c h.standing h.dates → e ≡ Effect.One channel ch
+pub one_takes : {u v : List ℕ} {h : Head} {c : Cursor} {place channel : ℕ} {ch : Change} {e : Result Effect Fault} {r : Taken} {stood x : Settings} {new : Dated} → r ≡ went_on h c h.standing h.dates → e ≡ Ok (Effect.One channel ch)
     → stood ≡ settled_at h.standing.root h.dates (get_or (records_in u) channel zero_dated) → x ≡ applied ch stood → new ≡ noted h.dates.now x → Holding u (set (records_in u) channel new) v → Takes u h c place e r v
 unfolding effect_turn
 one_takes {u} {v} {h} {c} {place} {channel} {ch} is b es ex en o =
     let changed = en ∙ ap (noted h.dates.now) (ex ∙ ap (applied ch) es) in
     let stored = o.records ∙ ap (set (records_in u) channel) changed in
     takes_on is o.long (past_put o) (ap (standing_after h.standing) (sym b))
-    (subst (λ (f : Effect). effect_turn (stand_of h u) c place f ≡ goes_on (stand_of h u) c f h.dates (records_in v)) (sym b) (ap (goes_on (stand_of h u) c (Effect.One channel ch) h.dates) (sym stored)))
+    (subst (λ (f : Result Effect Fault). effect_turn (stand_of h u) c place f ≡ goes_on (stand_of h u) c f h.dates (records_in v)) (sym b) (ap (goes_on (stand_of h u) c (Ok (Effect.One channel ch)) h.dates) (sym stored)))
 
 -- ---- an item at which the walk stops
 
-pub refused_takes : {u : List ℕ} {h : Head} {c : Cursor} {place n : ℕ} {e : Effect} {r : Taken} → r ≡ stopped_at h n place → e ≡ Effect.Refused n → Takes u h c place e r u
+pub refused_takes : {u : List ℕ} {h : Head} {c : Cursor} {place : ℕ} {fault : Fault} {e : Result Effect Fault} {r : Taken} → r ≡ stopped_at h fault place → e ≡ Err fault → Takes u h c place e r u
 unfolding effect_turn
-refused_takes {u} {h} {c} {place} {n} {e} is b =
+refused_takes {u} {h} {c} {place} {e = e} is b =
     subst (λ (q : Taken). Takes u h c place e q u) (sym is)
     (record { same = sym (ap (effect_turn (stand_of h u) c place) b); long = refl; past = past_same u; below = tt })
 
 -- The same item, by the effect that it has.
-pub takes_as : {u v : List ℕ} {h : Head} {c : Cursor} {place : ℕ} {e f : Effect} {r : Taken} → f ≡ e → Takes u h c place e r v → Takes u h c place f r v
-takes_as {u} {v} {h} {c} {place} {r = r} b t = subst (λ (e : Effect). Takes u h c place e r v) (sym b) t
+pub takes_as : {u v : List ℕ} {h : Head} {c : Cursor} {place : ℕ} {e f : Result Effect Fault} {r : Taken} → f ≡ e → Takes u h c place e r v → Takes u h c place f r v
+takes_as {u} {v} {h} {c} {place} {r = r} b t = subst (λ (e : Result Effect Fault). Takes u h c place e r v) (sym b) t
 
 -- ---- a waveform
 
 -- A frame that is taken is not one too many.
-pub taken_last : (frames : ℕ) (st : Standing) (agree : Bool) (octets len : ℕ) {f : Framed} {sequences : ℕ} {after : Standing} → f ≡ framed_by frames st agree octets len → f ≡ Framed.Taken sequences after → frames < frames_limit
+pub taken_last : (frames : ℕ) (st : Standing) (agree : Bool) (octets len : ℕ) {f : Result (ℕ × Standing) Fault} {sequences : ℕ} {after : Standing} → f ≡ framed_by frames st agree octets len → f ≡ Ok (sequences, after) → frames < frames_limit
 taken_last frames st agree octets len e g = subst (Few frames) (sym e ∙ g) (framed_few frames st agree octets len)
 
 -- A waveform: its channels are those of the first n records, l is their layout, their records are brought up to date, and f is what it gives.
-pub record Measured (u v : List ℕ) (h : Head) (len count n : ℕ) (l : Layout) (f : Framed) : Type 0 where
+pub record Measured (u v : List ℕ) (h : Head) (len count n : ℕ) (l : Layout) (f : Result (ℕ × Standing) Fault) : Type 0 where
   pub counts : count ≡ channels_of h.standing.counted
   pub channels : n ≡ min (min count channel_limit) (length (records_in u))
   pub fresh : Refreshed u (min count channel_limit) h.standing.root h.dates l v
   pub gives : f ≡ framed_by h.frames h.standing l.agree l.octets len
 
-module _ {u v : List ℕ} {h : Head} {len count n : ℕ} {l : Layout} {f : Framed} (m : Measured u v h len count n l f) (c : Cursor) (place start : ℕ) where
+module _ {u v : List ℕ} {h : Head} {len count n : ℕ} {l : Layout} {f : Result (ℕ × Standing) Fault} (m : Measured u v h len count n l f) (c : Cursor) (place start : ℕ) where
   abbrev ec : count ≡ channels_of h.standing.counted
   ec = m.counts
 
@@ -126,30 +127,30 @@ module _ {u v : List ℕ} {h : Head} {len count n : ℕ} {l : Layout} {f : Frame
       ∙ ap (min (min (channels_of h.standing.counted) channel_limit)) (sym (table_long h.standing.root h.dates (records_in u)))
       ∙ sym (length-take (min (channels_of h.standing.counted) channel_limit) (stands_for x))
 
-  framed : effect_turn x c place (Effect.Frame start len) ≡ framed_turn x c place start len f
+  framed : effect_turn x c place (Ok (Effect.Frame start len)) ≡ framed_turn x c place start len f
   unfolding effect_turn layout_of
   framed = ap (framed_turn x c place start len) (sym (m.gives ∙ (λ i. framed_by h.frames h.standing (laid i).agree (laid i).octets len)))
 
-  pub measured-refused : {number : ℕ} {r : Taken} → f ≡ Framed.Refused number → r ≡ stopped_at h number place → Takes u h c place (Effect.Frame start len) r v
+  pub measured-refused : {fault : Fault} {r : Taken} → f ≡ Err fault → r ≡ stopped_at h fault place → Takes u h c place (Ok (Effect.Frame start len)) r v
   unfolding framed_turn
-  measured-refused {number = number} g is =
-      subst (λ (q : Taken). Takes u h c place (Effect.Frame start len) q v) (sym is)
+  measured-refused {fault = fault} g is =
+      subst (λ (q : Taken). Takes u h c place (Ok (Effect.Frame start len)) q v) (sym is)
       (record {
-        same = ap (λ (t : List Dated). stops (stop (Step.Refused (refusal number place)) (stand h.cursor h.standing h.dates t h.items h.frames))) up_to_date
+        same = ap (λ (t : List Dated). stops (stop (Err (refusal fault place)) (stand h.cursor h.standing h.dates t h.items h.frames))) up_to_date
             ∙ sym (framed ∙ ap (framed_turn x c place start len) g);
         long = fresh.long;
         past = fresh.past;
         below = tt;
       })
 
-  module _ {sequences : ℕ} {after : Standing} (g : f ≡ Framed.Taken sequences after) where
-    pub measured-taken : {w : Waveform} {r : Taken} → w ≡ waveform_by h.standing n sequences start len l.octets → r ≡ stopped_behind h c after w → Takes u h c place (Effect.Frame start len) r v
+  module _ {sequences : ℕ} {after : Standing} (g : f ≡ Ok (sequences, after)) where
+    pub measured-taken : {w : Waveform} {r : Taken} → w ≡ waveform_by h.standing n sequences start len l.octets → r ≡ stopped_behind h c after w → Takes u h c place (Ok (Effect.Frame start len)) r v
     unfolding framed_turn layout_of
     measured-taken {w = w} ew is =
         let told = ew ∙ (λ i. waveform_by h.standing (counted i) sequences start len (laid i).octets) in
-        subst (λ (q : Taken). Takes u h c place (Effect.Frame start len) q v) (sym is)
+        subst (λ (q : Taken). Takes u h c place (Ok (Effect.Frame start len)) q v) (sym is)
         (record {
-          same = (λ i. stops (stop (Step.Frame (told i)) (stand c after h.dates (up_to_date i) ((h.items + 1) % 2 ^ 64) (h.frames + 1))))
+          same = (λ i. stops (stop (Ok (Some (told i))) (stand c after h.dates (up_to_date i) ((h.items + 1) % 2 ^ 64) (h.frames + 1))))
               ∙ sym (framed ∙ ap (framed_turn x c place start len) g);
           long = fresh.long;
           past = fresh.past;

@@ -13,23 +13,15 @@ ghost use Rattle.taking.specs.Takes.{went_on, stopped_at, stopped_behind, Takes}
 
 use dated::Dates;
 use effects::Effect;
-use framing::Framed;
-use heads::Refusal;
+use heads::{Fault, Refusal};
 use items::Cursor;
 use standing::Standing;
-use walk::{Head, Step, Waveform};
+use walk::{Head, Waveform};
 
-// An item leads on, or the walk stops at it.
-#[derive(Clone, Copy)]
-pub enum Went {
-    On,
-    Stops(Step),
-}
-
-// What became of an item, and where the walk stands then.
+// What became of an item, and where the walk stands then: it led on and there is none, or the walk stops behind its frame or at its refusal.
 #[derive(Clone, Copy)]
 pub struct Taken {
-    pub went: Went,
+    pub went: Result<Option<Waveform>, Refusal>,
     pub head: Head,
 }
 
@@ -38,7 +30,7 @@ fn leads_on(h: Head, cursor: Cursor, standing: Standing, dates: Dates) -> Taken
     ensures { result ≡ went_on h cursor standing dates }
 {
     Taken {
-        went: Went::On,
+        went: Ok(None),
         head: Head {
             cursor,
             standing,
@@ -50,11 +42,11 @@ fn leads_on(h: Head, cursor: Cursor, standing: Standing, dates: Dates) -> Taken
 }
 
 // A refused item decides at its place.
-fn stops_at(h: Head, number: u8, place: usize) -> Taken
-    ensures { result ≡ stopped_at h number place }
+fn stops_at(h: Head, fault: Fault, place: usize) -> Taken
+    ensures { result ≡ stopped_at h fault place }
 {
     Taken {
-        went: Went::Stops(Step::Refused(Refusal { number, place })),
+        went: Err(Refusal { fault, place }),
         head: h,
     }
 }
@@ -66,7 +58,7 @@ fn stops_behind(h: Head, cursor: Cursor, after: Standing, frame: Waveform) -> Ta
 {
     let dates = h.dates;
     Taken {
-        went: Went::Stops(Step::Frame(frame)),
+        went: Ok(Some(frame)),
         head: Head {
             cursor,
             standing: after,
@@ -102,47 +94,55 @@ fn waveform_of(
 
 // A waveform gives a frame, or is refused. Either way the records of its channels are brought up to date.
 fn frames(t: &mut [u64], h: Head, cursor: Cursor, place: usize, start: usize, len: usize) -> Taken
-    ensures { Takes t.old h cursor place (Effect.Frame start len) result t.new }
+    ensures { Takes t.old h cursor place (Ok (Effect.Frame start len)) result t.new }
 {
     let st = h.standing;
     let count = framing::channels_of(st.counted) as usize;
     let n = records::at_most(t, count);
     let l = records::refresh(t, count, st.root, h.dates);
     match framing::frame_of(h.frames, st, l.agree, l.octets, len) {
-        Framed::Refused(number) => stops_at(h, number, place),
-        Framed::Taken(sequences, after) => {
+        Err(fault) => stops_at(h, fault, place),
+        Ok((sequences, after)) => {
             let frame = waveform_of(st, n, sequences, start, len, l.octets);
             stops_behind(h, cursor, after, frame)
         }
     }
 }
 
-// An item with this effect, whose tag stands at `place` and behind which the cursor stands.
-pub fn take(t: &mut [u64], h: Head, cursor: Cursor, place: usize, effect: Effect) -> Taken
+// An item with this effect or fault, whose tag stands at `place` and behind which the cursor stands.
+pub fn take(
+    t: &mut [u64],
+    h: Head,
+    cursor: Cursor,
+    place: usize,
+    effect: Result<Effect, Fault>,
+) -> Taken
     ensures { Takes t.old h cursor place effect result t.new }
 {
     let st = h.standing;
     let dates = h.dates;
     match effect {
-        Effect::Count(_) => {
-            let after = effects::standing_after(st, effect);
-            leads_on(h, cursor, after, dates.cleared())
-        }
-        Effect::All(change) => {
-            let after = effects::standing_after(st, effect);
-            leads_on(h, cursor, after, dates.defined(change))
-        }
-        Effect::One(channel, change) => {
-            let k = channel as usize;
-            let stood = records::settled(t, k, st.root, dates);
-            words::put(t, k, dates.note(settings::apply(stood, change)));
-            leads_on(h, cursor, st, dates)
-        }
-        Effect::Frame { start, len } => frames(t, h, cursor, place, start, len),
-        Effect::Refused(number) => stops_at(h, number, place),
-        _ => {
-            let after = effects::standing_after(st, effect);
-            leads_on(h, cursor, after, dates)
-        }
+        Err(fault) => stops_at(h, fault, place),
+        Ok(asked) => match asked {
+            Effect::Count(_) => {
+                let after = effects::standing_after(st, asked);
+                leads_on(h, cursor, after, dates.cleared())
+            }
+            Effect::All(change) => {
+                let after = effects::standing_after(st, asked);
+                leads_on(h, cursor, after, dates.defined(change))
+            }
+            Effect::One(channel, change) => {
+                let k = channel as usize;
+                let stood = records::settled(t, k, st.root, dates);
+                words::put(t, k, dates.note(settings::apply(stood, change)));
+                leads_on(h, cursor, st, dates)
+            }
+            Effect::Frame { start, len } => frames(t, h, cursor, place, start, len),
+            _ => {
+                let after = effects::standing_after(st, asked);
+                leads_on(h, cursor, after, dates)
+            }
+        },
     }
 }

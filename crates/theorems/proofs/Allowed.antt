@@ -5,6 +5,8 @@
 --     samples_by                 the sample octets
 --     made_exactly               24, 25 and 23, each exactly when
 -- Assumes nothing.
+use Rattle.heads.specs.Faults.{number_of}
+use Rattle.heads.specs.declared.Fault.{Fault}
 use mathlib.Core.Path.{◌≡◌, refl, sym, ap, ◌∙◌}
 use mathlib.Core.Logic.{◌↔◌, ◌⊎◌, inl, inr}
 use mathlib.Core.Bool.{Bool, true, false}
@@ -19,7 +21,7 @@ use lib.ListN.{length}
 use lib.Signed.{le_z}
 use Rattle.octets.specs.Pick.{both, either}
 use Rattle.octets.proofs.Pick.{both_split}
-use Rattle.heads.specs.Refusals.{no_room, setting_range, samples_length}
+use Rattle.heads.specs.declared.Fault.TheVariants.{NoRoom, SettingRange, SamplesLength}
 use Rattle.heads.specs.Answer.{Answer, answered, refused_as}
 use Rattle.settings.specs.Settings.{block_limit, last_data_type, last_interval_unit, last_resolution_unit}
 use Rattle.layout.specs.Frame.{samples_octets}
@@ -182,15 +184,20 @@ passes_or octets room = by (dec_le (length octets) room) (dec_le (order_octets +
 -- What an answer's refusal is numbered; 0 where there is none.
 abbrev number_in : {A : Type 0} → Answer A → ℕ
 number_in (answered a) = 0
-number_in (refused_as number place) = number
+number_in (refused_as fault place) = number_of fault
+
+-- Its fault; another where there is none.
+abbrev fault_in : {A : Type 0} → Fault → Answer A → Fault
+fault_in other (answered a) = other
+fault_in other (refused_as fault place) = fault
 
 abbrev place_in : {A : Type 0} → Answer A → ℕ
 place_in (answered a) = 0
-place_in (refused_as number place) = place
+place_in (refused_as fault place) = place
 
 abbrev octets_in : Answer (List ℕ) → List ℕ → List ℕ
 octets_in (answered x) y = x
-octets_in (refused_as number place) y = y
+octets_in (refused_as fault place) y = y
 
 module _ (m : Making) (room : ℕ) where
   abbrev octets : List ℕ
@@ -204,39 +211,39 @@ module _ (m : Making) (room : ℕ) where
   other p n q = absurd (n (ap number_in (sym p ∙ q)))
 
   -- What is made is not refused.
-  answered-not : {a : Answer (List ℕ)} {x : List ℕ} {number place : ℕ} {Z : Type 0} → a ≡ answered x → a ≡ refused_as number place → Z
+  answered-not : {a : Answer (List ℕ)} {x : List ℕ} {fault : Fault} {place : ℕ} {Z : Type 0} → a ≡ answered x → a ≡ refused_as fault place → Z
   answered-not p q = let z : ◌≡◌ {A = ℕ} 0 1 = cc in let w : ⊥ = omega arith in absurd w
 
-  on-setting : (Allowed m → ⊥) → {a : Answer (List ℕ)} → a ≡ refused_as setting_range 0 → Way a
+  on-setting : (Allowed m → ⊥) → {a : Answer (List ℕ)} → a ≡ refused_as SettingRange 0 → Way a
   on-setting n {a} p =
       record {
         setting = (λ _. n, λ _. p);
         samples = (other p (λ e. omega arith), λ h. absurd (n h.0));
         long = (other p (λ e. omega arith), λ h. absurd (n h.0));
         made = λ o. (other p (λ e. omega arith), λ h. absurd (n h.0));
-        others = λ number place q. (inl (ap number_in (sym q ∙ p)), ap place_in (sym q ∙ p));
+        others = λ fault place q. (inl (ap (fault_in fault) (sym q ∙ p)), ap place_in (sym q ∙ p));
       }
 
   module _ (t : Allowed m) where
-    on-samples : (SamplesExact m → ⊥) → {a : Answer (List ℕ)} → a ≡ refused_as samples_length 0 → Way a
+    on-samples : (SamplesExact m → ⊥) → {a : Answer (List ℕ)} → a ≡ refused_as SamplesLength 0 → Way a
     on-samples n {a} p =
         record {
           setting = (other p (λ e. omega arith), λ h. absurd (h t));
           samples = (λ _. (t, n), λ _. p);
           long = (other p (λ e. omega arith), λ h. absurd (n h.1));
           made = λ o. (other p (λ e. omega arith), λ h. absurd (n h.1));
-          others = λ number place q. (inr (inl (ap number_in (sym q ∙ p))), ap place_in (sym q ∙ p));
+          others = λ fault place q. (inr (inl (ap (fault_in fault) (sym q ∙ p))), ap place_in (sym q ∙ p));
         }
 
     module _ (s : SamplesExact m) where
-      on-long : Passes octets room → {a : Answer (List ℕ)} → a ≡ refused_as no_room 0 → Way a
+      on-long : Passes octets room → {a : Answer (List ℕ)} → a ≡ refused_as NoRoom 0 → Way a
       on-long l {a} p =
           record {
             setting = (other p (λ e. omega arith), λ h. absurd (h t));
             samples = (other p (λ e. omega arith), λ h. absurd (h.1 s));
             long = (λ _. (t, s, l), λ _. p);
             made = λ o. (other p (λ e. omega arith), λ h. absurd (h.2 (rw h.3 l)));
-            others = λ number place q. (inr (inr (ap number_in (sym q ∙ p))), ap place_in (sym q ∙ p));
+            others = λ fault place q. (inr (inr (ap (fault_in fault) (sym q ∙ p))), ap place_in (sym q ∙ p));
           }
 
       on-made : (Passes octets room → ⊥) → {a : Answer (List ℕ)} → a ≡ answered octets → Way a
@@ -246,7 +253,7 @@ module _ (m : Making) (room : ℕ) where
             samples = (other p (λ e. omega arith), λ h. absurd (h.1 s));
             long = (other p (λ e. omega arith), λ h. absurd (l h.2));
             made = λ o. (λ q. let e : o ≡ octets = ap (λ (x : Answer (List ℕ)). octets_in x o) (sym q ∙ p) in (t, s, (rw e l), e), λ h. p ∙ ap answered (sym h.3));
-            others = λ number place q. answered-not p q;
+            others = λ fault place q. answered-not p q;
           }
 
   pub made_exactly : MadeExactly m room (made_in room m)

@@ -8,6 +8,8 @@ use lib.ListN.{length}
 use Rattle.octets.specs.Number.{big_from, little_of, number_of, twos, signed_of}
 use Rattle.values.specs.Sample.{whole_said, width_of, plain_of, is_null, value_of}
 use Rattle.items.specs.declared.Item.{Item}
+use Rattle.heads.specs.declared.Fault.{Fault}
+use Rattle.heads.specs.declared.Fault.TheVariants.{LengthOctet, ChannelNumber, UnendedGroup, SampleWidth, NoSample}
 use Rattle.heads.specs.Answer.{Answer, answered, refused_as}
 use Rattle.heads.specs.Head.{channel_of, length_of, unknown_context, root_only, primitive_form, group_length, group_form, form_of, head_by, head_of}
 use Rattle.items.specs.Walk.{Items, item, finished, fault, item_of, next_in, next_of, follow, walk, items_from, items_of}
@@ -46,7 +48,7 @@ named (fault r) = []
 -- What an item leads to; a refused one changes nothing.
 abbrev pub led_to : State → Outcome → State
 led_to x (goes y) = y
-led_to x (refuses number) = x
+led_to x (refuses why) = x
 
 -- What stands after items that are carried out one after another.
 unfoldable pub stands_after : List ℕ → State → Items → State
@@ -112,9 +114,9 @@ computed cs = map case_of cs
 
 -- ---- the files
 
--- A refused file: the number and the place of the refusal, and the line.
-abbrev refused_at : List ℕ → ℕ → ℕ → String → Case
-refused_at s number place line = record { input = s; checked = refused_as number place; line = ascii line; facts = [] }
+-- A refused file: the fault and the place of the refusal, and the line.
+abbrev refused_at : List ℕ → Fault → ℕ → String → Case
+refused_at s why place line = record { input = s; checked = refused_as why place; line = ascii line; facts = [] }
 
 -- The settings of a channel by its data type and the width of its offset; all else is as by default.
 abbrev settings_by : ℕ → ℕ → Settings
@@ -218,15 +220,15 @@ cases =
       facts =
           attributes 0 0 (typed 1 1 0 2)
           ∷ sample 0 0 0 (whole_at 8 9 (pos 9))
-          ∷ sample 0 0 1 (refused_as 22 0)
+          ∷ sample 0 0 1 (refused_as NoSample 0)
           ∷ [];
     }
     -- P6
-    ∷ refused_at (0x05 ∷ 0x01 ∷ 0x02 ∷ 0x3F ∷ 0x02 ∷ 0x00 ∷ []) 8 3 "refused 8 at 3\n"
+    ∷ refused_at (0x05 ∷ 0x01 ∷ 0x02 ∷ 0x3F ∷ 0x02 ∷ 0x00 ∷ []) ChannelNumber 3 "refused 8 at 3\n"
     -- P7
-    ∷ refused_at (0x0A ∷ 0x80 ∷ []) 2 0 "refused 2 at 0\n"
+    ∷ refused_at (0x0A ∷ 0x80 ∷ []) LengthOctet 0 "refused 2 at 0\n"
     -- P8
-    ∷ refused_at (0x3F ∷ 0x00 ∷ 0x80 ∷ []) 10 0 "refused 10 at 0\n"
+    ∷ refused_at (0x3F ∷ 0x00 ∷ 0x80 ∷ []) UnendedGroup 0 "refused 10 at 0\n"
     -- P9, which request 2 of document 02 makes one frame with 5 and then no data
     ∷ record {
       input = 0x06 ∷ 0x01 ∷ 0x02 ∷ 0x1E ∷ 0x02 ∷ 0x00 ∷ 0x05 ∷ [];
@@ -236,12 +238,12 @@ cases =
           attributes 0 0 (typed 1 2 0 2)
           ∷ sample 0 0 0 (whole_at 5 5 (pos 5))
           ∷ sample 0 0 1 (answered no_data)
-          ∷ sample 0 0 2 (refused_as 22 0)
+          ∷ sample 0 0 2 (refused_as NoSample 0)
           ∷ rewritten 67 canonical9
           ∷ [];
     }
     -- P10
-    ∷ refused_at (0x0D ∷ 0x01 ∷ 0x01 ∷ 0x1E ∷ 0x02 ∷ 0x00 ∷ 0x05 ∷ []) 12 3 "refused 12 at 3\n"
+    ∷ refused_at (0x0D ∷ 0x01 ∷ 0x01 ∷ 0x1E ∷ 0x02 ∷ 0x00 ∷ 0x05 ∷ []) SampleWidth 3 "refused 12 at 3\n"
     -- P11
     ∷ record {
       input = 0x05 ∷ 0x02 ∷ 0x01 ∷ 0x00 ∷ 0x3F ∷ 0x81 ∷ 0x7F ∷ 0x03 ∷ 0x0A ∷ 0x01 ∷ 0x03 ∷ [];

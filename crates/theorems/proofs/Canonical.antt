@@ -8,7 +8,8 @@
 --     written_again      that file, read and written again
 --     same_written       the canonical files in two buffers are equal exactly when the recordings are
 -- Assumes nothing.
-use Prim.Native.Nat.{ℕ, ◌≤◌, ◌<◌}
+use Rattle.heads.proofs.Faults.{number_within}
+use Prim.Native.Nat.{ℕ, ◌≤◌}
 use mathlib.Core.Path.{◌≡◌, refl, sym, ap, ◌∙◌}
 use mathlib.Core.Logic.{◌↔◌}
 use mathlib.Core.List.{List, ◌++◌}
@@ -32,7 +33,6 @@ use Rattle.canonical.proofs.Accepted.{accepted-recorded}
 use Rattle.outputs.specs.Outputs.{Outputs, outputs, handed_out, count_out}
 use Rattle.mfer.specs.Answers.{CanonicalOut}
 use Rattle.theorems.proofs.EntryPoints.{refused-answers}
-use Rattle.theorems.proofs.Exactly.{refused_numbered}
 
 -- The recording that an accepted file holds.
 pub recording-is : (s : List ℕ) (fs : List Frame) → verdict s ≡ accepted fs → recording_of s ≡ recording fs
@@ -118,14 +118,6 @@ written_out s d m h = by (verdict s) refl
 
 -- ---- calls
 
--- A refusal of the writer has a number above 0.
-written_numbered : (s d : List ℕ) (number place : ℕ) → written_of s d ≡ refused_as number place → 0 < number
-written_numbered s d number place h = by (verdict s) refl
-  where
-    by : (v : Verdict) → verdict s ≡ v → 0 < number
-    by (accepted fs) e = omega (arith, (writer_answers s d fs e).late number place h)
-    by (refused r) e = let k = (refused-answers s r e).written d in let n : r.number ≡ number = cc in omega (arith, refused_numbered s r e)
-
 -- A call of mfer_canonical whose result is 0 is as one of write_canonical that answers the length handed out.
 pub wrote_out : {s d left : List ℕ} {place m : ℕ} → CanonicalOut s d (outputs 0 place m) left → Wrote s d (answered m) left
 unfolding handed_out
@@ -133,7 +125,7 @@ wrote_out {s} {d} {left} {place} {m} w = record { octets = w.octets; answers = b
   where
     by : (a : Answer ℕ) → written_of s d ≡ a → outputs 0 place m ≡ count_out a → answered m ≡ a
     by (answered n) q e = ap (λ (o : Outputs ℕ). answered o.values) e
-    by (refused_as number at) q e = let z : ⊥ = omega (arith, written_numbered s d number at q, ap (λ (o : Outputs ℕ). o.refusal) e) in absurd z
+    by (refused_as fault at) q e = let z : ⊥ = omega (arith, (number_within fault).0, ap (λ (o : Outputs ℕ). o.refusal) e) in absurd z
 
 module _ {s d left : List ℕ} {m : ℕ} (w : Wrote s d (answered m) left) where
   pub out_is : WrittenOut s d m

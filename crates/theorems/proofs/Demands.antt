@@ -3,13 +3,15 @@
 --     demand_two      what is told is the recording, what is written is what document 01 lays down, and it reads back as the same recording
 --     demand_three    no two samples share an octet, and canonical files are equal exactly when the recordings are
 -- Assumes nothing.
+use Rattle.heads.specs.Faults.{number_of}
+use Rattle.heads.specs.declared.Fault.{Fault}
 use Prim.Native.Nat.{ℕ, ◌≤◌, ◌<◌}
 use mathlib.Core.Path.{◌≡◌, refl}
 use mathlib.Core.Logic.{◌↔◌, ◌⊎◌}
 use mathlib.Core.List.{List}
 use lib.ListN.{length, take, drop}
 use Rattle.heads.specs.declared.Refusal.{Refusal}
-use Rattle.heads.specs.Refusals.{short_waveform, long_file}
+use Rattle.heads.specs.declared.Fault.TheVariants.{ShortWaveform, LongFile}
 use Rattle.heads.specs.Answer.{answered, refused_as, map_answer}
 use Rattle.items.specs.Walk.{refusal}
 use Rattle.layout.specs.Frame.{Frame}
@@ -46,11 +48,11 @@ use Rattle.theorems.proofs.Told.{RecordingTold, ToldSame, recording_told, told_s
 -- octet of the output buffer."
 pub record DemandOne (s : List ℕ) : Type 0 where
   -- 15 comes first: exactly when the file is too long, and always at place 0. `refusals` says it too; here it stands without the tables.
-  pub limit : (check_of s ≡ refused_as long_file 0) ↔ (octets_limit < length s)
-  pub limit_place : (place : ℕ) → check_of s ≡ refused_as long_file place → place ≡ 0
+  pub limit : (check_of s ≡ refused_as LongFile 0) ↔ (octets_limit < length s)
+  pub limit_place : (place : ℕ) → check_of s ≡ refused_as LongFile place → place ≡ 0
   -- 1 to 15, and where: exactly as the tables of document 01 say (specs/). 15 comes first, then the first refused item in file order decides. 14 is retired.
-  pub refusals : (number place : ℕ) → (check_of s ≡ refused_as number place) ↔ Refusing s (refusal number place)
-  pub numbered : (number place : ℕ) → check_of s ≡ refused_as number place → (0 < number) × (number ≤ long_file) × (number ≡ short_waveform → ⊥)
+  pub refusals : (fault : Fault) (place : ℕ) → (check_of s ≡ refused_as fault place) ↔ Refusing s (refusal fault place)
+  pub numbered : (fault : Fault) (place : ℕ) → check_of s ≡ refused_as fault place → (0 < number_of fault) × (number_of fault ≤ number_of LongFile) × (fault ≡ ShortWaveform → ⊥)
   -- The file is accepted or refused.
   pub ends : ((fs : List Frame) × (verdict s ≡ accepted fs)) ⊎ ((r : Refusal) × (verdict s ≡ refused r))
   -- On a refused file every question, the writer and the length of its canonical file answer its refusal.

@@ -3,6 +3,7 @@
 --     first_append     rows behind others
 --     due_numbered     the number of what is due
 -- Assumes nothing.
+use Rattle.heads.specs.Faults.{number_of}
 use mathlib.Core.Path.{◌≡◌, refl}
 use mathlib.Core.Logic.{◌↔◌}
 use mathlib.Core.List.{List, [], ◌∷◌, ◌++◌}
@@ -15,7 +16,7 @@ use lib.Dec.{leb}
 use Rattle.octets.specs.Pick.{pick, both}
 use Rattle.octets.proofs.Pick.{both_split}
 use Rattle.heads.specs.declared.Refusal.{Refusal}
-use Rattle.heads.specs.Refusals.{start_range}
+use Rattle.heads.specs.declared.Fault.TheVariants.{StartRange}
 use Rattle.items.specs.declared.Within.{Within}
 use Rattle.verdict.specs.Verdict.{State}
 use Rattle.theorems.specs.Attributes.{between}
@@ -59,7 +60,7 @@ first_append (r ∷ rs) bs = by r.holds (first_append rs bs)
 -- Every row has a number from 1 to 13: 14 is retired, and 15 comes before the rows.
 abbrev numbered : List Row → Bool
 numbered [] = true
-numbered (r ∷ rs) = both (between 1 start_range r.gives.number) (numbered rs)
+numbered (r ∷ rs) = both (between 1 (number_of StartRange) (number_of r.gives.fault)) (numbered rs)
 
 rows_numbered : (x : State) (at : ℕ) (w : Within) (u : List ℕ) → numbered (rows_at x at w u) ≡ true
 unfolding rows_at item_rows
@@ -68,12 +69,13 @@ rows_numbered x at (Within.Definite channel end) [] = refl
 rows_numbered x at (Within.Open channel place) [] = refl
 rows_numbered x at w (tag ∷ u) = refl
 
-numbered_due : (rs : List Row) (q : Refusal) → numbered rs ≡ true → Due rs q → (0 < q.number) × (q.number ≤ start_range)
+numbered_due : (rs : List Row) (q : Refusal) → numbered rs ≡ true → Due rs q → (0 < number_of q.fault) × (number_of q.fault ≤ number_of StartRange)
 numbered_due _ _ n (here r rs e) =
-    let k = r.gives.number in
-    let b = both_split (leb 1 k) (leb k start_range) (both_split (between 1 start_range k) (numbered rs) n).0 in
-    (leb-true 1 k b.0, leb-true k start_range b.1)
-numbered_due _ _ n (later r rs q e d) = numbered_due rs q (both_split (between 1 start_range r.gives.number) (numbered rs) n).1 d
+    let k = number_of r.gives.fault in
+    let last = number_of StartRange in
+    let b = both_split (leb 1 k) (leb k last) (both_split (between 1 last k) (numbered rs) n).0 in
+    (leb-true 1 k b.0, leb-true k last b.1)
+numbered_due _ _ n (later r rs q e d) = numbered_due rs q (both_split (between 1 (number_of StartRange) (number_of r.gives.fault)) (numbered rs) n).1 d
 
-pub due_numbered : (x : State) (at : ℕ) (w : Within) (u : List ℕ) (q : Refusal) → Due (rows_at x at w u) q → (0 < q.number) × (q.number ≤ start_range)
+pub due_numbered : (x : State) (at : ℕ) (w : Within) (u : List ℕ) (q : Refusal) → Due (rows_at x at w u) q → (0 < number_of q.fault) × (number_of q.fault ≤ number_of StartRange)
 due_numbered x at w u q = numbered_due (rows_at x at w u) q (rows_numbered x at w u)

@@ -5,6 +5,8 @@
 --     refusal_keeps, plain_keeps, counted-refusal    a refusal changes no octet of a buffer
 --     BuffersKept, buffers_kept         so for each function that has one
 -- Assumes nothing.
+use Rattle.heads.specs.Faults.{number_of}
+use Rattle.heads.specs.declared.Fault.{Fault}
 use Prim.Native.Nat.{ℕ, ◌<◌}
 use mathlib.Core.Path.{◌≡◌, refl, sym, ap, ◌∙◌}
 use mathlib.Core.Logic.{◌↔◌}
@@ -63,16 +65,21 @@ refused-answers s r e =
 
 -- ---- the functions for C
 
--- A refusal is handed out exactly when it is answered: its number as the result, its place, and zeros.
+-- A refusal is handed out exactly when it is answered: the number of its fault as the result, its place, and zeros.
 abbrev pub HandedExactly : {A B : Type 0} → Outputs B → B → Answer A → Type 0
-HandedExactly out zeros a = (number place : ℕ) → 0 < number → (out ≡ outputs number place zeros) ↔ (a ≡ refused_as number place)
+HandedExactly out zeros a = (number place : ℕ) → 0 < number → (out ≡ outputs number place zeros) ↔ ((fault : Fault) × (number_of fault ≡ number) × (a ≡ refused_as fault place))
 
 handed_exactly : {A B : Type 0} (place : A → ℕ) (values : A → B) (zeros : B) (a : Answer A) → HandedExactly (handed_out place values zeros a) zeros a
 unfolding handed_out
 handed_exactly {A} {B} place values zeros (answered x) number at h =
-    (λ e. let z : ⊥ = omega (arith, ap (λ (o : Outputs B). o.refusal) e) in absurd z, λ e. let z : ◌≡◌ {A = ℕ} 0 1 = cc in let y : ⊥ = omega arith in absurd y)
-handed_exactly {A} {B} place values zeros (refused_as m p) number at h =
-    (λ e. λ i. refused_as (e i).refusal (e i).place, λ e. ap (handed_out place values zeros) e)
+    (λ e. let z : ⊥ = omega (arith, ap (λ (o : Outputs B). o.refusal) e) in absurd z, λ q. never q.2)
+  where
+    never : {f : Fault} {k : ℕ} {Z : Type 0} → answered x ≡ refused_as f k → Z
+    never e = let z : ◌≡◌ {A = ℕ} 0 1 = cc in let y : ⊥ = omega arith in absurd y
+handed_exactly {A} {B} place values zeros (refused_as m p) number at h = (
+  λ e. (m, ap (λ (o : Outputs B). o.refusal) e, ap (λ (o : Outputs B). refused_as m o.place) e),
+  λ q. ap (handed_out place values zeros) q.2 ∙ ap (λ (k : ℕ). outputs k at zeros) q.1,
+)
 
 -- The functions for C; mfer_walk_open hands out what mfer_check does. Those of a walk are said of any words, and mfer_make_frame of all that may go in.
 pub record HandedOut (s : List ℕ) : Type 0 where
@@ -115,70 +122,70 @@ handed_out_lem s =
 -- ---- buffers
 
 -- A refusal of the length is a refusal of what is written.
-counted-refusal : {A : Type 0} (x : Answer (List A)) (number place : ℕ) → map_answer length x ≡ refused_as number place → x ≡ refused_as number place
-counted-refusal (answered l) number place e = let z : ◌≡◌ {A = ℕ} 0 1 = cc in let y : ⊥ = omega arith in absurd y
-counted-refusal (refused_as m p) number place e = let a : m ≡ number = cc in let b : p ≡ place = cc in λ i. refused_as (a i) (b i)
+counted-refusal : {A : Type 0} (x : Answer (List A)) (fault : Fault) (place : ℕ) → map_answer length x ≡ refused_as fault place → x ≡ refused_as fault place
+counted-refusal (answered l) fault place e = let z : ◌≡◌ {A = ℕ} 0 1 = cc in let y : ⊥ = omega arith in absurd y
+counted-refusal (refused_as m p) fault place e = let a : m ≡ fault = cc in let b : p ≡ place = cc in λ i. refused_as (a i) (b i)
 
-refusal_keeps : {A B : Type 0} (f : List A → List B) (x : Answer (List A)) (d : List B) (number place : ℕ) → map_answer length x ≡ refused_as number place → left_by (map_answer f x) d ≡ d
+refusal_keeps : {A B : Type 0} (f : List A → List B) (x : Answer (List A)) (d : List B) (fault : Fault) (place : ℕ) → map_answer length x ≡ refused_as fault place → left_by (map_answer f x) d ≡ d
 unfolding left_by
-refusal_keeps {A} f x d number place e = ap (λ (y : Answer (List A)). left_by (map_answer f y) d) (counted-refusal x number place e)
+refusal_keeps {A} f x d fault place e = ap (λ (y : Answer (List A)). left_by (map_answer f y) d) (counted-refusal x fault place e)
 
 -- What is written is not changed by the function that changes nothing.
 map_same : {A : Type 0} (x : Answer (List A)) → map_answer (λ l. l) x ≡ x
 map_same (answered l) = refl
-map_same (refused_as number place) = refl
+map_same (refused_as fault place) = refl
 
-plain_keeps : (x : Answer (List ℕ)) (d : List ℕ) (number place : ℕ) → map_answer length x ≡ refused_as number place → left_by x d ≡ d
-plain_keeps x d number place e = ap (λ (y : Answer (List ℕ)). left_by y d) (sym (map_same x)) ∙ refusal_keeps (λ l. l) x d number place e
+plain_keeps : (x : Answer (List ℕ)) (d : List ℕ) (fault : Fault) (place : ℕ) → map_answer length x ≡ refused_as fault place → left_by x d ≡ d
+plain_keeps x d fault place e = ap (λ (y : Answer (List ℕ)). left_by y d) (sym (map_same x)) ∙ refusal_keeps (λ l. l) x d fault place e
 
 -- A function for C that hands out a number above 0 hands out a refusal.
-handed_refusal : (a : Answer ℕ) → 0 < (count_out a).refusal → (number : ℕ) × (place : ℕ) × (a ≡ refused_as number place)
+handed_refusal : (a : Answer ℕ) → 0 < (count_out a).refusal → (fault : Fault) × (place : ℕ) × (a ≡ refused_as fault place)
 unfolding handed_out
 handed_refusal (answered n) h = let z : ⊥ = omega arith in absurd z
-handed_refusal (refused_as number place) h = (number, place, refl)
+handed_refusal (refused_as fault place) h = (fault, place, refl)
 
 -- A refusal changes no octet of the output buffer: `write_canonical`, `mfer_canonical`, `make_frame`, `mfer_make_frame`, `bulk::samples`, `mfer_samples`, `bulk::values`, `mfer_values`,
 -- `tour::samples`, `mfer_walk_samples`, `mfer_walk_frame`, `tour::values` and `mfer_walk_values`.
 pub record BuffersKept (s d : List ℕ) : Type 0 where
-  pub canonical : (number place : ℕ) (left : List ℕ) → Wrote s d (refused_as number place) left → left ≡ d
+  pub canonical : (fault : Fault) (place : ℕ) (left : List ℕ) → Wrote s d (refused_as fault place) left → left ≡ d
   pub canonical_out : (out : Outputs ℕ) (left : List ℕ) → CanonicalOut s d out left → 0 < out.refusal → left ≡ d
-  pub made : (m : Making) (number place : ℕ) (left : List ℕ) → Made m d (refused_as number place) left → left ≡ d
+  pub made : (m : Making) (fault : Fault) (place : ℕ) (left : List ℕ) → Made m d (refused_as fault place) left → left ≡ d
   pub made_out : (m : Making) (out : Outputs ℕ) (left : List ℕ) → MadeOut m d out left → 0 < out.refusal → left ≡ d
-  pub samples : (i c n number place : ℕ) → count_read s i c n (length d) ≡ refused_as number place → left_by (read_of s i c n (length d)) d ≡ d
+  pub samples : (i c n : ℕ) (fault : Fault) (place : ℕ) → count_read s i c n (length d) ≡ refused_as fault place → left_by (read_of s i c n (length d)) d ≡ d
   pub samples_out : (i c n : ℕ) → 0 < (count_out (count_read s i c n (length d))).refusal → left_by (read_of s i c n (length d)) d ≡ d
-  pub values : (i c n room number place : ℕ) (w : List ℤ) → map_answer length (values_of s i c n room) ≡ refused_as number place → (left_by (kinds_in (values_of s i c n room)) d ≡ d) × (left_by (wholes_in (values_of s i c n room)) w ≡ w)
+  pub values : (i c n room : ℕ) (fault : Fault) (place : ℕ) (w : List ℤ) → map_answer length (values_of s i c n room) ≡ refused_as fault place → (left_by (kinds_in (values_of s i c n room)) d ≡ d) × (left_by (wholes_in (values_of s i c n room)) w ≡ w)
   pub values_out : (i c n room : ℕ) (w : List ℤ) → 0 < (count_out (map_answer length (values_of s i c n room))).refusal → (left_by (kinds_in (values_of s i c n room)) d ≡ d) × (left_by (wholes_in (values_of s i c n room)) w ≡ w)
-  pub walk_samples : (u : List ℕ) (c n number place : ℕ) → map_answer length (walk_read s u c n (length d)) ≡ refused_as number place → left_by (walk_read s u c n (length d)) d ≡ d
-  pub walk_frame : (u : List ℕ) (number place : ℕ) → map_answer length (sweep_in s u (length d)) ≡ refused_as number place → left_by (sweep_in s u (length d)) d ≡ d
-  pub walk_values : (u : List ℕ) (c n room number place : ℕ) (w : List ℤ) → map_answer length (walk_values s u c n room) ≡ refused_as number place → (left_by (kinds_in (walk_values s u c n room)) d ≡ d) × (left_by (wholes_in (walk_values s u c n room)) w ≡ w)
+  pub walk_samples : (u : List ℕ) (c n : ℕ) (fault : Fault) (place : ℕ) → map_answer length (walk_read s u c n (length d)) ≡ refused_as fault place → left_by (walk_read s u c n (length d)) d ≡ d
+  pub walk_frame : (u : List ℕ) (fault : Fault) (place : ℕ) → map_answer length (sweep_in s u (length d)) ≡ refused_as fault place → left_by (sweep_in s u (length d)) d ≡ d
+  pub walk_values : (u : List ℕ) (c n room : ℕ) (fault : Fault) (place : ℕ) (w : List ℤ) → map_answer length (walk_values s u c n room) ≡ refused_as fault place → (left_by (kinds_in (walk_values s u c n room)) d ≡ d) × (left_by (wholes_in (walk_values s u c n room)) w ≡ w)
 
 module _ (s d : List ℕ) where
   -- By the writer's answer.
-  written_kept : (number place : ℕ) (left : List ℕ) → written_of s d ≡ refused_as number place → left ≡ left_of s d → left ≡ d
+  written_kept : (fault : Fault) (place : ℕ) (left : List ℕ) → written_of s d ≡ refused_as fault place → left ≡ left_of s d → left ≡ d
   unfolding written_of left_of
-  written_kept number place left a l = l ∙ plain_keeps (output_in (length d) (verdict s)) d number place a
+  written_kept fault place left a l = l ∙ plain_keeps (output_in (length d) (verdict s)) d fault place a
 
   -- By the maker's answer.
-  made_kept : (m : Making) (number place : ℕ) (left : List ℕ) → map_answer length (made_in (length d) m) ≡ refused_as number place → left ≡ left_by (made_in (length d) m) d → left ≡ d
-  made_kept m number place left a l = l ∙ plain_keeps (made_in (length d) m) d number place a
+  made_kept : (m : Making) (fault : Fault) (place : ℕ) (left : List ℕ) → map_answer length (made_in (length d) m) ≡ refused_as fault place → left ≡ left_by (made_in (length d) m) d → left ≡ d
+  made_kept m fault place left a l = l ∙ plain_keeps (made_in (length d) m) d fault place a
 
   -- Both buffers that values go to.
-  values-kept : (x : Answer (List Said)) (number place : ℕ) (w : List ℤ) → map_answer length x ≡ refused_as number place → (left_by (kinds_in x) d ≡ d) × (left_by (wholes_in x) w ≡ w)
-  values-kept x number place w e = (refusal_keeps (map (λ y. y.kind)) x d number place e, refusal_keeps (map (λ y. y.whole)) x w number place e)
+  values-kept : (x : Answer (List Said)) (fault : Fault) (place : ℕ) (w : List ℤ) → map_answer length x ≡ refused_as fault place → (left_by (kinds_in x) d ≡ d) × (left_by (wholes_in x) w ≡ w)
+  values-kept x fault place w e = (refusal_keeps (map (λ y. y.kind)) x d fault place e, refusal_keeps (map (λ y. y.whole)) x w fault place e)
 
   pub buffers_kept : BuffersKept s d
   unfolding count_read
   buffers_kept =
       record {
-        canonical = λ number place left w. written_kept number place left (sym w.answers) w.leaves;
+        canonical = λ fault place left w. written_kept fault place left (sym w.answers) w.leaves;
         canonical_out = λ out left w h. let r = handed_refusal (written_of s d) (rw w.answers at h) in written_kept r.0 r.1 left r.2 w.leaves;
-        made = λ m number place left w. made_kept m number place left (sym w.answers) w.leaves;
+        made = λ m fault place left w. made_kept m fault place left (sym w.answers) w.leaves;
         made_out = λ m out left w h. let r = handed_refusal (map_answer length (made_in (length d) m)) (rw w.answers at h) in made_kept m r.0 r.1 left r.2 w.leaves;
-        samples = λ i c n number place e. plain_keeps (read_of s i c n (length d)) d number place e;
+        samples = λ i c n fault place e. plain_keeps (read_of s i c n (length d)) d fault place e;
         samples_out = λ i c n h. let r = handed_refusal (count_read s i c n (length d)) h in plain_keeps (read_of s i c n (length d)) d r.0 r.1 r.2;
         values = λ i c n room. values-kept (values_of s i c n room);
         values_out = λ i c n room w h. let r = handed_refusal (map_answer length (values_of s i c n room)) h in values-kept (values_of s i c n room) r.0 r.1 w r.2;
-        walk_samples = λ u c n number place e. plain_keeps (walk_read s u c n (length d)) d number place e;
-        walk_frame = λ u number place e. plain_keeps (sweep_in s u (length d)) d number place e;
+        walk_samples = λ u c n fault place e. plain_keeps (walk_read s u c n (length d)) d fault place e;
+        walk_frame = λ u fault place e. plain_keeps (sweep_in s u (length d)) d fault place e;
         walk_values = λ u c n room. values-kept (walk_values s u c n room);
       }

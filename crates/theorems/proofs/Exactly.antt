@@ -4,11 +4,15 @@
 --     refused_exactly    the verdict, by the rows
 --     refused_numbered   the number of a refusal
 -- Assumes nothing.
+use Rattle.heads.specs.Faults.{number_of}
+use Rattle.heads.specs.declared.Fault.{Fault}
+use Rattle.heads.specs.declared.ItemHead.{ItemHead}
+use Rattle.std.specs.Prelude.{Result, Ok, Err, Option, Some, None}
 use Prim.Native.Nat.{ℕ, ◌+◌, ◌-◌, ◌≤◌, ◌<◌}
 use mathlib.Core.Path.{◌≡◌, refl, sym, ap, ◌∙◌}
 use mathlib.Core.Logic.{◌↔◌}
 use mathlib.Core.List.{List, [], ◌∷◌, ◌++◌, append-nil}
-use mathlib.Core.Option.{Option, none, some}
+use mathlib.Core.Option.{Option as Maybe, none, some}
 use mathlib.Core.Bool.{Bool, true, false}
 use native.Mathlib.Omega.{arith}
 use borrow.Author.Tests.{ltb-true, ltb-false, lt-ltb, le-ltb, eqb-true}
@@ -17,15 +21,12 @@ use lib.ListN.{length, drop, take-append-drop, length-drop}
 use lib.Seq.{drop-drop, drop-append-le, take-append-le}
 use Rattle.octets.specs.Pick.{pick}
 use Rattle.octets.proofs.Pick.{pick_cases, both_split}
-use Rattle.heads.specs.declared.Head.{Head}
 use Rattle.heads.specs.declared.Refusal.{Refusal}
-use Rattle.heads.specs.Refusals.{short_waveform, long_file}
+use Rattle.heads.specs.declared.Fault.TheVariants.{ShortWaveform, LongFile}
 use Rattle.heads.specs.Head.{head_of}
 use Rattle.items.specs.declared.Item.{Item}
 use Rattle.items.specs.declared.Cursor.{Cursor}
 use Rattle.items.specs.declared.Within.{Within}
-use Rattle.items.specs.declared.Next.{Next}
-use Rattle.items.specs.declared.Next.TheVariants.{Found}
 use Rattle.items.specs.Walk.{refusal, item, is_inside, extent, ended, ends_open, item_of, next_in, next_of, items_from}
 use Rattle.items.proofs.Walks.{items_found, items_refused}
 use Rattle.standing.specs.Standing.{octets_limit}
@@ -49,7 +50,7 @@ ahead_front s at (Within.Definite channel end) = (drop (end - at) (drop at s), t
 ahead_front s at (Within.Open channel place) = ([], append-nil (drop at s))
 
 -- The value that a head leads to in the file is the one that the rows read.
-value_same : (s : List ℕ) (at : ℕ) (w : Within) (tag : ℕ) (u : List ℕ) → extent s at w ≡ tag ∷ u → (start len : ℕ) {t : ℕ} {inside : Bool} {found : Option Refusal} → ReadPrimitive found inside tag u t start len → value_at s (at + start) len ≡ value_in u
+value_same : (s : List ℕ) (at : ℕ) (w : Within) (tag : ℕ) (u : List ℕ) → extent s at w ≡ tag ∷ u → (start len : ℕ) {t : ℕ} {inside : Bool} {found : Maybe Refusal} → ReadPrimitive found inside tag u t start len → value_at s (at + start) len ≡ value_in u
 value_same s at w tag u e start len p =
     let f = ahead_front s at w in
     let d = length-drop (length_field u) u in
@@ -60,10 +61,10 @@ value_same s at w tag u e start len p =
 
 module _ (s : List ℕ) (x : State) where
   -- What is refused at a cursor, by what stands there.
-  abbrev refusal_by : Next → Option Refusal
-  refusal_by (Next.Found i d) = stopped (place_at i) (meaning s x i)
-  refusal_by Next.End = none
-  refusal_by (Next.Refused r) = some r
+  abbrev refusal_by : Result (Option (Item × Cursor)) Refusal → Maybe Refusal
+  refusal_by (Ok (Some (i, d))) = stopped (place_at i) (meaning s x i)
+  refusal_by (Ok None) = none
+  refusal_by (Err r) = some r
 
   end_first : (w : Within) → refusal_by (ended w) ≡ first_due (end_rows w)
   end_first Within.Root = refl
@@ -76,7 +77,7 @@ module _ (s : List ℕ) (x : State) where
     rows_split inside = ap first_due (sym (take-append-drop 6 (item_rows x at inside tag u))) ∙ first_append (head_rows x at inside tag u) (body_rows x at inside tag u)
 
     rows_behind : (inside : Bool) → first_due (head_rows x at inside tag u) ≡ none → first_due (item_rows x at inside tag u) ≡ first_due (body_rows x at inside tag u)
-    rows_behind inside n = rows_split inside ∙ ap (λ (o : Option Refusal). otherwise o (first_due (body_rows x at inside tag u))) n
+    rows_behind inside n = rows_split inside ∙ ap (λ (o : Maybe Refusal). otherwise o (first_due (body_rows x at inside tag u))) n
 
     group_found : (inside : Bool) (channel : ℕ) → ReadGroup (first_due (head_rows x at inside tag u)) tag u channel → stopped at (meaning s x (Item.Group at channel)) ≡ first_due (item_rows x at inside tag u)
     unfolding effect_of
@@ -98,18 +99,18 @@ module _ (s : List ℕ) (x : State) where
           let z : tag ≡ 0 = sym p.same_tag ∙ eqb-true t 0 (both_split (eqb t 0) (eqb len 0) m).0 in
           rw (rows_behind inside p.free, i, z) (mark_first s x at u)
 
-    item_first : (w : Within) → extent s at w ≡ tag ∷ u → (h : Head) → HeadRead (first_due (head_rows x at (is_inside w) tag u)) at (is_inside w) tag u h → refusal_by (item_of at w h) ≡ first_due (item_rows x at (is_inside w) tag u)
+    item_first : (w : Within) → extent s at w ≡ tag ∷ u → (h : Result ItemHead Fault) → HeadRead (first_due (head_rows x at (is_inside w) tag u)) at (is_inside w) tag u h → refusal_by (item_of at w h) ≡ first_due (item_rows x at (is_inside w) tag u)
     unfolding item_of place_at
-    item_first w e (Head.Refused n) p = rw (rows_split (is_inside w), p)
-    item_first w e (Head.Definite channel start len) p = group_found (is_inside w) channel p
-    item_first w e (Head.Open channel start) p = group_found (is_inside w) channel p
-    item_first Within.Root e (Head.Primitive t start len) p =
+    item_first w e (Err n) p = rw (rows_split (is_inside w), p)
+    item_first w e (Ok (ItemHead.Definite channel start len)) p = group_found (is_inside w) channel p
+    item_first w e (Ok (ItemHead.Open channel start)) p = group_found (is_inside w) channel p
+    item_first Within.Root e (Ok (ItemHead.Primitive t start len)) p =
         plain_found false t start len p (value_same s at Within.Root tag u e start len p) refl
-    item_first (Within.Definite channel end) e (Head.Primitive t start len) p =
+    item_first (Within.Definite channel end) e (Ok (ItemHead.Primitive t start len)) p =
         member_found true t start len p (value_same s at (Within.Definite channel end) tag u e start len p) refl channel
-    item_first (Within.Open channel place) e (Head.Primitive t start len) p =
+    item_first (Within.Open channel place) e (Ok (ItemHead.Primitive t start len)) p =
         let value = value_same s at (Within.Open channel place) tag u e start len p in
-        pick_cases (λ (n : Next). refusal_by n ≡ first_due (item_rows x at true tag u)) (ends_open t len)
+        pick_cases (λ (n : Result (Option (Item × Cursor)) Refusal). refusal_by n ≡ first_due (item_rows x at true tag u)) (ends_open t len)
         (λ m. mark_found true t start len p value refl m)
         (λ m. member_found true t start len p value refl channel)
 
@@ -134,14 +135,14 @@ module _ (s : List ℕ) where
     reached : Reached s state cursor
     given : refusal_by s state (next_of s cursor) ≡ some r
 
-  stop-refused : (x : State) (c : Cursor) (r : Refusal) (n : Next) → next_of s c ≡ n → refusal_by s x n ≡ some r → interpret s x (items_from s c) ≡ refused r
-  stop-refused x c r (Next.Found i d) e a = ap (interpret s x) (items_found s c i d e) ∙ by (meaning s x i) refl a
+  stop-refused : (x : State) (c : Cursor) (r : Refusal) (n : Result (Option (Item × Cursor)) Refusal) → next_of s c ≡ n → refusal_by s x n ≡ some r → interpret s x (items_from s c) ≡ refused r
+  stop-refused x c r (Ok (Some (i, d))) e a = ap (interpret s x) (items_found s c i d e) ∙ by (meaning s x i) refl a
     where
       by : (o : Outcome) → meaning s x i ≡ o → stopped (place_at i) o ≡ some r → interpret s x (item i (items_from s d)) ≡ refused r
       by (goes y) m f = let z : ◌≡◌ {A = ℕ} 0 1 = cc in let w : ⊥ = omega arith in absurd w
       by (refuses n) m f = let q : refusal n (place_at i) ≡ r = cc in interpret-refuses s x i (items_from s d) n m ∙ ap refused q
-  stop-refused x c r Next.End e a = let z : ◌≡◌ {A = ℕ} 0 1 = cc in let w : ⊥ = omega arith in absurd w
-  stop-refused x c r (Next.Refused q) e a = let f : q ≡ r = cc in ap (interpret s x) (items_refused s c q e) ∙ interpret-fault s x q ∙ ap refused f
+  stop-refused x c r (Ok None) e a = let z : ◌≡◌ {A = ℕ} 0 1 = cc in let w : ⊥ = omega arith in absurd w
+  stop-refused x c r (Err q) e a = let f : q ≡ r = cc in ap (interpret s x) (items_refused s c q e) ∙ interpret-fault s x q ∙ ap refused f
 
   refused-stops : (r : Refusal) → interpret s first_state (items_from s first_cursor) ≡ refused r → Stopped r
   refused-stops r e =
@@ -159,14 +160,14 @@ module _ (s : List ℕ) where
       let d = due_exactly (rows_at x c.at (around c) (ahead s c)) r in
       (λ a. e ∙ d.0 a, λ a. d.1 (sym e ∙ a))
 
-  by_limit : (b : Bool) → ltb octets_limit (length s) ≡ b → verdict s ≡ pick b (refused (refusal long_file 0)) (interpret s first_state (items_from s first_cursor))
+  by_limit : (b : Bool) → ltb octets_limit (length s) ≡ b → verdict s ≡ pick b (refused (refusal LongFile 0)) (interpret s first_state (items_from s first_cursor))
   unfolding verdict
   by_limit b t = rw (t, items_first s)
 
   refused_refusing : (r : Refusal) (b : Bool) → ltb octets_limit (length s) ≡ b → verdict s ≡ refused r → Refusing s r
   refused_refusing r true t e =
       let f = sym (by_limit true t) ∙ e in
-      let q : refusal long_file 0 ≡ r = cc in
+      let q : refusal LongFile 0 ≡ r = cc in
       rw (← q) (over_limit (ltb-true octets_limit (length s) t))
   refused_refusing r false t e =
       let h = ltb-false octets_limit (length s) t in
@@ -183,9 +184,9 @@ module _ (s : List ℕ) where
   refused_exactly r = (refused_refusing r (ltb octets_limit (length s)) refl, refusing_refused r)
 
   -- Its number is one of the table's, 1 to 15, and not 14, which is retired.
-  pub refused_numbered : (r : Refusal) → verdict s ≡ refused r → (0 < r.number) × (r.number ≤ long_file) × (r.number ≡ short_waveform → ⊥)
+  pub refused_numbered : (r : Refusal) → verdict s ≡ refused r → (0 < number_of r.fault) × (number_of r.fault ≤ number_of LongFile) × (r.fault ≡ ShortWaveform → ⊥)
   refused_numbered r e = by r ((refused_exactly r).0 e)
     where
-      by : (q : Refusal) → Refusing s q → (0 < q.number) × (q.number ≤ long_file) × (q.number ≡ short_waveform → ⊥)
-      by _ (over_limit h) = (omega arith, omega arith, λ k. omega arith)
-      by _ (stops x c q h p d) = let n = due_numbered x c.at (around c) (ahead s c) q d in (n.0, omega arith, λ k. omega arith)
+      by : (q : Refusal) → Refusing s q → (0 < number_of q.fault) × (number_of q.fault ≤ number_of LongFile) × (q.fault ≡ ShortWaveform → ⊥)
+      by _ (over_limit h) = (omega arith, omega arith, λ k. omega (arith, ap number_of k))
+      by _ (stops x c q h p d) = let n = due_numbered x c.at (around c) (ahead s c) q d in (n.0, omega arith, λ k. omega (arith, ap number_of k))

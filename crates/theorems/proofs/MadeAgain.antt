@@ -22,7 +22,7 @@ use lib.Signed.{mag}
 use Rattle.octets.specs.Number.{Octets}
 use Rattle.octets.specs.Pick.{pick, either}
 use native.Mathlib.Decide.{dec_lt}
-use Rattle.heads.specs.Refusals.{samples_length}
+use Rattle.heads.specs.declared.Fault.TheVariants.{SamplesLength}
 use Rattle.heads.specs.Answer.{answered, refused_as}
 use Rattle.settings.specs.declared.Scale.{Scale}
 use Rattle.settings.specs.declared.Settings.{Settings}
@@ -265,7 +265,7 @@ module _ (r : Recorded) (good : GoodRecorded r) where
       let e : frame_octets (record_made m) ≡ frame_octets r = ap frame_octets record_again in
       made-answered m room settings-fit ((samples_by m).1 (exactly_there.1 a)) (rw e (room_yes (length (frame_octets r)) room h k)) ∙ ap answered e
 
-  frame-lacking : (AllThere r → ⊥) → (room : ℕ) → made_in room m ≡ refused_as samples_length 0
+  frame-lacking : (AllThere r → ⊥) → (room : ℕ) → made_in room m ≡ refused_as SamplesLength 0
   frame-lacking n room = (made_exactly m room).samples.1 ((allowed_by m).0 settings-fit, λ e. n (exactly_there.0 e))
 
 -- ---- a file

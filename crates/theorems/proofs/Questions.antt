@@ -7,6 +7,8 @@
 --     attributes-answered, channel-answered, there-answered, sample-answered, place-answered, samples-answered, values-answered    so each question
 --     same_place_lem         the questions for a place and for a sample answer the same place
 -- Assumes nothing.
+use Rattle.heads.specs.Faults.{number_of}
+use Rattle.heads.specs.declared.Fault.{Fault}
 use Prim.Native.Nat.{ℕ, ◌-◌, ◌≤◌, ◌<◌, min}
 use mathlib.Core.Path.{◌≡◌, refl, ap, ◌∙◌}
 use mathlib.Core.Logic.{◌↔◌, ◌⊎◌, inl, inr}
@@ -19,7 +21,7 @@ use lib.Dec.{ltb}
 use lib.ListN.{length, get_or}
 use Rattle.octets.specs.Pick.{pick}
 use Rattle.heads.specs.declared.Refusal.{Refusal}
-use Rattle.heads.specs.Refusals.{long_file, no_frame, no_channel, no_sample}
+use Rattle.heads.specs.declared.Fault.TheVariants.{LongFile, NoFrame, NoChannel, NoSample}
 use Rattle.heads.specs.Answer.{Answer, answered, refused_as, map_answer}
 use Rattle.items.specs.Walk.{refusal}
 use Rattle.layout.specs.Frame.{Frame, channel_in, samples_of, place_of}
@@ -51,9 +53,9 @@ record Tested {A : Type 0} (number : A → ℕ) (y x p q r : A) (i j k l m n : �
 -- The answers' numbers tell them apart.
 record Numbered {A : Type 0} (number : A → ℕ) (x p q r : A) : Type 0 where
   there : number x ≡ 0
-  first : number p ≡ no_frame
-  second : number q ≡ no_channel
-  third : number r ≡ no_sample
+  first : number p ≡ number_of NoFrame
+  second : number q ≡ number_of NoChannel
+  third : number r ≡ number_of NoSample
 
 module _ {A : Type 0} (number : A → ℕ) (x p q r : A) (numbered : Numbered number x p q r) (i j k l m n : ℕ) where
   -- The answer, by what the tests say.
@@ -110,23 +112,23 @@ accepted_or_refused s = by (verdict s) refl
     by (refused r) e = inr (r, e)
 
 -- 15 comes first, and the items are looked at only behind it.
-limit_first : (s : List ℕ) → octets_limit < length s → verdict s ≡ refused (refusal long_file 0)
+limit_first : (s : List ℕ) → octets_limit < length s → verdict s ≡ refused (refusal LongFile 0)
 unfolding verdict
 limit_first s h = rw (lt-ltb octets_limit (length s) h)
 
-pub limit_exactly : (s : List ℕ) → (check_of s ≡ refused_as long_file 0) ↔ (octets_limit < length s)
+pub limit_exactly : (s : List ℕ) → (check_of s ≡ refused_as LongFile 0) ↔ (octets_limit < length s)
 limit_exactly s =
-    (λ q. only_limit s (refusal long_file 0) ((check-refused s long_file 0).0 q) refl, λ h. (check-refused s long_file 0).1 (limit_first s h))
+    (λ q. only_limit s (refusal LongFile 0) ((check-refused s LongFile 0).0 q) refl, λ h. (check-refused s LongFile 0).1 (limit_first s h))
 
-pub limit_place_lem : (s : List ℕ) (place : ℕ) → check_of s ≡ refused_as long_file place → place ≡ 0
-limit_place_lem s place q = let a = (limit_exactly s).1 (only_limit s (refusal long_file place) ((check-refused s long_file place).0 q) refl) in cc
+pub limit_place_lem : (s : List ℕ) (place : ℕ) → check_of s ≡ refused_as LongFile place → place ≡ 0
+limit_place_lem s place q = let a = (limit_exactly s).1 (only_limit s (refusal LongFile place) ((check-refused s LongFile place).0 q) refl) in cc
 
 -- ---- a question on an accepted file
 
 -- The number of an answer's refusal, and 0 for any other answer.
 abbrev number_in : {A : Type 0} → Answer A → ℕ
 number_in (answered a) = 0
-number_in (refused_as number place) = number
+number_in (refused_as fault place) = number_of fault
 
 -- Frame i.
 abbrev pub frame_number : List Frame → ℕ → Frame
@@ -134,43 +136,43 @@ frame_number fs i = get_or fs i zero_frame
 
 -- A question that names frame i and channel c answers y: what g says of the frame, or the first of 20 and 21 that holds, at place 0.
 pub record ByChannel {A : Type 0} (y : Answer A) (g : Frame → A) (fs : List Frame) (i c : ℕ) : Type 0 where
-  pub frame : (y ≡ refused_as no_frame 0) ↔ (length fs ≤ i)
-  pub channel : (y ≡ refused_as no_channel 0) ↔ ((i < length fs) × (length (frame_number fs i).channels ≤ c))
+  pub frame : (y ≡ refused_as NoFrame 0) ↔ (length fs ≤ i)
+  pub channel : (y ≡ refused_as NoChannel 0) ↔ ((i < length fs) × (length (frame_number fs i).channels ≤ c))
   pub there : (a : A) → (y ≡ answered a) ↔ ((i < length fs) × (c < length (frame_number fs i).channels) × (g (frame_number fs i) ≡ a))
-  pub late : (number place : ℕ) → y ≡ refused_as number place → (place ≡ 0) × ((number ≡ no_frame) ⊎ (number ≡ no_channel))
+  pub late : (fault : Fault) (place : ℕ) → y ≡ refused_as fault place → (place ≡ 0) × ((fault ≡ NoFrame) ⊎ (fault ≡ NoChannel))
 
 -- Where it names sample n too, 22 comes after them.
 pub record BySample {A : Type 0} (y : Answer A) (g : Frame → A) (fs : List Frame) (i c n : ℕ) : Type 0 where
-  pub frame : (y ≡ refused_as no_frame 0) ↔ (length fs ≤ i)
-  pub channel : (y ≡ refused_as no_channel 0) ↔ ((i < length fs) × (length (frame_number fs i).channels ≤ c))
-  pub sample : (y ≡ refused_as no_sample 0) ↔ ((i < length fs) × (c < length (frame_number fs i).channels) × (samples_of c (frame_number fs i) ≤ n))
+  pub frame : (y ≡ refused_as NoFrame 0) ↔ (length fs ≤ i)
+  pub channel : (y ≡ refused_as NoChannel 0) ↔ ((i < length fs) × (length (frame_number fs i).channels ≤ c))
+  pub sample : (y ≡ refused_as NoSample 0) ↔ ((i < length fs) × (c < length (frame_number fs i).channels) × (samples_of c (frame_number fs i) ≤ n))
   pub there : (a : A) → (y ≡ answered a) ↔ ((i < length fs) × (c < length (frame_number fs i).channels) × (n < samples_of c (frame_number fs i)) × (g (frame_number fs i) ≡ a))
-  pub late : (number place : ℕ) → y ≡ refused_as number place → (place ≡ 0) × ((number ≡ no_frame) ⊎ ((number ≡ no_channel) ⊎ (number ≡ no_sample)))
+  pub late : (fault : Fault) (place : ℕ) → y ≡ refused_as fault place → (place ≡ 0) × ((fault ≡ NoFrame) ⊎ ((fault ≡ NoChannel) ⊎ (fault ≡ NoSample)))
 
 module _ {A : Type 0} (g : Frame → A) (v : Verdict) (fs : List Frame) (e : v ≡ accepted fs) (i c : ℕ) where
   -- The three tests of a question that names sample m, where the channel has n.
   abbrev TestedBy : Answer A → ℕ → ℕ → Type 0
   TestedBy y m n =
-      Tested number_in y (answered (g (frame_number fs i))) (refused_as no_frame 0) (refused_as no_channel 0) (refused_as no_sample 0)
+      Tested number_in y (answered (g (frame_number fs i))) (refused_as NoFrame 0) (refused_as NoChannel 0) (refused_as NoSample 0)
       i (length fs) c (length (frame_number fs i).channels) m n
 
   -- What the answer is one of.
   abbrev OneOfFour : Answer A → Type 0
-  OneOfFour y = (y ≡ answered (g (frame_number fs i))) ⊎ ((y ≡ refused_as no_frame 0) ⊎ ((y ≡ refused_as no_channel 0) ⊎ (y ≡ refused_as no_sample 0)))
+  OneOfFour y = (y ≡ answered (g (frame_number fs i))) ⊎ ((y ≡ refused_as NoFrame 0) ⊎ ((y ≡ refused_as NoChannel 0) ⊎ (y ≡ refused_as NoSample 0)))
 
-  late_by : (y : Answer A) (number place : ℕ) → y ≡ refused_as number place → OneOfFour y → (place ≡ 0) × ((number ≡ no_frame) ⊎ ((number ≡ no_channel) ⊎ (number ≡ no_sample)))
-  late_by y number place q (inl h) = let z : ◌≡◌ {A = ℕ} 0 1 = cc in let w : ⊥ = omega arith in absurd w
-  late_by y number place q (inr (inl h)) = (cc, inl cc)
-  late_by y number place q (inr (inr (inl h))) = (cc, inr (inl cc))
-  late_by y number place q (inr (inr (inr h))) = (cc, inr (inr cc))
+  late_by : (y : Answer A) (fault : Fault) (place : ℕ) → y ≡ refused_as fault place → OneOfFour y → (place ≡ 0) × ((fault ≡ NoFrame) ⊎ ((fault ≡ NoChannel) ⊎ (fault ≡ NoSample)))
+  late_by y fault place q (inl h) = let z : ◌≡◌ {A = ℕ} 0 1 = cc in let w : ⊥ = omega arith in absurd w
+  late_by y fault place q (inr (inl h)) = (cc, inl cc)
+  late_by y fault place q (inr (inr (inl h))) = (cc, inr (inl cc))
+  late_by y fault place q (inr (inr (inr h))) = (cc, inr (inr cc))
 
   channel_tested : TestedBy (asked (λ f. answered (g f)) i c v) 0 1
   channel_tested = rw e (tested number_in _ _ _ _ (omega arith) i (length fs) c (length (frame_number fs i).channels) 0 1)
 
-  channel_late : (number place : ℕ) → asked (λ f. answered (g f)) i c v ≡ refused_as number place → (place ≡ 0) × ((number ≡ no_frame) ⊎ (number ≡ no_channel))
-  channel_late number place q = by (late_by _ number place q channel_tested.one)
+  channel_late : (fault : Fault) (place : ℕ) → asked (λ f. answered (g f)) i c v ≡ refused_as fault place → (place ≡ 0) × ((fault ≡ NoFrame) ⊎ (fault ≡ NoChannel))
+  channel_late fault place q = by (late_by _ fault place q channel_tested.one)
     where
-      by : (place ≡ 0) × ((number ≡ no_frame) ⊎ ((number ≡ no_channel) ⊎ (number ≡ no_sample))) → (place ≡ 0) × ((number ≡ no_frame) ⊎ (number ≡ no_channel))
+      by : (place ≡ 0) × ((fault ≡ NoFrame) ⊎ ((fault ≡ NoChannel) ⊎ (fault ≡ NoSample))) → (place ≡ 0) × ((fault ≡ NoFrame) ⊎ (fault ≡ NoChannel))
       by (z, inl h) = (z, inl h)
       by (z, inr (inl h)) = (z, inr h)
       by (z, inr (inr h)) = let w : ⊥ = omega (arith, channel_tested.third.0 (q ∙ (λ j. refused_as (h j) (z j)))) in absurd w
@@ -198,7 +200,7 @@ module _ {A : Type 0} (g : Frame → A) (v : Verdict) (fs : List Frame) (e : v �
           channel = t.second;
           sample = t.third;
           there = λ a. (λ h. let k = (t.there (answered a) refl).0 h in (k.0, k.1, k.2, cc), λ h. (t.there (answered a) refl).1 (h.0, h.1, h.2, ap answered h.3));
-          late = λ number place q. late_by _ number place q t.one;
+          late = λ fault place q. late_by _ fault place q t.one;
         }
 
 -- ---- the questions
@@ -254,7 +256,7 @@ place_told none = 0
 pub same_place_lem : (s : List ℕ) (i c n : ℕ) → map_answer place_told (placed_of s i c n) ≡ map_answer (λ x. x.place) (sample_of s i c n)
 unfolding placed_of sample_of sample_in
 same_place_lem s i c n =
-    sample-both (λ x y. map_answer place_told x ≡ map_answer (λ (z : FoundSample). z.place) y) (λ number place. refl) i c (place_read c n) (sample_in c n) n (verdict s)
+    sample-both (λ x y. map_answer place_told x ≡ map_answer (λ (z : FoundSample). z.place) y) (λ fault place. refl) i c (place_read c n) (sample_in c n) n (verdict s)
     (λ fs e h k l.
     let f = frame_number fs i in
     let x = channel_in c f.channels in

@@ -3,16 +3,19 @@
 --     request_two     cut_off recordings are worth having
 --     request_three   reading from the serial link
 -- Assumes nothing.
+use Rattle.heads.proofs.Faults.{number_within}
+use Rattle.std.specs.Prelude.{Ok}
+use Rattle.heads.specs.declared.Fault.{Fault}
 use Prim.Native.Nat.{ℕ, ◌-◌, ◌≤◌, ◌<◌}
 use mathlib.Core.Path.{◌≡◌, refl, sym, ap, ◌∙◌}
-use mathlib.Core.Logic.{◌↔◌, ◌⊎◌, inl, inr}
+use mathlib.Core.Logic.{◌↔◌}
 use mathlib.Core.Bool.{Bool}
 use mathlib.Core.List.{List, [], ◌++◌}
 use native.Mathlib.Omega.{arith}
 use lib.ListN.{length, get_or, take, drop}
 use lib.Seq.{take-append_seam, drop-append_seam}
 use Rattle.values.specs.Sample.{null_said, no_data_said}
-use Rattle.heads.specs.Refusals.{short_waveform, no_room, setting_range, samples_length}
+use Rattle.heads.specs.declared.Fault.TheVariants.{ShortWaveform}
 use Rattle.heads.specs.Answer.{Answer, answered, refused_as, map_answer, left_by}
 use Rattle.items.specs.Walk.{refusal}
 use Rattle.layout.specs.Frame.{Frame, offset_of}
@@ -21,7 +24,6 @@ use Rattle.there.specs.There.{end_of, there_in, octets_there, There}
 use Rattle.there.proofs.Places.{there_first}
 use Rattle.standing.specs.declared.Standing.{Standing}
 use Rattle.standing.specs.Standing.{octets_limit, frames_limit, with_continued}
-use Rattle.framing.specs.declared.Framed.TheVariants.{Taken}
 use Rattle.framing.specs.Framing.{sequences_of, pointer_after, framed_as}
 use Rattle.verdict.specs.Verdict.{accepted, refused, verdict, unlimited, check_of}
 use Rattle.verdict.proofs.Steps.{taken_found}
@@ -71,7 +73,7 @@ module _ {m : Making} {d left : List ℕ} {n : ℕ} (w : Made m d (answered n) l
       let f : take n left ≡ x = rw (k, l) (take-append_seam x (drop (length x) d)) in
       let frame : MadeFrame m (take n left) = record { samples = w.octets; room = length d; made = e ∙ ap answered (sym f) } in
       record { frame = frame; is = (made_known frame).is; rest = rw (k, l) (drop-append_seam x (drop (length x) d)) }
-  by_answer (refused_as number place) e q l = let z : ◌≡◌ {A = ℕ} 0 1 = cc in let y : ⊥ = omega arith in absurd y
+  by_answer (refused_as fault place) e q l = let z : ◌≡◌ {A = ℕ} 0 1 = cc in let y : ⊥ = omega arith in absurd y
 
   left-made : LeftMade m d left n
   left-made = by_answer (made_in (length d) m) refl w.answers w.leaves
@@ -83,12 +85,7 @@ made_out {m} {d} {left} {place} {n} w = record { octets = w.octets; answers = by
   where
     by : (a : Answer (List ℕ)) → made_in (length d) m ≡ a → outputs 0 place n ≡ count_out (map_answer length a) → answered n ≡ map_answer length a
     by (answered x) e q = ap (λ (o : Outputs ℕ). answered o.values) q
-    by (refused_as number at) e q = absurd (numbered number ((made_exactly m (length d)).others number at e).0 (ap (λ (o : Outputs ℕ). o.refusal) q))
-      where
-        numbered : (number : ℕ) → (number ≡ setting_range) ⊎ ((number ≡ samples_length) ⊎ (number ≡ no_room)) → 0 ≡ number → ⊥
-        numbered number (inl k) z = omega arith
-        numbered number (inr (inl k)) z = omega arith
-        numbered number (inr (inr k)) z = omega arith
+    by (refused_as fault at) e q = let z : ⊥ = omega (arith, (number_within fault).0, ap (λ (o : Outputs ℕ). o.refusal) q) in absurd z
 
 again : {s d left : List ℕ} {n : ℕ} → Wrote s d (answered n) left → MadeAgain s
 unfolding canonical_of
@@ -164,7 +161,7 @@ cut_off s f l =
 -- given." Demand 3 stands in Demands, P9 in Bench, and what request 1 wants in `request_one`.
 pub record RequestTwo : Type 0 where
   -- "14 is no longer given", by anything that reads a file.
-  pub retired : (s : List ℕ) (place : ℕ) → check_of s ≡ refused_as short_waveform place → ⊥
+  pub retired : (s : List ℕ) (place : ℕ) → check_of s ≡ refused_as ShortWaveform place → ⊥
   -- "A sample whose octets are not all inside its own frame's waveform is not there, whatever items follow: it answers a seventh kind, no data, at place 0".
   pub lacking : (s : List ℕ) (fs : List Frame) → verdict s ≡ accepted fs → (x : Name)
       → (sample_of s x.frame x.channel x.number ≡ answered (found_sample 0 0 no_data_said)) ↔ (Declared fs x × (Whole fs x → ⊥))
@@ -173,14 +170,14 @@ pub record RequestTwo : Type 0 where
       → sample_of s x.frame x.channel x.number ≡ answered y → y.value.kind ≡ no_data_said.kind → y ≡ found_sample 0 0 no_data_said
   pub distinct : no_data_said.kind ≡ null_said.kind → ⊥
   -- "Declared sequences stay": a waveform that is taken has the sequences that stand, and they continue the pointer.
-  pub declared : (frames : ℕ) (st : Standing) (agree : Bool) (octets long n : ℕ) (y : Standing) → framed_as frames st agree octets long ≡ Taken n y
+  pub declared : (frames : ℕ) (st : Standing) (agree : Bool) (octets long n : ℕ) (y : Standing) → framed_as frames st agree octets long ≡ Ok (n, y)
       → (n ≡ sequences_of st.sequences long octets) × (y ≡ with_continued (pointer_after st n) st)
   pub frames : (s : List ℕ) (fs : List Frame) → verdict s ≡ accepted fs → (i : ℕ) → i < length fs → CutOff (frame_number fs i)
 
 pub request_two : RequestTwo
 request_two =
     record {
-      retired = λ s place e. (refused_numbered s (refusal short_waveform place) ((check-refused s short_waveform place).0 e)).2 refl;
+      retired = λ s place e. (refused_numbered s (refusal ShortWaveform place) ((check-refused s ShortWaveform place).0 e)).2 refl;
       lacking = λ s fs e x. sample-lacking s fs e x;
       only = λ s fs e x y q k. no_data_only s fs e x y q k;
       distinct = λ k. omega arith;
@@ -217,7 +214,7 @@ pub record RequestThree : Type 0 where
   pub repeats : (l : Link) (a : Answer ℕ) → l.phase ≡ decided a → (s : List ℕ) → (fed_with l s ≡ l) × (given_by l s ≡ []) × (end_answer l ≡ a)
   -- "Any other at the octet that settles it": a refusal comes while feeding exactly when it is settled, so that every longer file has it, of any length and with 15 left
   -- out; so it comes with the last octet of the shortest front that settles it.
-  pub settled : (l : Link) → Fresh l → (s : List ℕ) (number place : ℕ) → length s ≤ octets_limit → ((fed_with l s).phase ≡ decided (refused_as number place)) ↔ ((t : List ℕ) → unlimited (s ++ t) ≡ refused (refusal number place))
+  pub settled : (l : Link) → Fresh l → (s : List ℕ) (fault : Fault) (place : ℕ) → length s ≤ octets_limit → ((fed_with l s).phase ≡ decided (refused_as fault place)) ↔ ((t : List ℕ) → unlimited (s ++ t) ≡ refused (refusal fault place))
   -- While octets come within the limit, no answer but a refusal is given.
   pub waits : (l : Link) → Fresh l → (s : List ℕ) (n : ℕ) → length s ≤ octets_limit → (fed_with l s).phase ≡ decided (answered n) → ⊥
   -- "15 comes at the octet that passes the limit, if nothing was refused before"; from there on nothing is given out.

@@ -3,15 +3,16 @@
 --     held-there     words that tell of a frame of the file have a record for each of its channels
 --     swept_whole    what is read of the frame
 -- Assumes nothing.
+use Rattle.std.specs.Prelude.{Ok, Some}
 use mathlib.Core.Path.{◌≡◌, refl, sym, ap, ◌∙◌}
 use mathlib.Core.Bool.{Bool, true}
 use mathlib.Core.List.{List, ◌++◌}
-use Prim.Native.Nat.{ℕ, zero, suc, ◌+◌, ◌-◌, ◌≤◌, ◌<◌}
+use Prim.Native.Nat.{ℕ, zero, suc, ◌+◌, ◌≤◌, ◌<◌}
 use native.Mathlib.Omega.{arith}
 use borrow.Author.Tests.{le-leb}
 use lib.ListN.{length, take, drop, get_or, length-take}
 use Rattle.octets.specs.Pick.{pick}
-use Rattle.heads.specs.Refusals.{no_frame}
+use Rattle.heads.specs.declared.Fault.TheVariants.{NoFrame}
 use Rattle.heads.specs.Answer.{answered, refused_as}
 use Rattle.layout.specs.Frame.{Frame}
 use Rattle.there.specs.There.{there_in}
@@ -29,13 +30,11 @@ use Rattle.view.specs.declared.View.{View}
 use Rattle.view.specs.View.{view_of, lies_in, place_seen}
 use Rattle.verdict.specs.Verdict.{accepted, verdict}
 use Rattle.pass.specs.Scan.{zero_frame}
-use Rattle.reader.specs.declared.LookedUp.{LookedUp}
 use Rattle.reader.specs.Answer.{asked, seen_of}
 use Rattle.reader.proofs.Order.{asked_found}
 use Rattle.reader.proofs.Answers.{Located, located, frame_in, there_seen_lem, located_lies, bits_seen_lem}
 use Rattle.canonical.specs.Write.{frames_in}
 use Rattle.walk.specs.declared.Waveform.{Waveform}
-use Rattle.walk.specs.declared.Step.{Step}
 use Rattle.kept.specs.Words.{head_words, waveform_in}
 use Rattle.walking.specs.Steps.{Goes}
 use Rattle.walking.specs.Views.{view_kept, view_in}
@@ -52,7 +51,7 @@ same-frames e = ap frames_in e
 
 -- ---- the channels of a frame of the file
 
-pub held-there : {s : List ℕ} {met : List Frame} {u v : List ℕ} {x : Waveform} → Walked s met u → Goes s u (Step.Frame x) v → holds_frame v ≡ true
+pub held-there : {s : List ℕ} {met : List Frame} {u v : List ℕ} {x : Waveform} → Walked s met u → Goes s u (Ok (Some x)) v → holds_frame v ≡ true
 held-there {v = v} {x = x} p g =
     let n : (waveform_in v).channels ≡ x.channels = ap (λ (y : Waveform). y.channels) (walked_told p g) in
     let long = (walked_counts p g).channels ∙ length-take x.channels (held (records_in (drop head_words v))) in
@@ -70,7 +69,7 @@ module _ (s : List ℕ) (i : ℕ) (w : List ℕ) (there : holds_frame w ≡ true
   some = frame-some w there
 
   found : (c : ℕ) → c < many → Located s i c (view_kept w c)
-  found c h = located s i c (view_kept w c) {r = LookedUp.Channel (view_kept w c)} (view_there w c (frame-room w there) some h ∙ same c) refl
+  found c h = located s i c (view_kept w c) {r = Ok (view_kept w c)} (view_there w c (frame-room w there) some h ∙ same c) refl
 
   first : Located s i 0 (view_kept w 0)
   first = found 0 some
@@ -113,6 +112,6 @@ module _ (s : List ℕ) (i : ℕ) (w : List ℕ) (there : holds_frame w ≡ true
   swept_whole room =
       let x : swept_bits s (spreads_in w) ≡ whole_from frame 0 (length frame.channels) = whole 0 many (omega arith) ∙ ap (whole_from frame 0) channels-there in
       sym (sweep_held s w room there)
-      ∙ ap (λ (b : Bool). pick b (answered (take room (swept_bits s (spreads_in w)))) (refused_as no_frame 0)) (all_lie_lem 0 many (omega arith))
+      ∙ ap (λ (b : Bool). pick b (answered (take room (swept_bits s (spreads_in w)))) (refused_as NoFrame 0)) (all_lie_lem 0 many (omega arith))
       ∙ ap (λ (y : List ℕ). answered (take room y)) x
       ∙ sym (asked_found i 0 first.verdict_is first.frame_in first.channel_is (whole_in room))

@@ -17,7 +17,7 @@ use lib.Seq.{ext_get_or}
 use Rattle.octets.specs.Pick.{pick}
 use Rattle.values.specs.Sample.{no_data_said, value_of}
 use Rattle.values.proofs.Exact.{value-some}
-use Rattle.heads.specs.Refusals.{no_frame, no_channel, no_sample}
+use Rattle.heads.specs.declared.Fault.TheVariants.{NoFrame, NoChannel, NoSample}
 use Rattle.heads.specs.Answer.{Answer, answered, refused_as, map_answer}
 use Rattle.settings.specs.Settings.{zero_settings}
 use Rattle.layout.specs.Frame.{Frame, channel_in, samples_of, place_of, reported}
@@ -61,10 +61,10 @@ module _ (f : Frame) where
 
   -- What is asked of a channel of the frame and of its entry, where the answers agree.
   channel-recorded : {A : Type 0} (c : ℕ) (x : Answer A) (g : Recorded → Answer A) → (c < length f.channels → x ≡ g (recorded_frame f))
-      → pick (ltb c (length f.channels)) x (refused_as no_channel 0) ≡ channel_said g (recorded_frame f) c
+      → pick (ltb c (length f.channels)) x (refused_as NoChannel 0) ≡ channel_said g (recorded_frame f) c
   channel-recorded c x g h =
       under (ltb c (length f.channels)) x (g (recorded_frame f)) _ (λ u. h (ltb-true c _ u))
-      ∙ ap (λ (k : ℕ). pick (ltb c k) (g (recorded_frame f)) (refused_as no_channel 0)) (sym channels-recorded)
+      ∙ ap (λ (k : ℕ). pick (ltb c k) (g (recorded_frame f)) (refused_as NoChannel 0)) (sym channels-recorded)
 
   module _ (c : ℕ) (h : c < length f.channels) where
     -- The attributes and the samples of a channel.
@@ -137,7 +137,7 @@ module _ (s : List ℕ) (fs : List Frame) (e : verdict s ≡ accepted fs) where
   -- What is asked of a channel of the file and of its recording, where the answers agree.
   frame_told : {A : Type 0} (i c : ℕ) (x : Answer A) (g : Recorded → Answer A)
       → (i < length fs → c < length (frame_number fs i).channels → x ≡ g (recorded_frame (frame_number fs i)))
-      → pick (ltb i (length fs)) (pick (ltb c (length (frame_number fs i).channels)) x (refused_as no_channel 0)) (refused_as no_frame 0) ≡ channel_told g (recording_of s) i c
+      → pick (ltb i (length fs)) (pick (ltb c (length (frame_number fs i).channels)) x (refused_as NoChannel 0)) (refused_as NoFrame 0) ≡ channel_told g (recording_of s) i c
   frame_told i c x g h =
       rw as_long (under (ltb i (length fs)) _ _ _ (λ t. rw (entry-is i (ltb-true i (length fs) t)) (channel-recorded (frame_number fs i) c x g (h (ltb-true i (length fs) t)))))
 
@@ -180,7 +180,7 @@ said-there d a n h k = rw (lt-ltb n d (omega arith), lt-ltb n (length a) h)
 no_longer : (d g : ℕ) (a b : List ℕ) → length b ≤ g → ((n : ℕ) → said d a n ≡ said g b n) → length a < length b → ⊥
 no_longer d g a b k same h = by (ltb (length a) d) (sym (rw (le-ltb (length a) (length a) (omega arith)) at (same (length a))) ∙ refl) (said-there g b (length a) h k)
   where
-    by : (t : Bool) → said g b (length a) ≡ pick t (answered none) (refused_as no_sample 0) → said g b (length a) ≡ answered (some (get_or b (length a) 0)) → ⊥
+    by : (t : Bool) → said g b (length a) ≡ pick t (answered none) (refused_as NoSample 0) → said g b (length a) ≡ answered (some (get_or b (length a) 0)) → ⊥
     by true p q = let z : ◌≡◌ {A = ℕ} 0 1 = cc in omega arith
     by false p q = let z : ◌≡◌ {A = ℕ} 0 1 = cc in omega arith
 

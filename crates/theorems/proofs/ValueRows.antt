@@ -4,6 +4,9 @@
 --     lines_take      every entry of the table
 --     plain_first, member_first, group_first, mark_first    every kind of item
 -- Assumes nothing.
+use Rattle.heads.specs.declared.Fault.{Fault}
+use Rattle.effects.specs.declared.Effect.{Effect}
+use Rattle.std.specs.Prelude.{Result, Ok, Err, Some, None}
 use Prim.Native.Nat.{ℕ, zero, suc, ◌-◌, ◌≤◌, ◌<◌, zero-le}
 use mathlib.Core.Path.{◌≡◌, refl, sym, ◌∙◌}
 use mathlib.Core.List.{List, [], ◌∷◌, map}
@@ -19,17 +22,14 @@ use Rattle.octets.specs.Pick.{pick, both, either}
 use Rattle.octets.specs.Number.{number_of, signed_of}
 use Rattle.octets.proofs.Pick.{pick_cases, both_false}
 use Rattle.heads.specs.declared.Refusal.{Refusal}
-use Rattle.heads.specs.Refusals.{unfit_length, unfit_value, compressed, channel_number}
+use Rattle.heads.specs.declared.Fault.TheVariants.{UnfitLength, UnfitValue, Compressed, ChannelNumber}
 use Rattle.heads.specs.Head.{root_only}
 use Rattle.items.specs.Walk.{refusal}
 use Rattle.settings.specs.declared.Settings.{Settings}
 use Rattle.settings.specs.declared.Change.{Change}
 use Rattle.settings.specs.Settings.{channel_limit, default_settings}
 use Rattle.definitions.specs.declared.Attribute.{Attribute}
-use Rattle.definitions.specs.declared.Tagged.{Tagged}
-use Rattle.definitions.specs.declared.Defined.{Defined}
 use Rattle.definitions.specs.Define.{tagged, scale_length, bits_length, length_fits, scale_of, change_of, standing_in, in_range, defined}
-use Rattle.effects.specs.declared.Effect.{Effect}
 use Rattle.effects.specs.Effects.{order_effect, count_effect, sequences_effect, start_effect, compressed_effect, all_effect, one_effect, root_effect, plain_effect, member_effect, group_effect}
 use Rattle.verdict.specs.Verdict.{State, carried}
 use Rattle.verdict.proofs.Every.{Every}
@@ -73,7 +73,7 @@ width_same (suc (suc (suc n))) =
 
 -- 6 or 7 at a place, by two tests; and what an entry gives there.
 abbrev six_or_seven : ℕ → Bool → Bool → Option Refusal
-six_or_seven at unfit bad = pick unfit (some (refusal unfit_length at)) (pick bad (some (refusal unfit_value at)) none)
+six_or_seven at unfit bad = pick unfit (some (refusal UnfitLength at)) (pick bad (some (refusal UnfitValue at)) none)
 
 abbrev line_answer : ℕ → Entry → Bool → List ℕ → Option Refusal
 line_answer at l little v = six_or_seven at (not (l.lengths (length v))) (both (given v) (not (l.values little v)))
@@ -94,14 +94,14 @@ not-not true = refl
 not-not false = refl
 
 module _ (at : ℕ) (l : Entry) (little : Bool) (v : List ℕ) {A : Type 0} (answer : A → Option Refusal)
-    (unfit bad : A) (six : answer unfit ≡ some (refusal unfit_length at)) (seven : answer bad ≡ some (refusal unfit_value at)) where
+    (unfit bad : A) (six : answer unfit ≡ some (refusal UnfitLength at)) (seven : answer bad ≡ some (refusal UnfitValue at)) where
   -- Refused for its length where t holds, back to what stands where it has none, refused for its value where b holds.
   line_choice : (t b : Bool) (e f : A) → answer e ≡ none → answer f ≡ none → l.lengths (length v) ≡ not t → (t ≡ false → l.values little v ≡ not b)
       → answer (pick t unfit (pick (eqb (length v) 0) e (pick b bad f))) ≡ line_answer at l little v
   line_choice true b e f p q n m = rw n six
   line_choice false b e f p q n m = rw (n, m refl) (by (eqb (length v) 0) b)
     where
-      by : (z b : Bool) → answer (pick z e (pick b bad f)) ≡ pick (both (not z) (not (not b))) (some (refusal unfit_value at)) none
+      by : (z b : Bool) → answer (pick z e (pick b bad f)) ≡ pick (both (not z) (not (not b))) (some (refusal UnfitValue at)) none
       by true b = p
       by false true = seven
       by false false = q
@@ -145,7 +145,7 @@ line_law P (l ∷ ls) tag e o =
     (λ t. line_law P ls tag e.1 (λ n. o (apart_more tag l ls t n)))
 
 module _ (s : List ℕ) (x : State) (at : ℕ) (v : List ℕ) where
-  abbrev carried_out : Effect → Option Refusal
+  abbrev carried_out : Result Effect Fault → Option Refusal
   carried_out e = stopped at (carried s x e)
 
   abbrev entry_answer : Entry → Option Refusal
@@ -157,15 +157,15 @@ module _ (s : List ℕ) (x : State) (at : ℕ) (v : List ℕ) where
     member : root_only tag ≡ false → (channel : ℕ) → carried_out (member_effect x.standing channel v (tagged tag)) ≡ entry_answer l
 
   -- An attribute of a channel, as a definition outside a group or inside one carries it.
-  module _ (a : Attribute) (l : Entry) (tag : tagged l.tag ≡ Tagged.Defines a) (lengths : Lengths a l) (values : Values a l) where
-    defined_line : (f : Defined → Effect) → ((n : ℕ) → carried_out (f (Defined.Refused n)) ≡ some (refusal n at)) → ((c : Change) → carried_out (f (Defined.Changed c)) ≡ none) → (base : Settings) → carried_out (f (defined a x.standing.little base v)) ≡ entry_answer l
+  module _ (a : Attribute) (l : Entry) (tag : tagged l.tag ≡ Some a) (lengths : Lengths a l) (values : Values a l) where
+    defined_line : (f : Result Change Fault → (Result Effect Fault)) → ((n : Fault) → carried_out (f (Err n)) ≡ some (refusal n at)) → ((c : Change) → carried_out (f (Ok c)) ≡ none) → (base : Settings) → carried_out (f (defined a x.standing.little base v)) ≡ entry_answer l
     unfolding defined
     defined_line f stops leads base =
         let little = x.standing.little in
         let c = change_of a little v in
-        rw (pick-not (in_range c) (Defined.Changed c) (Defined.Refused unfit_value))
-        (line_choice at l little v (λ d. carried_out (f d)) (Defined.Refused unfit_length) (Defined.Refused unfit_value) (stops unfit_length) (stops unfit_value)
-        (not (length_fits a (length v))) (not (in_range c)) (Defined.Changed (standing_in a base)) (Defined.Changed c) (leads (standing_in a base)) (leads c)
+        rw (pick-not (in_range c) (Ok c) (Err UnfitValue))
+        (line_choice at l little v (λ d. carried_out (f d)) (Err UnfitLength) (Err UnfitValue) (stops UnfitLength) (stops UnfitValue)
+        (not (length_fits a (length v))) (not (in_range c)) (Ok (standing_in a base)) (Ok c) (leads (standing_in a base)) (leads c)
         (lengths (length v) ∙ sym (not-not (length_fits a (length v))))
         (λ t. values little v (not-false (length_fits a (length v)) t) ∙ sym (not-not (in_range c))))
 
@@ -181,15 +181,15 @@ module _ (s : List ℕ) (x : State) (at : ℕ) (v : List ℕ) where
   root_takes : (l : Entry) → root_only l.tag ≡ true → ((start : ℕ) → carried_out (plain_effect x.standing l.tag start v (tagged l.tag)) ≡ entry_answer l) → Takes l.tag l
   root_takes l r e = record { plain = e; member = λ f channel. let z : ◌≡◌ {A = ℕ} 0 1 = cc in let w : ⊥ = omega arith in absurd w }
 
-  root_choice : (l : Entry) (t b : Bool) (e f : Effect) → carried_out e ≡ none → carried_out f ≡ none → l.lengths (length v) ≡ not t → (t ≡ false → l.values x.standing.little v ≡ not b)
-      → carried_out (pick t (Effect.Refused unfit_length) (pick (eqb (length v) 0) e (pick b (Effect.Refused unfit_value) f))) ≡ entry_answer l
+  root_choice : (l : Entry) (t b : Bool) (e f : Result Effect Fault) → carried_out e ≡ none → carried_out f ≡ none → l.lengths (length v) ≡ not t → (t ≡ false → l.values x.standing.little v ≡ not b)
+      → carried_out (pick t (Err UnfitLength) (pick (eqb (length v) 0) e (pick b (Err UnfitValue) f))) ≡ entry_answer l
   unfolding carried
-  root_choice l = line_choice at l x.standing.little v carried_out (Effect.Refused unfit_length) (Effect.Refused unfit_value) refl refl
+  root_choice l = line_choice at l x.standing.little v carried_out (Err UnfitLength) (Err UnfitValue) refl refl
 
   order_line : carried_out (order_effect v) ≡ entry_answer (entry_of 0x01)
   unfolding order_effect entry_in carried
   order_line =
-      root_choice (entry_of 0x01) (ltb 1 (length v)) (ltb 1 (get_or v 0 0)) (Effect.Order false) (Effect.Order (eqb (get_or v 0 0) 1)) refl refl
+      root_choice (entry_of 0x01) (ltb 1 (length v)) (ltb 1 (get_or v 0 0)) (Ok (Effect.Order false)) (Ok (Effect.Order (eqb (get_or v 0 0) 1))) refl refl
       (zero_one (length v) ∙ leb-not (length v) 1) (λ t. leb-not (get_or v 0 0) 1)
 
   abbrev number : ℕ
@@ -204,20 +204,20 @@ module _ (s : List ℕ) (x : State) (at : ℕ) (v : List ℕ) where
   count_line : carried_out (count_effect x.standing.little v) ≡ entry_answer (entry_of 0x05)
   unfolding count_effect entry_in carried
   count_line =
-      rw (pick-either (eqb number 0) (ltb channel_limit number) (Effect.Refused unfit_value) (Effect.Count number))
-      (root_choice (entry_of 0x05) (ltb 4 (length v)) (either (eqb number 0) (ltb channel_limit number)) (Effect.Count 0) (Effect.Count number) refl refl
+      rw (pick-either (eqb number 0) (ltb channel_limit number) (Err UnfitValue) (Ok (Effect.Count number)))
+      (root_choice (entry_of 0x05) (ltb 4 (length v)) (either (eqb number 0) (ltb channel_limit number)) (Ok (Effect.Count 0)) (Ok (Effect.Count number)) refl refl
       up_to_four (λ t. rw (whole t, one_not number, leb-not number channel_limit) (both_nots (eqb number 0) (ltb channel_limit number))))
 
   sequences_line : carried_out (sequences_effect x.standing.little v) ≡ entry_answer (entry_of 0x06)
   unfolding sequences_effect entry_in carried
   sequences_line =
-      root_choice (entry_of 0x06) (ltb 4 (length v)) (eqb number 0) (Effect.Sequences 0) (Effect.Sequences number) refl refl
+      root_choice (entry_of 0x06) (ltb 4 (length v)) (eqb number 0) (Ok (Effect.Sequences 0)) (Ok (Effect.Sequences number)) refl refl
       up_to_four (λ t. rw (whole t, one_not number))
 
   start_line : carried_out (start_effect x.standing.little x.standing.continued v) ≡ entry_answer (entry_of 0x07)
   unfolding start_effect entry_in carried
   start_line =
-      root_choice (entry_of 0x07) (ltb 4 (length v)) false (Effect.Start x.standing.continued) (Effect.Start (signed_of x.standing.little (take 4 v))) refl refl
+      root_choice (entry_of 0x07) (ltb 4 (length v)) false (Ok (Effect.Start x.standing.continued)) (Ok (Effect.Start (signed_of x.standing.little (take 4 v)))) refl refl
       up_to_four (λ t. refl)
 
   lines_take : Every (λ l. Takes l.tag l) attributes
@@ -264,7 +264,7 @@ module _ (s : List ℕ) (x : State) (at : ℕ) (v : List ℕ) where
   other_takes : (tag : ℕ) → Apart tag attributes → eqb tag 0x0E ≡ false → eqb tag 0x1E ≡ false → Takes tag (entry tag (λ n. true) any)
   unfolding tagged plain_effect member_effect root_effect carried
   other_takes tag n c w =
-      let other : tagged tag ≡ Tagged.Other =
+      let other : tagged tag ≡ None =
       simp (n 0x04 refl, n 0x08 refl, n 0x09 refl, n 0x0A refl, n 0x0B refl, n 0x0C refl, n 0x0D refl, n 0x12 refl) in
       let none-due : entry_answer (entry tag (λ n. true) any) ≡ none = rw (both_false (given v)) in
       record {
@@ -290,11 +290,11 @@ module _ (s : List ℕ) (x : State) (at : ℕ) (u : List ℕ) where
   unfolding compressed_effect carried item_rows entry_in
   compressed_first = rw (both_false (given (value_in u))) (by (eqb (length (value_in u)) 0))
     where
-      by : (z : Bool) → stopped at (carried s x (pick z Effect.Pass (Effect.Refused compressed))) ≡ pick (not z) (some (refusal compressed at)) none
+      by : (z : Bool) → stopped at (carried s x (pick z (Ok Effect.Pass) (Err Compressed))) ≡ pick (not z) (some (refusal Compressed at)) none
       by true = refl
       by false = refl
 
-  waveform_first : (start : ℕ) → stopped at (carried s x (Effect.Frame start (length (value_in u)))) ≡ first_due (body_rows x at false 0x1E u)
+  waveform_first : (start : ℕ) → stopped at (carried s x (Ok (Effect.Frame start (length (value_in u))))) ≡ first_due (body_rows x at false 0x1E u)
   unfolding item_rows entry_in
   waveform_first start = rw (both_false (given (value_in u))) (frame_first s x at start u)
 
@@ -304,7 +304,7 @@ module _ (s : List ℕ) (x : State) (at : ℕ) (u : List ℕ) where
       rw (eqb-true tag 0x3F g, leb-not x.standing.counted (channel_named u))
       (simp both_false (by (uncounted x) (ltb (channel_named u) x.standing.counted)))
     where
-      by : (z t : Bool) → stopped at (carried s x (pick z Effect.Pass (pick t Effect.Pass (Effect.Refused channel_number)))) ≡ pick (both (not z) (not t)) (some (refusal channel_number at)) none
+      by : (z t : Bool) → stopped at (carried s x (pick z (Ok Effect.Pass) (pick t (Ok Effect.Pass) (Err ChannelNumber)))) ≡ pick (both (not z) (not t)) (some (refusal ChannelNumber at)) none
       by true t = refl
       by false true = refl
       by false false = refl
@@ -325,7 +325,7 @@ module _ (s : List ℕ) (x : State) (at : ℕ) (u : List ℕ) where
   unbarred : (tag t : ℕ) → root_only tag ≡ false → root_only t ≡ true → eqb tag t ≡ false
   unbarred tag t f h = ne_eqb tag t (λ e. let r : root_only tag ≡ true = rw e h in let z : ◌≡◌ {A = ℕ} 0 1 = cc in omega arith)
 
-  pub member_first : (channel tag : ℕ) → is_group tag ≡ false → root_only tag ≡ false → stopped at (carried s x (pick (uncounted x) Effect.Pass (member_effect x.standing channel (value_in u) (tagged tag)))) ≡ first_due (body_rows x at true tag u)
+  pub member_first : (channel tag : ℕ) → is_group tag ≡ false → root_only tag ≡ false → stopped at (carried s x (pick (uncounted x) (Ok Effect.Pass) (member_effect x.standing channel (value_in u) (tagged tag)))) ≡ first_due (body_rows x at true tag u)
   unfolding item_rows root_only carried
   member_first channel tag g f =
       let c = unbarred tag 0x0E f refl in
@@ -333,6 +333,6 @@ module _ (s : List ℕ) (x : State) (at : ℕ) (u : List ℕ) where
       rw (c, g, w)
       (by (uncounted x) (member_effect x.standing channel (value_in u) (tagged tag)) _ _ ((tag_takes s x at (value_in u) tag c w).member f channel))
     where
-      by : (z : Bool) (e : Effect) (a b : Bool) → stopped at (carried s x e) ≡ six_or_seven at a b → stopped at (carried s x (pick z Effect.Pass e)) ≡ six_or_seven at (both (not z) a) (both (not z) b)
+      by : (z : Bool) (e : Result Effect Fault) (a b : Bool) → stopped at (carried s x e) ≡ six_or_seven at a b → stopped at (carried s x (pick z (Ok Effect.Pass) e)) ≡ six_or_seven at (both (not z) a) (both (not z) b)
       by true e a b h = refl
       by false e a b h = h

@@ -1,6 +1,8 @@
 -- A walk through the functions for C tells what the questions answer.
 --     WalkTold, walk_told    on an accepted file: frame after frame, as many as there are, and then refusal 20
 -- Assumes nothing.
+use Rattle.std.specs.Prelude.{Result, Ok, Err, Option, Some, None}
+use Rattle.walk.specs.declared.Waveform.{Waveform}
 use mathlib.Core.Path.{◌≡◌, refl, sym, ap, ◌∙◌}
 use mathlib.Core.Bool.{true}
 use mathlib.Core.Logic.{◌↔◌}
@@ -9,19 +11,18 @@ use Prim.Native.Nat.{ℕ, zero, suc, ◌≤◌, ◌<◌}
 use native.Mathlib.Omega.{arith}
 use lib.ListN.{length, get_or, length-append}
 use Rattle.heads.specs.declared.Refusal.{Refusal}
-use Rattle.heads.specs.Refusals.{no_frame}
+use Rattle.heads.specs.Faults.{number_of}
+use Rattle.heads.specs.declared.Fault.TheVariants.{NoFrame}
 use Rattle.heads.specs.Answer.{Answer, answered, refused_as, map_answer, then_answer}
 use Rattle.layout.specs.Frame.{Frame}
 use Rattle.view.specs.declared.View.{View}
 use Rattle.view.specs.View.{there_seen}
 use Rattle.verdict.specs.Verdict.{accepted, verdict, checked_as, check_of}
 use Rattle.pass.specs.Scan.{zero_frame}
-use Rattle.reader.specs.declared.LookedUp.{LookedUp}
 use Rattle.reader.specs.Answer.{attributes_seen, asked_sample, seen_of}
 use Rattle.reader.proofs.Answers.{Located, located, described_is, unseen}
 use Rattle.bulk.specs.Samples.{read_seen, read_of, values_seen, values_of}
 use Rattle.bulk.proofs.Reading.{there-is, read_located, values_located}
-use Rattle.walk.specs.declared.Step.{Step}
 use Rattle.walk.specs.Says.{step_says}
 use Rattle.walk.specs.Joined.{frame_by}
 use Rattle.walk.proofs.Joins.{reaches_grown}
@@ -45,17 +46,17 @@ pub record WalkTold (s : List ℕ) (fs : List Frame) : Type 0 where
   pub told : {i : ℕ} {w : List ℕ} → Walks s (suc i) w → Tells s i w
   pub goes : {n : ℕ} {u v : List ℕ} {out : Outputs FrameOut} → Walks s n u → WalkNext s u out v → (out.refusal ≡ 0) ↔ (n < length fs)
   pub shows : {n : ℕ} {u v : List ℕ} {out : Outputs FrameOut} → Walks s n u → WalkNext s u out v → out.refusal ≡ 0 → out ≡ outputs 0 0 (frame_shown (get_or fs n zero_frame))
-  pub ends : {u v : List ℕ} {out : Outputs FrameOut} → Walks s (length fs) u → WalkNext s u out v → out ≡ outputs no_frame 0 no_frame_values
+  pub ends : {u v : List ℕ} {out : Outputs FrameOut} → Walks s (length fs) u → WalkNext s u out v → out ≡ outputs (number_of NoFrame) 0 no_frame_values
 
 -- ---- what is asked of a channel that is seen
 
 -- What is asked of a channel is answered as the question by frame and channel is, where that is so of every channel that is found.
 module _ (s : List ℕ) (i c n : ℕ) {A : Type 0} (g : View → Answer A) (h : Frame → A) (same : (v : View) → Located s i c v → g v ≡ asked_sample h i c n (verdict s)) where
   seen_asked : (a : Answer View) → a ≡ seen_of s i c → then_answer a g ≡ asked_sample h i c n (verdict s)
-  seen_asked (answered v) e = same v (located s i c v {r = LookedUp.Channel v} e refl)
-  seen_asked (refused_as number place) e =
-      let x : Refusal = record { number = number; place = place } in
-      unseen h s i c n x {r = LookedUp.Refused x} e refl
+  seen_asked (answered v) e = same v (located s i c v {r = Ok v} e refl)
+  seen_asked (refused_as fault place) e =
+      let x : Refusal = record { fault = fault; place = place } in
+      unseen h s i c n x {r = Err x} e refl
 
 tells : (s : List ℕ) (i : ℕ) (w : List ℕ) → holds_frame w ≡ true → ((c : ℕ) → view_in w c ≡ seen_of s i c) → Tells s i w
 unfolding read_of values_of
@@ -96,17 +97,17 @@ module _ (s : List ℕ) (fs : List Frame) (is : verdict s ≡ accepted fs) where
     few = omega (arith, m.long, ap length grown.1 ∙ length-append m.met grown.0)
 
     -- A call of mfer_walk_next, by the step that it takes.
-    by_step : {v : List ℕ} (k : Step) → Goes s u k v → (frame_out (step_says k)).refusal ≡ 0 → Met (suc n) v
+    by_step : {v : List ℕ} (k : Result (Option Waveform) Refusal) → Goes s u k v → (frame_out (step_says k)).refusal ≡ 0 → Met (suc n) v
     unfolding handed_out
-    by_step {v} (Step.Frame x) g e =
+    by_step {v} (Ok (Some x)) g e =
         record {
           met = m.met ++ (frame_by s x (stand_in v) ∷ []);
           long = length-append m.met (frame_by s x (stand_in v) ∷ []) ∙ omega (arith, m.long);
           walked = walked_frame m.walked g;
           last = tells s n v (held-there m.walked g) (λ c. walked_seen m.walked g c ∙ ap (λ (i : ℕ). seen_of s i c) m.long);
         }
-    by_step Step.Ended g e = let z : ⊥ = omega arith in absurd z
-    by_step (Step.Refused r) g e = absurd (walked_never m.walked g)
+    by_step (Ok None) g e = let z : ⊥ = omega arith in absurd z
+    by_step (Err r) g e = absurd (walked_never m.walked g)
 
   meets : {n : ℕ} {w : List ℕ} → Walks s n w → Met n w
   meets (opened l a) = record { met = []; long = refl; walked = walked_open l (record { answers = sym counted; words = a }); last = tt }
@@ -115,34 +116,34 @@ module _ (s : List ℕ) (fs : List Frame) (is : verdict s ≡ accepted fs) where
 
   module _ {n : ℕ} {u v : List ℕ} (m : Met n u) where
     -- The walk ends behind the last frame.
-    ended : Goes s u Step.Ended v → length fs ≡ n
+    ended : Goes s u (Ok None) v → length fs ≡ n
     ended g =
         let e : accepted fs ≡ accepted m.met = sym is ∙ walked_ended m.walked g in
         ap length (same-frames e) ∙ m.long
 
-    goes_on : n < length fs → (k : Step) → Goes s u k v → (frame_out (step_says k)).refusal ≡ 0
+    goes_on : n < length fs → (k : Result (Option Waveform) Refusal) → Goes s u k v → (frame_out (step_says k)).refusal ≡ 0
     unfolding handed_out
-    goes_on h (Step.Frame x) g = refl
-    goes_on h Step.Ended g = let z : ⊥ = omega (arith, ended g) in absurd z
-    goes_on h (Step.Refused r) g = absurd (walked_never m.walked g)
+    goes_on h (Ok (Some x)) g = refl
+    goes_on h (Ok None) g = let z : ⊥ = omega (arith, ended g) in absurd z
+    goes_on h (Err r) g = absurd (walked_never m.walked g)
 
     -- The numbers that are handed out are the frame's.
-    shows : (k : Step) → Goes s u k v → (frame_out (step_says k)).refusal ≡ 0 → frame_out (step_says k) ≡ outputs 0 0 (frame_shown (get_or fs n zero_frame))
+    shows : (k : Result (Option Waveform) Refusal) → Goes s u k v → (frame_out (step_says k)).refusal ≡ 0 → frame_out (step_says k) ≡ outputs 0 0 (frame_shown (get_or fs n zero_frame))
     unfolding handed_out frame_numbers_of
-    shows (Step.Frame x) g e =
+    shows (Ok (Some x)) g e =
         let k = walked_counts m.walked g in
         let same : m.walked.all ≡ fs = same-frames (sym m.walked.is ∙ is) in
         let is-frame = sym (walked_is m.walked g) ∙ (λ j. get_or (same j) (m.long j) zero_frame) in
         (λ j. outputs 0 0 (frame_values x.start (k.channels j ∷ x.sequences ∷ flag_number x.little ∷ x.place ∷ k.long j ∷ k.octets j ∷ [])))
         ∙ ap (λ (f : Frame). outputs 0 0 (frame_shown f)) is-frame
-    shows Step.Ended g e = let z : ⊥ = omega arith in absurd z
-    shows (Step.Refused r) g e = absurd (walked_never m.walked g)
+    shows (Ok None) g e = let z : ⊥ = omega arith in absurd z
+    shows (Err r) g e = absurd (walked_never m.walked g)
 
-    stops : length fs ≡ n → (k : Step) → Goes s u k v → frame_out (step_says k) ≡ outputs no_frame 0 no_frame_values
+    stops : length fs ≡ n → (k : Result (Option Waveform) Refusal) → Goes s u k v → frame_out (step_says k) ≡ outputs (number_of NoFrame) 0 no_frame_values
     unfolding handed_out
-    stops h (Step.Frame x) g = let z : ⊥ = omega (arith, few (by_step m (Step.Frame x) g refl)) in absurd z
-    stops h Step.Ended g = refl
-    stops h (Step.Refused r) g = absurd (walked_never m.walked g)
+    stops h (Ok (Some x)) g = let z : ⊥ = omega (arith, few (by_step m (Ok (Some x)) g refl)) in absurd z
+    stops h (Ok None) g = refl
+    stops h (Err r) g = absurd (walked_never m.walked g)
 
   -- Opening a walk and asking for the next frame again and again, a caller is handed the frames of the file in order, each as the questions tell it, and
   -- then refusal 20.

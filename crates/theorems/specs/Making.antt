@@ -1,8 +1,9 @@
 -- Frames that are made (document 02, request 1): which settings are in the table of attributes, when a frame is refused, a file of made frames, and what
 -- a recording hands back to the maker.
 use Rattle.std.specs.Prelude.{◌≡◌, ◌↔◌, ◌⊎◌, false, List, [], ◌∷◌, ◌++◌, map, ℕ, ◌+◌, ◌*◌, ◌^◌, ◌≤◌, ◌<◌, ℤ, pos, negsuc, length, get_or, take, drop, ◌≤ℤ◌}
+use Rattle.heads.specs.declared.Fault.{Fault}
 use Rattle.octets.specs.Number.{Octets, number_of}
-use Rattle.heads.specs.Refusals.{no_room, setting_range, samples_length}
+use Rattle.heads.specs.declared.Fault.TheVariants.{NoRoom, SettingRange, SamplesLength}
 use Rattle.heads.specs.Answer.{Answer, answered, refused_as}
 use Rattle.settings.specs.declared.Scale.{Scale}
 use Rattle.settings.specs.declared.Settings.{Settings}
@@ -65,11 +66,11 @@ Passes octets room = (room < length octets) ⊎ (octets_limit < order_octets + l
 -- "24 a setting outside 01's table or bits wider than the sample, 25 sample octets not exactly sequences times G, then 23 where the frame passes the buffer, or
 -- with 01 01 00 before it 15's limit." Each is given exactly when its condition holds and none ahead of it does, at place 0; else the frame is made.
 pub record MadeExactly (m : Making) (room : ℕ) (a : Answer (List ℕ)) : Type 0 where
-  pub setting : (a ≡ refused_as setting_range 0) ↔ (Allowed m → ⊥)
-  pub samples : (a ≡ refused_as samples_length 0) ↔ (Allowed m × (SamplesExact m → ⊥))
-  pub long : (a ≡ refused_as no_room 0) ↔ (Allowed m × SamplesExact m × Passes (frame_octets (record_made m)) room)
+  pub setting : (a ≡ refused_as SettingRange 0) ↔ (Allowed m → ⊥)
+  pub samples : (a ≡ refused_as SamplesLength 0) ↔ (Allowed m × (SamplesExact m → ⊥))
+  pub long : (a ≡ refused_as NoRoom 0) ↔ (Allowed m × SamplesExact m × Passes (frame_octets (record_made m)) room)
   pub made : (octets : List ℕ) → (a ≡ answered octets) ↔ (Allowed m × SamplesExact m × (Passes octets room → ⊥) × (octets ≡ frame_octets (record_made m)))
-  pub others : (number place : ℕ) → a ≡ refused_as number place → ((number ≡ setting_range) ⊎ ((number ≡ samples_length) ⊎ (number ≡ no_room))) × (place ≡ 0)
+  pub others : (fault : Fault) (place : ℕ) → a ≡ refused_as fault place → ((fault ≡ SettingRange) ⊎ ((fault ≡ SamplesLength) ⊎ (fault ≡ NoRoom))) × (place ≡ 0)
 
 -- ---- a file of made frames
 
@@ -165,4 +166,4 @@ pub record MadeAgain (s : List ℕ) : Type 0 where
   pub frames : (i : ℕ) → i < length (recording_of s) → AllThere (frame_recorded (recording_of s) i) → (room : ℕ) → length (frame_octets (frame_recorded (recording_of s) i)) ≤ room
       → made_in room (making_of (frame_recorded (recording_of s) i)) ≡ answered (frame_octets (frame_recorded (recording_of s) i))
   pub lacking : (i : ℕ) → i < length (recording_of s) → (AllThere (frame_recorded (recording_of s) i) → ⊥) → (room : ℕ)
-      → made_in room (making_of (frame_recorded (recording_of s) i)) ≡ refused_as samples_length 0
+      → made_in room (making_of (frame_recorded (recording_of s) i)) ≡ refused_as SamplesLength 0

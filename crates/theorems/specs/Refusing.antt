@@ -1,7 +1,7 @@
 -- When a file is refused, and with what (document 01, "What comes back when it is no").
 use Rattle.std.specs.Prelude.{List, ℕ, ◌≤◌, ◌<◌, length}
 use Rattle.heads.specs.declared.Refusal.{Refusal}
-use Rattle.heads.specs.Refusals.{long_file}
+use Rattle.heads.specs.declared.Fault.TheVariants.{LongFile}
 use Rattle.items.specs.declared.Cursor.{Cursor}
 use Rattle.items.specs.declared.Within.{Within}
 use Rattle.items.specs.Walk.{refusal, stands_in, extent}
@@ -23,5 +23,5 @@ DueAt s x c r = Due (rows_at x c.at (around c) (ahead s c)) r
 
 -- 15 comes first. Then the first refused item in file order decides: all items ahead of it were taken.
 pub data Refusing (s : List ℕ) : Refusal → Type 0 where
-  over_limit : octets_limit < length s → Refusing s (refusal long_file 0)
+  over_limit : octets_limit < length s → Refusing s (refusal LongFile 0)
   stops : (x : State) (c : Cursor) (r : Refusal) → length s ≤ octets_limit → Reached s x c → DueAt s x c r → Refusing s r

@@ -3,7 +3,8 @@ use Rattle.std.specs.Prelude.{◌≡◌, List, [], ◌∷◌, Bool, true, false,
 use Rattle.octets.specs.Pick.{pick, both, either}
 use Rattle.octets.specs.Number.{big_from}
 use Rattle.heads.specs.declared.Refusal.{Refusal}
-use Rattle.heads.specs.Refusals.{context_tag, length_octet, past_end, long_channel, barred_tag, unfit_length, unfit_value, channel_number, compressed, unended_group, many_frames, sample_width, start_range}
+use Rattle.heads.specs.declared.Fault.{Fault}
+use Rattle.heads.specs.declared.Fault.TheVariants.{ContextTag, LengthOctet, PastEnd, LongChannel, BarredTag, UnfitLength, UnfitValue, ChannelNumber, Compressed, UnendedGroup, ManyFrames, SampleWidth, StartRange}
 use Rattle.items.specs.declared.Within.{Within}
 use Rattle.items.specs.Walk.{refusal, is_inside}
 use Rattle.layout.specs.Frame.{all_agree}
@@ -17,8 +18,8 @@ pub record Row : Type 0 where
   pub gives : Refusal
   pub holds : Bool
 
-abbrev pub row : ℕ → ℕ → Bool → Row
-row number place holds = record { gives = refusal number place; holds = holds }
+abbrev pub row : Fault → ℕ → Bool → Row
+row fault place holds = record { gives = refusal fault place; holds = holds }
 
 -- A refusal is due: the condition of its row holds, and that of no row ahead of it does.
 pub data Due : List Row → Refusal → Type 0 where
@@ -110,26 +111,26 @@ item_rows x at inside tag u =
     let v = value_in w in
     let heeded = not (both inside (uncounted x)) in
     let frame = eqb tag 0x1E in
-    row context_tag at (is_unknown tag)
-    ∷ row barred_tag at (both inside (is_barred tag))
-    ∷ row long_channel at (both group (long_number u))
-    ∷ row past_end at (both group (number_past u))
-    ∷ row length_octet at (no_length group w)
-    ∷ row past_end at (value_past w)
-    ∷ row compressed at (both (eqb tag 0x0E) (given v))
-    ∷ row channel_number at (both group (both (not (uncounted x)) (leb x.standing.counted (channel_named u))))
-    ∷ row unfit_length at (both heeded (not ((entry_of tag).lengths (length v))))
-    ∷ row unfit_value at (both heeded (both (given v) (not ((entry_of tag).values x.standing.little v))))
-    ∷ row many_frames at (both frame (leb frames_limit (length x.frames)))
-    ∷ row sample_width at (both frame (not (all_agree (frame_channels x))))
-    ∷ row start_range at (both frame (not (pointer_fits x.standing.start)))
+    row ContextTag at (is_unknown tag)
+    ∷ row BarredTag at (both inside (is_barred tag))
+    ∷ row LongChannel at (both group (long_number u))
+    ∷ row PastEnd at (both group (number_past u))
+    ∷ row LengthOctet at (no_length group w)
+    ∷ row PastEnd at (value_past w)
+    ∷ row Compressed at (both (eqb tag 0x0E) (given v))
+    ∷ row ChannelNumber at (both group (both (not (uncounted x)) (leb x.standing.counted (channel_named u))))
+    ∷ row UnfitLength at (both heeded (not ((entry_of tag).lengths (length v))))
+    ∷ row UnfitValue at (both heeded (both (given v) (not ((entry_of tag).values x.standing.little v))))
+    ∷ row ManyFrames at (both frame (leb frames_limit (length x.frames)))
+    ∷ row SampleWidth at (both frame (not (all_agree (frame_channels x))))
+    ∷ row StartRange at (both frame (not (pointer_fits x.standing.start)))
     ∷ []
 
 -- 10: open group: file ends between two of its items. The place is the group's.
 abbrev pub end_rows : Within → List Row
 end_rows Within.Root = []
 end_rows (Within.Definite channel end) = []
-end_rows (Within.Open channel place) = row unended_group place true ∷ []
+end_rows (Within.Open channel place) = row UnendedGroup place true ∷ []
 
 -- The rows at a place, where the octets up to the end of the file or of the definite group around it are given.
 unfoldable pub rows_at : State → ℕ → Within → List ℕ → List Row

@@ -3,7 +3,7 @@ use Rattle.std.specs.Prelude.{List, [], ℕ, ◌*◌, ltb, eqb, pos, length, get
 use Rattle.std.proofs.Math.Option.{Option, none, some}
 use Rattle.octets.specs.Pick.{pick}
 use Rattle.values.specs.Sample.{no_data_said}
-use Rattle.heads.specs.Refusals.{no_frame, no_channel, no_sample}
+use Rattle.heads.specs.declared.Fault.TheVariants.{NoFrame, NoChannel, NoSample}
 use Rattle.heads.specs.Answer.{Answer, answered, refused_as}
 use Rattle.layout.specs.Frame.{channel_in}
 use Rattle.reader.specs.declared.Attributes.{Attributes}
@@ -35,15 +35,15 @@ bits_said a n = pick (ltb n (length a)) (some (get_or a n 0)) none
 
 -- The same where so many are declared: 22 past them.
 abbrev pub said : ℕ → List ℕ → ℕ → Answer (Option ℕ)
-said declared a n = pick (ltb n declared) (answered (bits_said a n)) (refused_as no_sample 0)
+said declared a n = pick (ltb n declared) (answered (bits_said a n)) (refused_as NoSample 0)
 
 -- What is asked of channel c of an entry: 21, or its answer.
 abbrev pub channel_said : {A : Type 0} → (Recorded → Answer A) → Recorded → ℕ → Answer A
-channel_said g r c = pick (ltb c (length r.channels)) (g r) (refused_as no_channel 0)
+channel_said g r c = pick (ltb c (length r.channels)) (g r) (refused_as NoChannel 0)
 
 -- What is asked of channel c of frame i: 20, 21, or the answer of the entry.
 abbrev pub channel_told : {A : Type 0} → (Recorded → Answer A) → List Recorded → ℕ → ℕ → Answer A
-channel_told g rs i c = pick (ltb i (length rs)) (channel_said g (frame_recorded rs i) c) (refused_as no_frame 0)
+channel_told g rs i c = pick (ltb i (length rs)) (channel_said g (frame_recorded rs i) c) (refused_as NoFrame 0)
 
 -- The answer to the question for attributes.
 unfoldable pub attributes_told : List Recorded → ℕ → ℕ → Answer Attributes

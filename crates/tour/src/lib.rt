@@ -8,36 +8,34 @@
 #![tactic(auto)]
 
 ghost use Rattle.std.specs.Prelude.{◌≡◌, min, length};
-ghost use Rattle.heads.specs.Answer.{map_answer, left_by};
-ghost use Rattle.strides.specs.Channels.{read_says};
+ghost use Rattle.heads.specs.Answer.{map_answer, left_by, answer_of};
 ghost use Rattle.bulk.specs.Samples.{kinds_in, wholes_in};
 ghost use Rattle.tour.specs.Tour.{walk_there, walk_read, walk_values};
 
-use reader::LookedUp;
-use strides::Read;
+use heads::Refusal;
 
 // How many samples of a channel of the frame that the last step told of are there.
-pub fn there(w: &[u64], channel: u32) -> Read
-    ensures { read_says result ≡ walk_there w.now channel }
+pub fn there(w: &[u64], channel: u32) -> Result<usize, Refusal>
+    ensures { answer_of result ≡ walk_there w.now channel }
 {
-    match walking::view_at(w, channel) {
-        LookedUp::Refused(x) => Read::Refused(x),
-        LookedUp::Channel(v) => {
-            let x = v.spread();
-            Read::Samples(x.there() as usize)
-        }
-    }
+    let v = walking::view_at(w, channel)?;
+    let x = v.spread();
+    Ok(x.there() as usize)
 }
 
 // The bits of the samples of a channel of that frame, from number `first` on, at the front of the buffer: as many as fit or are there.
-pub fn samples(s: &[u8], w: &[u64], channel: u32, first: u64, out: &mut [u64]) -> Read
-    ensures result_value { read_says result ≡ map_answer length (walk_read s.now w.now channel first (length out.old)) }
+pub fn samples(
+    s: &[u8],
+    w: &[u64],
+    channel: u32,
+    first: u64,
+    out: &mut [u64],
+) -> Result<usize, Refusal>
+    ensures result_value { answer_of result ≡ map_answer length (walk_read s.now w.now channel first (length out.old)) }
     ensures out_after { out.new ≡ left_by (walk_read s.now w.now channel first (length out.old)) out.old }
 {
-    match walking::view_at(w, channel) {
-        LookedUp::Refused(x) => Read::Refused(x),
-        LookedUp::Channel(v) => bulk::seen(s, v, first, out),
-    }
+    let v = walking::view_at(w, channel)?;
+    bulk::seen(s, v, first, out)
 }
 
 // Their values: kinds and whole numbers at the fronts of the buffers, as many as fit in both or are there.
@@ -48,13 +46,11 @@ pub fn values(
     first: u64,
     kinds: &mut [u8],
     wholes: &mut [i64],
-) -> Read
-    ensures result_value { read_says result ≡ map_answer length (walk_values s.now w.now channel first (min (length kinds.old) (length wholes.old))) }
+) -> Result<usize, Refusal>
+    ensures result_value { answer_of result ≡ map_answer length (walk_values s.now w.now channel first (min (length kinds.old) (length wholes.old))) }
     ensures kinds_after { kinds.new ≡ left_by (kinds_in (walk_values s.now w.now channel first (min (length kinds.old) (length wholes.old)))) kinds.old }
     ensures wholes_after { wholes.new ≡ left_by (wholes_in (walk_values s.now w.now channel first (min (length kinds.old) (length wholes.old)))) wholes.old }
 {
-    match walking::view_at(w, channel) {
-        LookedUp::Refused(x) => Read::Refused(x),
-        LookedUp::Channel(v) => bulk::values_seen(s, v, first, kinds, wholes),
-    }
+    let v = walking::view_at(w, channel)?;
+    bulk::values_seen(s, v, first, kinds, wholes)
 }

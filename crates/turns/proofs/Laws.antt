@@ -5,6 +5,7 @@
 --     feed_first, feed_more, feed_last              one turn after another
 --     lent_more, lent_last, lent_inside, lent_room, lent_long, lent_less    the same by what is lent
 -- Assumes nothing.
+use Rattle.std.specs.Prelude.{Result}
 use mathlib.Core.Path.{◌≡◌, refl, sym, ap, subst, ◌∙◌}
 use mathlib.Core.List.{List, [], ◌∷◌, ◌++◌, append-nil, append_assoc}
 use mathlib.Core.Bool.{Bool, true, false}
@@ -18,7 +19,6 @@ use lib.ListN.{length, get_or, take, drop, set, length-append, length-take, leng
 use lib.Seq.{sets, sets-eq, length-sets, take-take, drop-cons, drop-drop, take-append_seam, drop-append_seam}
 use Rattle.octets.specs.Pick.{pick, both, either}
 use Rattle.heads.specs.declared.Refusal.{Refusal}
-use Rattle.verdict.specs.declared.Checked.{Checked}
 use Rattle.values.specs.Sample.{width_of}
 use Rattle.standing.specs.Standing.{octets_limit}
 use Rattle.layout.specs.Frame.{width_in}
@@ -183,7 +183,7 @@ module _ (x : Link) (p t : List ℕ) (b : ℕ) where
     unfolding gives_in
     gives-waits left r e = gives_in_lem h e
 
-    pub gives-decided : (a : Checked) → x.core.stage ≡ Stage.Decided a → gives here b ≡ []
+    pub gives-decided : (a : Result ℕ Refusal) → x.core.stage ≡ Stage.Decided a → gives here b ≡ []
     unfolding gives_in
     gives-decided a e = gives_in_lem h e
 

@@ -1,5 +1,5 @@
 -- What is told of a sample's bits is the kind and the whole number of its value.
---     meaning_other   the meaning of the data types that have none of their own
+--     shape_other     the shape of the data types that have none of their own
 --     told_null, told_number    null comes first
 --     told_is         what is told of a sample's bits
 -- Assumes nothing.
@@ -21,29 +21,23 @@ use Rattle.octets.proofs.Pick.{both_false}
 use Rattle.octets.specs.Number.{range, twos}
 use Rattle.values.specs.declared.Bits.{Bits}
 use Rattle.values.specs.declared.Meaning.{Meaning}
+use Rattle.values.specs.declared.Shape.{Shape}
 use Rattle.values.specs.Sample.{Said, width_of, single_said, double_said, not_number_said, single_of, double_of, plain_of, is_null, value_of, null_said}
-use Rattle.values.specs.Told.{telling, told_as, meaning_of, unsigned_meaning, whole_told, signless, number_told, told_of}
+use Rattle.values.specs.Told.{telling, told_as, unsigned, shape_of, meaning_of, whole_told, signless, number_told, told_of}
 use Rattle.values.proofs.Laws.{type_cases, width_other, plain_other}
 
--- A data type that has no meaning of its own is unsigned; so is a number that is no data type.
-meaning_past : (k : ℕ) (null : Bits) → 9 ≤ k → unsigned_meaning null ≡ meaning_of k null
-unfolding meaning_of
-meaning_past k null h = rw get_or-eq_default
+-- A data type that has no shape of its own is unsigned; so is a number that is no data type.
+shape_past : (k : ℕ) → 9 ≤ k → unsigned ≡ shape_of k
+unfolding shape_of
+shape_past k h = rw get_or-eq_default
 
-pub meaning_other : (null : Bits) (k : ℕ) → (k ≡ 0 → ⊥) → (k ≡ 2 → ⊥) → (k ≡ 4 → ⊥) → (k ≡ 5 → ⊥) → (k ≡ 7 → ⊥) → (k ≡ 8 → ⊥) → unsigned_meaning null ≡ meaning_of k null
-unfolding meaning_of
-meaning_other null =
-    type_cases (λ (k : ℕ). (k ≡ 0 → ⊥) → (k ≡ 2 → ⊥) → (k ≡ 4 → ⊥) → (k ≡ 5 → ⊥) → (k ≡ 7 → ⊥) → (k ≡ 8 → ⊥) → unsigned_meaning null ≡ meaning_of k null)
+pub shape_other : (k : ℕ) → (k ≡ 0 → ⊥) → (k ≡ 2 → ⊥) → (k ≡ 4 → ⊥) → (k ≡ 5 → ⊥) → (k ≡ 7 → ⊥) → (k ≡ 8 → ⊥) → unsigned ≡ shape_of k
+unfolding shape_of
+shape_other =
+    type_cases (λ (k : ℕ). (k ≡ 0 → ⊥) → (k ≡ 2 → ⊥) → (k ≡ 4 → ⊥) → (k ≡ 5 → ⊥) → (k ≡ 7 → ⊥) → (k ≡ 8 → ⊥) → unsigned ≡ shape_of k)
     (λ a b c d e f. absurd (a refl)) (λ a b c d e f. refl) (λ a b c d e f. absurd (b refl)) (λ a b c d e f. refl) (λ a b c d e f. absurd (c refl))
     (λ a b c d e f. absurd (d refl)) (λ a b c d e f. refl) (λ a b c d e f. absurd (e refl)) (λ a b c d e f. absurd (f refl))
-    (λ k h a b c d e f. meaning_past k null h)
-
--- Null is the sample's.
-meaning_null : (null : Bits) (k : ℕ) → (meaning_of k null).null ≡ null
-unfolding meaning_of
-meaning_null null =
-    type_cases (λ (k : ℕ). (meaning_of k null).null ≡ null) refl refl refl refl refl refl refl refl refl
-    (λ k h. ap (λ (m : Meaning). m.null) (sym (meaning_past k null h)))
+    (λ k h a b c d e f. shape_past k h)
 
 -- ---- whole numbers
 
@@ -89,7 +83,7 @@ module _ (m : Meaning) (b : ℕ) where
   unfolding told_of is_null
   told_null h q = simp (ne_eqb _ _ h, eq-eqb _ _ q)
 
-  pub told_number : (m.null.width ≡ 0) ⊎ (m.null.bits ≡ b → ⊥) → number_told m b ≡ told_of m b
+  pub told_number : (m.null.width ≡ 0) ⊎ (m.null.bits ≡ b → ⊥) → number_told m.shape b ≡ told_of m b
   unfolding told_of is_null
   told_number (inl h) = simp (eq-eqb _ _ h)
   told_number (inr h) = simp (ne_eqb _ _ h, both_false)
@@ -107,20 +101,20 @@ unfolding signless
 status_told b h = let k : b ≤ 0xFFFF = omega arith in simp (lt-ltb _ _ h, le-ltb _ _ k)
 
 -- The bits of no octets are 0.
-number_past : (null : Bits) (b k : ℕ) → 9 ≤ k → b < range (width_of k) → number_told (meaning_of k null) b ≡ told_as (plain_of k b)
+number_past : (b k : ℕ) → 9 ≤ k → b < range (width_of k) → number_told (shape_of k) b ≡ told_as (plain_of k b)
 unfolding number_told
-number_past null b k p h =
+number_past b k p h =
     let l : b < 1 = rw (← width_other k p) at h in
     let z : b ≡ 0 = omega arith in
-    ap (λ (m : Meaning). number_told m b) (sym (meaning_past k null p))
+    ap (λ (x : Shape). number_told x b) (sym (shape_past k p))
     ∙ ap (telling 0) (told_unsigned 0xFFFF_FFFF 0xFFFF_FFFF b (omega arith) ∙ ap pos z)
     ∙ ap told_as (plain_other k b p)
 
 -- By data type, null aside.
-number_is : (null : Bits) (b k : ℕ) → b < range (width_of k) → number_told (meaning_of k null) b ≡ told_as (plain_of k b)
-unfolding number_told meaning_of plain_of width_of single_of double_of
-number_is null b =
-    type_cases (λ (k : ℕ). b < range (width_of k) → number_told (meaning_of k null) b ≡ told_as (plain_of k b))
+number_is : (b k : ℕ) → b < range (width_of k) → number_told (shape_of k) b ≡ told_as (plain_of k b)
+unfolding number_told shape_of plain_of width_of single_of double_of
+number_is b =
+    type_cases (λ (k : ℕ). b < range (width_of k) → number_told (shape_of k) b ≡ told_as (plain_of k b))
     (λ h. ap (telling 0) (told_signed 2 0x7FFF 0xFFFF b refl refl h))
     (λ h. ap (telling 0) (told_unsigned 0xFFFF_FFFF 0xFFFF_FFFF b (omega arith)))
     (λ h. ap (telling 0) (told_signed 4 0x7FFF_FFFF 0xFFFF_FFFF b refl refl h))
@@ -130,12 +124,12 @@ number_is null b =
     (λ h. ap (telling 0) (told_unsigned 0xFFFF_FFFF 0xFFFF_FFFF b (omega arith)))
     (λ h. ap (λ (t : Bool). pick t (telling 4 (pos 0)) (telling 2 (pos 0))) (float_told binary32 b h) ∙ told_float (nan_bits binary32 b) single_said b)
     (λ h. ap (λ (t : Bool). pick t (telling 4 (pos 0)) (telling 3 (pos 0))) (float_told binary64 b h) ∙ told_float (nan_bits binary64 b) double_said b)
-    (λ k p h. number_past null b k p h)
+    (λ k p h. number_past b k p h)
 
 -- What is told of a sample's bits is the kind and the whole number of its value.
 pub told_is : (k : ℕ) (null : Bits) (b : ℕ) → b < range (width_of k) → told_of (meaning_of k null) b ≡ told_as (value_of k null b)
 unfolding told_of value_of
-told_is k null b h = (λ i. pick (is_null (meaning_null null k i) b) (telling 5 (pos 0)) (number_is null b k h i)) ∙ either (is_null null b) (plain_of k b)
+told_is k null b h = ap (pick (is_null null b) (telling 5 (pos 0))) (number_is b k h) ∙ either (is_null null b) (plain_of k b)
   where
     either : (t : Bool) (x : Said) → pick t (telling 5 (pos 0)) (told_as x) ≡ told_as (pick t null_said x)
     either true x = refl

@@ -9,7 +9,7 @@
 ghost use Rattle.std.specs.Prelude.{◌≡◌, ◌<◌, ◌≤◌, pos};
 ghost use Rattle.octets.specs.Number.{range, twos};
 ghost use Rattle.values.specs.Sample.{width_of, whole_said, value_says, single_of, double_of, plain_of, low_bits, value_of};
-ghost use Rattle.values.specs.Told.{whole_meaning, other_meaning, meaning_of, whole_told, signless, number_told, told_of};
+ghost use Rattle.values.specs.Told.{shape_of, meaning_of, whole_told, signless, number_told, told_of};
 
 // A value is one of seven kinds; `value_says` has their numbers. `NoData` is the value of a sample that is not there: no bits have it.
 #[derive(Clone, Copy)]
@@ -30,20 +30,22 @@ pub struct Bits {
     pub bits: u64,
 }
 
-// What the bits of a data type's samples mean, as numbers, so that no sample asks for its type. A whole number up to `last` is itself, and one
+// What bits that are not null's stand for, with numbers in it, so that no sample asks for its data type. A whole number up to `last` is itself, and one
 // above it stands for itself less the range that ends at `top`. Any other is of `kind`, and no number where it is above `infinity` without `sign`.
 #[derive(Clone, Copy)]
+pub enum Shape {
+    Whole { last: u32, top: u32 },
+    Other { kind: u8, sign: u64, infinity: u64 },
+}
+
+// What the bits of a data type's samples mean: null comes first.
+#[derive(Clone, Copy)]
 pub struct Meaning {
-    pub whole: bool,
-    pub last: u32,
-    pub top: u32,
-    pub kind: u8,
-    pub sign: u64,
-    pub infinity: u64,
+    pub shape: Shape,
     pub null: Bits,
 }
 
-// The number of a value's kind, and its number where it is whole, else 0.
+// The number of a value's kind, and its number where it is whole, else 0. A kind stays a number here: `mfer_values` writes it into a C program's octets.
 #[derive(Clone, Copy)]
 pub struct Telling {
     pub kind: u8,
@@ -153,33 +155,66 @@ fn signless(sign: u64, bits: u64) -> u64
     if bits < sign { bits } else { bits - sign }
 }
 
-// Whole numbers.
-fn whole_meaning(last: u32, top: u32, null: Bits) -> Meaning
-    ensures { result ≡ whole_meaning last top null }
-{
-    Meaning {
-        whole: true,
-        last,
-        top,
-        kind: 0,
-        sign: 0,
-        infinity: 0,
-        null,
+impl Shape {
+    // By data type.
+    fn of_type(datatype: u8) -> Shape
+        ensures { result ≡ shape_of datatype }
+    {
+        match datatype {
+            0 => Shape::Whole {
+                last: 0x7FFF,
+                top: 0xFFFF,
+            },
+            2 => Shape::Whole {
+                last: 0x7FFF_FFFF,
+                top: 0xFFFF_FFFF,
+            },
+            4 => Shape::Other {
+                kind: 1,
+                sign: 0x1_0000,
+                infinity: 0xFFFF,
+            },
+            5 => Shape::Whole {
+                last: 0x7F,
+                top: 0xFF,
+            },
+            7 => Shape::Other {
+                kind: 2,
+                sign: 0x8000_0000,
+                infinity: 0x7F80_0000,
+            },
+            8 => Shape::Other {
+                kind: 3,
+                sign: 0x8000_0000_0000_0000,
+                infinity: 0x7FF0_0000_0000_0000,
+            },
+            _ => Shape::Whole {
+                last: 0xFFFF_FFFF,
+                top: 0xFFFF_FFFF,
+            },
+        }
     }
-}
 
-// Values of another kind.
-fn other_meaning(kind: u8, sign: u64, infinity: u64, null: Bits) -> Meaning
-    ensures { result ≡ other_meaning kind sign infinity null }
-{
-    Meaning {
-        whole: false,
-        last: 0,
-        top: 0,
-        kind,
-        sign,
-        infinity,
-        null,
+    // Bits that are not null's.
+    fn number(self, bits: u64) -> Telling
+        ensures { result ≡ number_told self bits }
+    {
+        match self {
+            Shape::Whole { last, top } => Telling {
+                kind: 0,
+                whole: whole_told(last, top, bits),
+            },
+            Shape::Other {
+                kind,
+                sign,
+                infinity,
+            } => {
+                if infinity < signless(sign, bits) {
+                    return Telling { kind: 4, whole: 0 };
+                }
+                Telling { kind, whole: 0 }
+            }
+        }
     }
 }
 
@@ -188,33 +223,9 @@ impl Meaning {
     pub fn of_type(datatype: u8, null: Bits) -> Meaning
         ensures { result ≡ meaning_of datatype null }
     {
-        match datatype {
-            0 => whole_meaning(0x7FFF, 0xFFFF, null),
-            2 => whole_meaning(0x7FFF_FFFF, 0xFFFF_FFFF, null),
-            4 => other_meaning(1, 0x1_0000, 0xFFFF, null),
-            5 => whole_meaning(0x7F, 0xFF, null),
-            7 => other_meaning(2, 0x8000_0000, 0x7F80_0000, null),
-            8 => other_meaning(3, 0x8000_0000_0000_0000, 0x7FF0_0000_0000_0000, null),
-            _ => whole_meaning(0xFFFF_FFFF, 0xFFFF_FFFF, null),
-        }
-    }
-
-    // Bits that are not null's.
-    fn number(self, bits: u64) -> Telling
-        ensures { result ≡ number_told self bits }
-    {
-        if self.whole {
-            return Telling {
-                kind: 0,
-                whole: whole_told(self.last, self.top, bits),
-            };
-        }
-        if self.infinity < signless(self.sign, bits) {
-            return Telling { kind: 4, whole: 0 };
-        }
-        Telling {
-            kind: self.kind,
-            whole: 0,
+        Meaning {
+            shape: Shape::of_type(datatype),
+            null,
         }
     }
 
@@ -228,6 +239,6 @@ impl Meaning {
                 return Telling { kind: 5, whole: 0 };
             }
         }
-        self.number(bits)
+        self.shape.number(bits)
     }
 }

@@ -4,9 +4,12 @@
 --     waveform-small     a file within the limit has no waveform that is longer
 --     taken_root         a frame that is taken leaves the root settings
 -- Assumes nothing.
+use Rattle.heads.specs.declared.Fault.{Fault}
+use Rattle.effects.specs.declared.Effect.{Effect}
+use Rattle.std.specs.Prelude.{Result, Ok}
 use mathlib.Core.Path.{◌≡◌, refl, sym, ap, ◌∙◌}
 use mathlib.Core.List.{List}
-use Prim.Native.Nat.{ℕ, ◌-◌, ◌*◌, ◌≤◌, ◌<◌}
+use Prim.Native.Nat.{ℕ, ◌*◌, ◌≤◌, ◌<◌}
 use native.Mathlib.Omega.{arith}
 use lib.ListN.{length, take}
 use lib.Seq.{length-take-le}
@@ -19,9 +22,6 @@ use Rattle.layout.specs.Frame.{Frame}
 use Rattle.layout.specs.Measure.{layout_of}
 use Rattle.layout.proofs.Laws.{groups-few}
 use Rattle.standing.specs.declared.Standing.{Standing}
-use Rattle.effects.specs.declared.Effect.{Effect}
-use Rattle.framing.specs.declared.Framed.{Framed}
-use Rattle.framing.specs.declared.Framed.TheVariants.{Taken}
 use Rattle.standing.specs.Standing.{octets_limit}
 use Rattle.effects.specs.Effects.{effect_of}
 use Rattle.framing.specs.Framing.{channels_of, framed_as}
@@ -33,7 +33,7 @@ use Rattle.verdict.proofs.Steps.{TakenBy, taken_found, waveform_found, waveform_
 use Rattle.verdict.proofs.Bounds.{Bounded, reached_bounded, channels-between, root_small, octets-some}
 
 -- A file within the limit has no waveform that is longer.
-pub waveform-small : (s : List ℕ) (st : Standing) (i : Item) {start len : ℕ} → length s ≤ octets_limit → Effect.Frame start len ≡ effect_of s st i → len ≤ octets_limit
+pub waveform-small : (s : List ℕ) (st : Standing) (i : Item) {start len : ℕ} → length s ≤ octets_limit → Ok (Effect.Frame start len) ≡ effect_of s st i → len ≤ octets_limit
 waveform-small s st i long a = omega (arith, waveform_short s (waveform_found s st i a refl))
 
 -- What is known of a frame where the file's items lead: l is the layout of its channels.
@@ -57,7 +57,7 @@ module _ {s : List ℕ} {table : List Settings} {c : Cursor} {st : Standing} {me
   framed_here len small = framed_same frames st l.agree l.octets len octets-here small (root_small framed_state bounded)
 
   -- What the frame's waveform gives, as the pass computes it.
-  pub frame-carried : (i : Item) (start len : ℕ) {r f : Framed} → len ≤ octets_limit → Effect.Frame start len ≡ effect_of s st i → r ≡ framed_by frames st l.agree l.octets len → r ≡ f → carried s framed_state (effect_of s st i) ≡ with_frame s framed_state start len f
+  pub frame-carried : (i : Item) (start len : ℕ) {r f : Result (ℕ × Standing) Fault} → len ≤ octets_limit → Ok (Effect.Frame start len) ≡ effect_of s st i → r ≡ framed_by frames st l.agree l.octets len → r ≡ f → carried s framed_state (effect_of s st i) ≡ with_frame s framed_state start len f
   unfolding carried layout_of
   frame-carried i start len small a u v =
       ap (carried s framed_state) (sym a)
@@ -74,8 +74,8 @@ module _ {s : List ℕ} {table : List Settings} {c : Cursor} {st : Standing} {me
   unfolding layout_of
   groups-small = rw el (omega (arith, groups-few 0 (take count table), counts_there, count-few))
 
-  module _ (i : Item) {start len sequences : ℕ} {x : Standing} {r : Framed} (small : len ≤ octets_limit)
-      (ee : Effect.Frame start len ≡ effect_of s st i) (er : r ≡ framed_by frames st l.agree l.octets len) (fr : r ≡ Taken sequences x) where
+  module _ (i : Item) {start len sequences : ℕ} {x : Standing} {r : Result (ℕ × Standing) Fault} (small : len ≤ octets_limit)
+      (ee : Ok (Effect.Frame start len) ≡ effect_of s st i) (er : r ≡ framed_by frames st l.agree l.octets len) (fr : r ≡ Ok (sequences, x)) where
     taken : TakenBy frames st l.agree l.octets len sequences x
     taken = taken_found frames st l.agree l.octets len (er ∙ framed_here len small) fr
 

@@ -7,6 +7,7 @@
 --     reached_keeps, reached-unlimited, reached-verdict    what every item keeps holds where a file's items lead; what is left of the file there gives the
 --                     verdict
 -- Assumes nothing.
+use Rattle.std.specs.Prelude.{Result, Ok, Err, Option, Some, None}
 use mathlib.Core.Path.{◌≡◌, refl, sym, ap, ◌∙◌}
 use mathlib.Core.List.{List}
 use mathlib.Core.Bool.{Bool, true, false}
@@ -17,12 +18,11 @@ use lib.Dec.{ltb}
 use lib.ListN.{length}
 use Rattle.octets.specs.Pick.{pick}
 use Rattle.items.specs.declared.Item.{Item}
+use Rattle.heads.specs.declared.Fault.{Fault}
 use Rattle.heads.specs.declared.Refusal.{Refusal}
 use Rattle.items.specs.declared.Cursor.{Cursor}
-use Rattle.items.specs.declared.Next.{Next}
-use Rattle.items.specs.declared.Next.TheVariants.{Found, End}
 use Rattle.items.specs.declared.Within.TheVariants.{Root}
-use Rattle.heads.specs.Refusals.{long_file}
+use Rattle.heads.specs.declared.Fault.TheVariants.{LongFile}
 use Rattle.items.specs.Walk.{Items, item, finished, fault, cursor, next_of, items_from, items_of, refusal}
 use Rattle.items.proofs.Walks.{next-later, items_found, items_end, items_refused}
 use Rattle.layout.specs.Frame.{Frame}
@@ -46,9 +46,9 @@ module _ (s : List ℕ) (x : State) (i : Item) (more : Items) where
   unfolding after_item
   interpret-goes y e = interpret-item ∙ ap (after_item (λ z. interpret s z more) (place_at i)) e
 
-  pub interpret-refuses : (n : ℕ) → meaning s x i ≡ refuses n → interpret s x (item i more) ≡ refused (refusal n (place_at i))
+  pub interpret-refuses : (f : Fault) → meaning s x i ≡ refuses f → interpret s x (item i more) ≡ refused (refusal f (place_at i))
   unfolding after_item
-  interpret-refuses n e = interpret-item ∙ ap (after_item (λ z. interpret s z more) (place_at i)) e
+  interpret-refuses f e = interpret-item ∙ ap (after_item (λ z. interpret s z more) (place_at i)) e
 
 pub interpret-finished : (s : List ℕ) (x : State) → interpret s x finished ≡ accepted x.frames
 unfolding interpret
@@ -69,23 +69,23 @@ pub record Kept (I : State → Cursor → Type 0) (fs : List Frame) : Type 0 whe
 
 -- I is kept by every item.
 abbrev pub Keeps : List ℕ → (State → Cursor → Type 0) → Type 0
-Keeps s I = (x : State) (c : Cursor) (i : Item) (d : Cursor) (y : State) → I x c → next_of s c ≡ Found i d → meaning s x i ≡ goes y → I y d
+Keeps s I = (x : State) (c : Cursor) (i : Item) (d : Cursor) (y : State) → I x c → next_of s c ≡ Ok (Some (i, d)) → meaning s x i ≡ goes y → I y d
 
 module _ (s : List ℕ) (I : State → Cursor → Type 0) (keeps : Keeps s I) where
   -- What holds of the verdict at the end, at a fault of form and at an item refused, each met where I holds, holds of the verdict.
   module _ (Q : Verdict → Type 0) (ends : (x : State) (c : Cursor) → I x c → Q (accepted x.frames))
-      (faults : (x : State) (c : Cursor) (r : Refusal) → I x c → next_of s c ≡ Next.Refused r → Q (refused r))
-      (stops : (x : State) (c : Cursor) (i : Item) (d : Cursor) (n : ℕ) → I x c → next_of s c ≡ Found i d → meaning s x i ≡ refuses n → Q (refused (refusal n (place_at i)))) where
-    by_item : (x : State) (c : Cursor) (i : Item) (d : Cursor) (o : Outcome) → I x c → next_of s c ≡ Found i d → meaning s x i ≡ o → ((y : State) → I y d → Q (interpret s y (items_from s d))) → Q (interpret s x (item i (items_from s d)))
+      (faults : (x : State) (c : Cursor) (r : Refusal) → I x c → next_of s c ≡ Err r → Q (refused r))
+      (stops : (x : State) (c : Cursor) (i : Item) (d : Cursor) (f : Fault) → I x c → next_of s c ≡ Ok (Some (i, d)) → meaning s x i ≡ refuses f → Q (refused (refusal f (place_at i)))) where
+    by_item : (x : State) (c : Cursor) (i : Item) (d : Cursor) (o : Outcome) → I x c → next_of s c ≡ Ok (Some (i, d)) → meaning s x i ≡ o → ((y : State) → I y d → Q (interpret s y (items_from s d))) → Q (interpret s x (item i (items_from s d)))
     by_item x c i d (goes y) p e f ih = rw (interpret-goes s x i (items_from s d) y f) (ih y (keeps x c i d y p e f))
     by_item x c i d (refuses n) p e f ih = rw (interpret-refuses s x i (items_from s d) n f) (stops x c i d n p e f)
 
-    by_next : (x : State) (c : Cursor) (n : Next) → I x c → next_of s c ≡ n → ((y : State) (d : Cursor) → length s - d.at < length s - c.at → I y d → Q (interpret s y (items_from s d))) → Q (interpret s x (items_from s c))
-    by_next x c (Next.Found i d) p e ih =
+    by_next : (x : State) (c : Cursor) (n : Result (Option (Item × Cursor)) Refusal) → I x c → next_of s c ≡ n → ((y : State) (d : Cursor) → length s - d.at < length s - c.at → I y d → Q (interpret s y (items_from s d))) → Q (interpret s x (items_from s c))
+    by_next x c (Ok (Some (i, d))) p e ih =
         let l = next-later s c refl e in
         rw (items_found s c i d e) (by_item x c i d (meaning s x i) p e refl (λ y. ih y d (omega arith)))
-    by_next x c Next.End p e ih = rw (items_end s c e, interpret-finished s x) (ends x c p)
-    by_next x c (Next.Refused r) p e ih = rw (items_refused s c r e, interpret-fault s x r) (faults x c r p e)
+    by_next x c (Ok None) p e ih = rw (items_end s c e, interpret-finished s x) (ends x c p)
+    by_next x c (Err r) p e ih = rw (items_refused s c r e, interpret-fault s x r) (faults x c r p e)
 
     by_octets : (k : ℕ) (x : State) (c : Cursor) → length s - c.at < k → I x c → Q (interpret s x (items_from s c))
     by_octets zero x c h p = let z : ⊥ = omega arith in absurd z
@@ -112,7 +112,7 @@ pub items_first : (s : List ℕ) → items_of s ≡ items_from s first_cursor
 unfolding items_of
 items_first s = refl
 
-limit_by : (s : List ℕ) (fs : List Frame) (b : Bool) (v : Verdict) → ltb octets_limit (length s) ≡ b → pick b (refused (refusal long_file 0)) v ≡ accepted fs → (length s ≤ octets_limit) × (v ≡ accepted fs)
+limit_by : (s : List ℕ) (fs : List Frame) (b : Bool) (v : Verdict) → ltb octets_limit (length s) ≡ b → pick b (refused (refusal LongFile 0)) v ≡ accepted fs → (length s ≤ octets_limit) × (v ≡ accepted fs)
 limit_by s fs true v e f = let z : ◌≡◌ {A = ℕ} 0 1 = cc in let w : ⊥ = omega arith in absurd w
 limit_by s fs false v e f = (ltb-false octets_limit (length s) e, f)
 

@@ -2,9 +2,12 @@
 --     defined-gives    a definition goes back to what stands, or has a value in its range
 --     effect_asks, waveform_found, waveform-long    what an item may ask for, and that a frame's waveform is an item's value
 --     framed_gives, taken_found    what a waveform that is taken tells
---     meaning_steps, meaning_refused    what an item that is not refused does, and the number of one that is
+--     meaning_steps, meaning_refused    what an item that is not refused does, and the number of the fault of one that is
 --     step_grown       the frames met stay the first ones
 -- Assumes nothing.
+use Rattle.heads.specs.declared.Fault.{Fault}
+use Rattle.effects.specs.declared.Effect.{Effect}
+use Rattle.std.specs.Prelude.{Result, Ok, Err, Option, Some, None}
 use mathlib.Core.Path.{◌≡◌, refl, subst, sym, ◌∙◌}
 use mathlib.Core.List.{List, [], ◌∷◌, ◌++◌, append-nil}
 use mathlib.Core.Bool.{Bool, true, not}
@@ -20,18 +23,15 @@ use Rattle.octets.proofs.Laws.{number_first, take-octets, drop-octets}
 use Rattle.octets.proofs.Pick.{pick_cases}
 use Rattle.items.specs.declared.Item.{Item}
 use Rattle.items.specs.declared.Item.TheVariants.{Plain}
-use Rattle.heads.specs.Refusals.{barred_tag, long_file}
+use Rattle.heads.specs.declared.Fault.TheVariants.{BarredTag, LongFile}
+use Rattle.heads.specs.Faults.{number_of as fault_number}
 use Rattle.settings.specs.declared.Settings.{Settings}
 use Rattle.definitions.specs.declared.Attribute.{Attribute}
 use Rattle.settings.specs.declared.Change.{Change}
-use Rattle.definitions.specs.declared.Tagged.{Tagged}
-use Rattle.definitions.specs.declared.Defined.{Defined}
 use Rattle.settings.specs.Settings.{channel_limit, default_settings, applied, all_applied}
 use Rattle.definitions.specs.Define.{tagged, length_fits, change_of, standing_in, in_range, defined}
 use Rattle.layout.specs.Frame.{Frame, sequence_octets, all_agree}
 use Rattle.standing.specs.declared.Standing.{Standing}
-use Rattle.effects.specs.declared.Effect.{Effect}
-use Rattle.framing.specs.declared.Framed.{Framed}
 use Rattle.standing.specs.Standing.{frames_limit, with_order, with_count, with_sequences, with_start, with_root, with_continued}
 use Rattle.effects.specs.Effects.{order_effect, count_effect, sequences_effect, start_effect, compressed_effect, all_effect, one_effect, root_effect, plain_effect, member_effect, group_effect, value_at, effect_of}
 use Rattle.framing.specs.Framing.{sequences_of, pointer_fits, pointer_after, framed_as}
@@ -39,8 +39,8 @@ use Rattle.verdict.specs.Verdict.{State, state, Outcome, goes, refuses, one_chan
 use Rattle.verdict.proofs.Keeps.{meaning}
 
 -- An item is refused by none of the numbers of form up to 5, and not by 15.
-abbrev pub Refusing : ℕ → Type 0
-Refusing n = (barred_tag < n) × (n < long_file)
+abbrev pub Refusing : Fault → Type 0
+Refusing f = (fault_number BarredTag < fault_number f) × (fault_number f < fault_number LongFile)
 
 -- ---- definitions
 
@@ -53,9 +53,9 @@ pub data DefinedChange (s : List ℕ) (base : Settings) : Change → Type 0 wher
       → in_range (change_of a little (value_at s start len)) ≡ true
       → DefinedChange s base (change_of a little (value_at s start len))
 
-abbrev Gives : List ℕ → Settings → Defined → Type 0
-Gives s base (Defined.Changed c) = DefinedChange s base c
-Gives s base (Defined.Refused n) = Refusing n
+abbrev Gives : List ℕ → Settings → Result Change Fault → Type 0
+Gives s base (Ok c) = DefinedChange s base c
+Gives s base (Err f) = Refusing f
 
 defined-gives : (s : List ℕ) (base : Settings) (a : Attribute) (little : Bool) (start len : ℕ) → Gives s base (defined a little base (value_at s start len))
 unfolding defined
@@ -89,27 +89,27 @@ value-small : (s : List ℕ) (little : Bool) (start len : ℕ) → Small s (numb
 value-small s little start len octets = number_first little (value_at s start len) (take-octets len (drop start s) (drop-octets start s octets)) 4
 
 -- What an item may ask for.
-abbrev Asks : List ℕ → Standing → Item → Effect → Type 0
-Asks s st i Effect.Pass = Unit {0}
-Asks s st i (Effect.Order little) = Unit {0}
-Asks s st i (Effect.Count n) = n ≤ channel_limit
-Asks s st i (Effect.Sequences n) = Small s n
-Asks s st i (Effect.Start z) = Unit {0}
-Asks s st i (Effect.All c) = DefinedChange s default_settings c
-Asks s st i (Effect.One channel c) = DefinedChange s st.root c
-Asks s st i (Effect.Frame start long) = Waveform s i start long
-Asks s st i (Effect.Refused n) = Refusing n
+abbrev Asks : List ℕ → Standing → Item → Result Effect Fault → Type 0
+Asks s st i (Ok Effect.Pass) = Unit {0}
+Asks s st i (Ok (Effect.Order little)) = Unit {0}
+Asks s st i (Ok (Effect.Count n)) = n ≤ channel_limit
+Asks s st i (Ok (Effect.Sequences n)) = Small s n
+Asks s st i (Ok (Effect.Start z)) = Unit {0}
+Asks s st i (Ok (Effect.All c)) = DefinedChange s default_settings c
+Asks s st i (Ok (Effect.One channel c)) = DefinedChange s st.root c
+Asks s st i (Ok (Effect.Frame start long)) = Waveform s i start long
+Asks s st i (Err f) = Refusing f
 
 module _ (s : List ℕ) (st : Standing) where
-  all_asks : (i : Item) (d : Defined) → Gives s default_settings d → Asks s st i (all_effect d)
+  all_asks : (i : Item) (d : Result Change Fault) → Gives s default_settings d → Asks s st i (all_effect d)
   unfolding all_effect
-  all_asks i (Defined.Changed c) g = g
-  all_asks i (Defined.Refused n) g = g
+  all_asks i (Ok c) g = g
+  all_asks i (Err f) g = g
 
-  one_asks : (i : Item) (channel : ℕ) (d : Defined) → Gives s st.root d → Asks s st i (one_effect channel d)
+  one_asks : (i : Item) (channel : ℕ) (d : Result Change Fault) → Gives s st.root d → Asks s st i (one_effect channel d)
   unfolding one_effect
-  one_asks i channel (Defined.Changed c) g = g
-  one_asks i channel (Defined.Refused n) g = g
+  one_asks i channel (Ok c) g = g
+  one_asks i channel (Err f) g = g
 
   order_asks : (i : Item) (v : List ℕ) → Asks s st i (order_effect v)
   unfolding order_effect
@@ -164,16 +164,16 @@ module _ (s : List ℕ) (st : Standing) where
       (λ _. pick_cases (Asks s st i) (eqb tag 0x1E)
       (λ e. record { place = place; tag = tag; len = len; waves = eqb-true tag 0x1E e; item = refl; counts = refl }) (λ _. tt))))))
 
-  plain_asks : (place tag start len : ℕ) (t : Tagged) → Asks s st (Plain place tag start len) (plain_effect st tag start (value_at s start len) t)
+  plain_asks : (place tag start len : ℕ) (t : Option Attribute) → Asks s st (Plain place tag start len) (plain_effect st tag start (value_at s start len) t)
   unfolding plain_effect
-  plain_asks place tag start len (Tagged.Defines a) =
+  plain_asks place tag start len (Some a) =
       all_asks (Plain place tag start len) _ (defined-gives s default_settings a st.little start len)
-  plain_asks place tag start len Tagged.Other = root_asks place tag start len
+  plain_asks place tag start len None = root_asks place tag start len
 
-  member_asks : (i : Item) (channel start len : ℕ) (t : Tagged) → Asks s st i (member_effect st channel (value_at s start len) t)
+  member_asks : (i : Item) (channel start len : ℕ) (t : Option Attribute) → Asks s st i (member_effect st channel (value_at s start len) t)
   unfolding member_effect
-  member_asks i channel start len (Tagged.Defines a) = one_asks i channel _ (defined-gives s st.root a st.little start len)
-  member_asks i channel start len Tagged.Other = tt
+  member_asks i channel start len (Some a) = one_asks i channel _ (defined-gives s st.root a st.little start len)
+  member_asks i channel start len None = tt
 
   effect_asks : (i : Item) → Asks s st i (effect_of s st i)
   unfolding effect_of
@@ -185,7 +185,7 @@ module _ (s : List ℕ) (st : Standing) where
   effect_asks (Item.Mark place) = tt
 
 -- The waveform of a frame that an item asks for is the item's value, so it is no longer than the file.
-pub waveform_found : (s : List ℕ) (st : Standing) (i : Item) {r : Effect} {start long : ℕ} → r ≡ effect_of s st i → r ≡ Effect.Frame start long → Waveform s i start long
+pub waveform_found : (s : List ℕ) (st : Standing) (i : Item) {r : Result Effect Fault} {start long : ℕ} → r ≡ effect_of s st i → r ≡ Ok (Effect.Frame start long) → Waveform s i start long
 waveform_found s st i p q = subst (Asks s st i) (sym p ∙ q) (effect_asks s st i)
 
 pub waveform_short : (s : List ℕ) {i : Item} {start long : ℕ} → Waveform s i start long → long ≤ length s
@@ -209,14 +209,14 @@ pub record TakenBy (frames : ℕ) (st : Standing) (agree : Bool) (octets long n 
   pub sequences : n ≡ sequences_of st.sequences long octets
   pub after : y ≡ with_continued (pointer_after st n) st
 
-abbrev FramedGives : ℕ → Standing → Bool → ℕ → ℕ → Framed → Type 0
-FramedGives frames st agree octets long (Framed.Taken n y) = TakenBy frames st agree octets long n y
-FramedGives frames st agree octets long (Framed.Refused k) = Refusing k
+abbrev FramedGives : ℕ → Standing → Bool → ℕ → ℕ → Result (ℕ × Standing) Fault → Type 0
+FramedGives frames st agree octets long (Ok (n, y)) = TakenBy frames st agree octets long n y
+FramedGives frames st agree octets long (Err f) = Refusing f
 
 framed_gives : (frames : ℕ) (st : Standing) (agree : Bool) (octets long : ℕ) → FramedGives frames st agree octets long (framed_as frames st agree octets long)
 unfolding framed_as
 framed_gives frames st agree octets long =
-    let P : Framed → Type 0 = FramedGives frames st agree octets long in
+    let P : Result (ℕ × Standing) Fault → Type 0 = FramedGives frames st agree octets long in
     pick_cases P (leb frames_limit frames) (λ _. omega arith)
     (λ k. pick_cases P (not agree) (λ _. omega arith)
     (λ a. pick_cases P (not (pointer_fits st.start)) (λ _. omega arith)
@@ -228,7 +228,7 @@ framed_gives frames st agree octets long =
       after = refl;
     })))
 
-pub taken_found : (frames : ℕ) (st : Standing) (agree : Bool) (octets long : ℕ) {r : Framed} {n : ℕ} {y : Standing} → r ≡ framed_as frames st agree octets long → r ≡ Framed.Taken n y → TakenBy frames st agree octets long n y
+pub taken_found : (frames : ℕ) (st : Standing) (agree : Bool) (octets long : ℕ) {r : Result (ℕ × Standing) Fault} {n : ℕ} {y : Standing} → r ≡ framed_as frames st agree octets long → r ≡ Ok (n, y) → TakenBy frames st agree octets long n y
 taken_found frames st agree octets long p q = subst (FramedGives frames st agree octets long) (sym p ∙ q) (framed_gives frames st agree octets long)
 
 -- ---- items
@@ -259,27 +259,27 @@ step_grown s x i _ (frames start long n y w t) = (frame_at s x start long n ∷ 
 
 abbrev Steps : List ℕ → State → Item → Outcome → Type 0
 Steps s x i (goes y) = ItemStep s x i y
-Steps s x i (refuses n) = Refusing n
+Steps s x i (refuses f) = Refusing f
 
-frame-steps : (s : List ℕ) (x : State) (i : Item) (start long : ℕ) (r : Framed) → Waveform s i start long
+frame-steps : (s : List ℕ) (x : State) (i : Item) (start long : ℕ) (r : Result (ℕ × Standing) Fault) → Waveform s i start long
     → FramedGives (length x.frames) x.standing (all_agree (frame_channels x)) (sequence_octets (frame_channels x)) long r
     → Steps s x i (with_frame s x start long r)
 unfolding with_frame
-frame-steps s x i start long (Framed.Taken n y) w f = frames start long n y w f
-frame-steps s x i start long (Framed.Refused k) w f = f
+frame-steps s x i start long (Ok (n, y)) w f = frames start long n y w f
+frame-steps s x i start long (Err k) w g = g
 
-carried-steps : (s : List ℕ) (x : State) (i : Item) (e : Effect) → Asks s x.standing i e → Steps s x i (carried s x e)
+carried-steps : (s : List ℕ) (x : State) (i : Item) (e : Result Effect Fault) → Asks s x.standing i e → Steps s x i (carried s x e)
 unfolding carried
-carried-steps s x i Effect.Pass a = passes
-carried-steps s x i (Effect.Order little) a = stands (with_order little x.standing) refl refl (λ f. f)
-carried-steps s x i (Effect.Count n) a = resets (with_count n x.standing) a refl refl
-carried-steps s x i (Effect.Sequences n) a = stands (with_sequences n x.standing) refl refl (λ f. a)
-carried-steps s x i (Effect.Start z) a = stands (with_start z x.standing) refl refl (λ f. f)
-carried-steps s x i (Effect.All c) a = changes c a
-carried-steps s x i (Effect.One channel c) a = sets channel c a
-carried-steps s x i (Effect.Frame start long) a =
+carried-steps s x i (Ok Effect.Pass) a = passes
+carried-steps s x i (Ok (Effect.Order little)) a = stands (with_order little x.standing) refl refl (λ f. f)
+carried-steps s x i (Ok (Effect.Count n)) a = resets (with_count n x.standing) a refl refl
+carried-steps s x i (Ok (Effect.Sequences n)) a = stands (with_sequences n x.standing) refl refl (λ f. a)
+carried-steps s x i (Ok (Effect.Start z)) a = stands (with_start z x.standing) refl refl (λ f. f)
+carried-steps s x i (Ok (Effect.All c)) a = changes c a
+carried-steps s x i (Ok (Effect.One channel c)) a = sets channel c a
+carried-steps s x i (Ok (Effect.Frame start long)) a =
     frame-steps s x i start long _ a (framed_gives (length x.frames) x.standing (all_agree (frame_channels x)) (sequence_octets (frame_channels x)) long)
-carried-steps s x i (Effect.Refused n) a = a
+carried-steps s x i (Err f) a = a
 
 module _ (s : List ℕ) (x : State) (i : Item) where
   steps : Steps s x i (meaning s x i)
@@ -288,5 +288,5 @@ module _ (s : List ℕ) (x : State) (i : Item) where
   pub meaning_steps : (y : State) → meaning s x i ≡ goes y → ItemStep s x i y
   meaning_steps y e = subst (Steps s x i) e steps
 
-  pub meaning_refused : (n : ℕ) → meaning s x i ≡ refuses n → Refusing n
-  meaning_refused n e = subst (Steps s x i) e steps
+  pub meaning_refused : (f : Fault) → meaning s x i ≡ refuses f → Refusing f
+  meaning_refused f e = subst (Steps s x i) e steps

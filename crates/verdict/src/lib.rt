@@ -1,7 +1,7 @@
 // The verdict on a file: its frames or its refusal, by its items in file order.
 //
-// This crate has the definitions that every reader and writer of a file is measured by, and their laws. Its code is small: `Checked` is the answer of
-// the check, and `place_of` is the place of an item's tag.
+// This crate has the definitions that every reader and writer of a file is measured by, and their laws. Its code is small: `place_of` is the place of an
+// item's tag.
 // Read first: specs/Verdict.antt (the file), then specs/Reached.antt (where its items lead).
 #![tactic(auto)]
 
@@ -10,13 +10,6 @@ ghost use Rattle.verdict.specs.Verdict.{place_at};
 
 use heads::Refusal;
 use items::Item;
-
-// The answer of the check: the number of frames, or the refusal.
-#[derive(Clone, Copy)]
-pub enum Checked {
-    Frames(u32),
-    Refused(Refusal),
-}
 
 // The place of an item's tag.
 pub fn place_of(item: Item) -> usize

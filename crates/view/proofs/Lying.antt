@@ -7,11 +7,11 @@
 -- Assumes nothing.
 use mathlib.Core.Path.{◌≡◌, refl}
 use mathlib.Core.Bool.{Bool, true, false}
-use Prim.Native.Nat.{ℕ, ◌+◌, ◌-◌, ◌*◌, ◌/◌, ◌%◌, ◌≤◌, ◌<◌}
+use Prim.Native.Nat.{ℕ, ◌+◌, ◌*◌, ◌/◌, ◌%◌, ◌≤◌, ◌<◌}
 use borrow.Author.Tests.{lt-ltb}
 use lib.Dec.{ltb}
 use Rattle.octets.specs.Pick.{pick}
-use Rattle.heads.specs.Refusals.{no_frame, no_sample}
+use Rattle.heads.specs.declared.Fault.TheVariants.{NoFrame, NoSample}
 use Rattle.heads.specs.Answer.{answered, refused_as, map_answer}
 use Rattle.layout.specs.Frame.{width_in}
 use Rattle.spread.specs.declared.Spread.{Spread}
@@ -47,7 +47,7 @@ place-sum x n width e = rw e
 pub map_seen : {A B : Type 0} (f : A → B) (size : ℕ) (v : View) (n : ℕ) (a : A) → map_answer f (asked_seen size v n a) ≡ asked_seen size v n (f a)
 map_seen f size v n a = by (ltb n (count_seen v)) (lies_in size v)
   where
-    by : (s t : Bool) → map_answer f (pick s (pick t (answered a) (refused_as no_frame 0)) (refused_as no_sample 0)) ≡ pick s (pick t (answered (f a)) (refused_as no_frame 0)) (refused_as no_sample 0)
+    by : (s t : Bool) → map_answer f (pick s (pick t (answered a) (refused_as NoFrame 0)) (refused_as NoSample 0)) ≡ pick s (pick t (answered (f a)) (refused_as NoFrame 0)) (refused_as NoSample 0)
     by true true = refl
     by true false = refl
     by false t = refl

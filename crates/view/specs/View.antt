@@ -1,17 +1,14 @@
 -- A channel of a frame as it is kept for reading its samples (document 01, "Frames and samples"; document 02, request 2): how many are declared and how many of
 -- these are there, where they lie, and whether they lie in a file.
-use Rattle.std.specs.Prelude.{Bool, ℕ, ltb, length}
-use Rattle.std.proofs.Math.Option.{Option, none, some}
+use Rattle.std.specs.Prelude.{Bool, ℕ, ltb, length, Option, Some, None}
 use Rattle.octets.specs.Pick.{pick}
-use Rattle.heads.specs.Refusals.{no_frame, no_sample}
-use Rattle.heads.specs.Answer.{Answer, answered, refused_as, refused_by}
+use Rattle.heads.specs.declared.Fault.TheVariants.{NoFrame, NoSample}
+use Rattle.heads.specs.Answer.{Answer, answered, refused_as}
 use Rattle.settings.specs.Settings.{default_settings}
 use Rattle.layout.specs.Frame.{Frame, sequence_octets, octets_below, channel_in}
 use Rattle.spread.specs.declared.Spread.{Spread}
 use Rattle.spread.specs.Spread.{count_spread, there_spread, place_spread, lies_spread}
 use Rattle.view.specs.declared.View.{View}
-use Rattle.view.specs.declared.SamplePlace.{SamplePlace}
-use Rattle.view.specs.declared.SamplePlace.TheVariants.{At, Lacking}
 
 -- What is kept of a frame and one of its channels, the default settings where the frame lacks it.
 unfoldable pub view_of : ℕ → Frame → View
@@ -62,14 +59,8 @@ lies_in size v = lies_spread size (spread_of v)
 -- do not lie in the file, which then has no such frame; and else what is asked.
 abbrev pub asked_seen : {A : Type 0} → ℕ → View → ℕ → A → Answer A
 asked_seen size v n answer =
-    pick (ltb n (count_seen v)) (pick (lies_in size v) (answered answer) (refused_as no_frame 0)) (refused_as no_sample 0)
+    pick (ltb n (count_seen v)) (pick (lies_in size v) (answered answer) (refused_as NoFrame 0)) (refused_as NoSample 0)
 
 -- The place of a sample of the channel in a file of `size` octets, none where it is declared and not there.
 abbrev pub place_in : ℕ → View → ℕ → Answer (Option ℕ)
-place_in size v n = asked_seen size v n (pick (ltb n (there_seen v)) (some (place_seen v n)) none)
-
--- What the answer says: the place of the sample, or none.
-abbrev pub sample_place_says : SamplePlace → Answer (Option ℕ)
-sample_place_says (At place) = answered (some place)
-sample_place_says Lacking = answered none
-sample_place_says (SamplePlace.Refused r) = refused_by r
+place_in size v n = asked_seen size v n (pick (ltb n (there_seen v)) (Some (place_seen v n)) None)

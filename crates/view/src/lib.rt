@@ -7,10 +7,11 @@
 #![tactic(auto)]
 
 ghost use Rattle.std.specs.Prelude.{◌≡◌, ◌^◌, ◌<◌};
+ghost use Rattle.heads.specs.Answer.{answer_of};
 ghost use Rattle.spread.specs.Spread.{place_spread};
-ghost use Rattle.view.specs.View.{spread_of, place_in, sample_place_says};
+ghost use Rattle.view.specs.View.{spread_of, place_in};
 
-use heads::Refusal;
+use heads::{Fault, Refusal};
 use settings::Settings;
 use spread::Spread;
 
@@ -27,14 +28,6 @@ pub struct View {
     pub below: u64,
     pub long: usize,
     pub settings: Settings,
-}
-
-// The place of a sample, or that it is declared and not there, or why there is none.
-#[derive(Clone, Copy)]
-pub enum SamplePlace {
-    At(usize),
-    Lacking,
-    Refused(Refusal),
 }
 
 // The place of a sample.
@@ -67,24 +60,24 @@ impl View {
     }
 
     // Where a sample lies in a file of `size` octets: 22, then 20.
-    pub fn find(self, size: usize, number: u64) -> SamplePlace
-        ensures { sample_place_says result ≡ place_in size self number }
+    pub fn find(self, size: usize, number: u64) -> Result<Option<usize>, Refusal>
+        ensures { answer_of result ≡ place_in size self number }
     {
         let x = self.spread();
         if x.count() <= number {
-            return SamplePlace::Refused(Refusal {
-                number: Refusal::NO_SAMPLE,
+            return Err(Refusal {
+                fault: Fault::NoSample,
                 place: 0,
             });
         }
         if x.lies(size) {
             if number < x.there() {
-                return SamplePlace::At(place_of(x, number));
+                return Ok(Some(place_of(x, number)));
             }
-            return SamplePlace::Lacking;
+            return Ok(None);
         }
-        SamplePlace::Refused(Refusal {
-            number: Refusal::NO_FRAME,
+        Err(Refusal {
+            fault: Fault::NoFrame,
             place: 0,
         })
     }

@@ -7,13 +7,15 @@
 --     advance_reaches    an advance leads on: behind one frame more, or to the verdict
 --     joined-verdict     the frames that successive advances stop at, joined
 -- Assumes nothing.
+use Rattle.heads.specs.declared.Fault.{Fault}
+use Rattle.effects.specs.declared.Effect.{Effect}
+use Rattle.std.specs.Prelude.{Result, Ok, Err, Option, Some, None}
+use Rattle.heads.specs.declared.Refusal.{Refusal}
 use Rattle.std.proofs.Common.{◌≡◌, ℕ, zero, suc, ◌+◌, ◌-◌, ◌%◌, ◌^◌, ◌<◌, ◌≤◌, min, List, [], ◌∷◌, ◌++◌, map, length, take, drop, replicate, sym, refl, ap, ◌∙◌, subst, append_assoc, append-nil, arith, length-append, length-set, length-take}
 use native.Mathlib.Nat.{min-le_left}
 use lib.ListN.{length-map, length-replicate}
 use Rattle.items.specs.declared.Item.{Item}
 use Rattle.items.specs.declared.Cursor.{Cursor}
-use Rattle.items.specs.declared.Next.{Next}
-use Rattle.items.specs.declared.Next.TheVariants.{Found, End}
 use Rattle.items.specs.declared.Within.TheVariants.{Root}
 use Rattle.items.specs.Walk.{cursor, next_of, items_from, refusal}
 use Rattle.items.proofs.Walks.{ItemLies, next_found, items_found, items_end, items_refused}
@@ -29,9 +31,7 @@ use Rattle.layout.specs.Frame.{Frame, sequence_octets, all_agree}
 use Rattle.layout.specs.Measure.{layout_of}
 use Rattle.standing.specs.declared.Standing.{Standing}
 use Rattle.standing.specs.Standing.{first_standing, octets_limit}
-use Rattle.effects.specs.declared.Effect.{Effect}
 use Rattle.effects.specs.Effects.{effect_of, standing_after}
-use Rattle.framing.specs.declared.Framed.{Framed}
 use Rattle.framing.specs.Framing.{channels_of}
 use Rattle.framing.specs.AnyNumbers.{framed_by}
 use Rattle.records.specs.Records.{outdated}
@@ -43,7 +43,6 @@ use Rattle.verdict.proofs.Steps.{meaning_steps, step_grown, waveform_found, wave
 use Rattle.verdict.proofs.Frames.{frame-carried, count-few, taken_root}
 use Rattle.verdict.proofs.Settled.{carried-count, carried-all, carried_one}
 use Rattle.walk.specs.declared.Waveform.{Waveform}
-use Rattle.walk.specs.declared.Step.{Step}
 use Rattle.walk.specs.Advance.{Stand, stand, first_stand, stands_for, channels_at, records_at, Turn, on, stops, behind, framed_turn, one_noted, effect_turn, next_turn, turn_of, advance_of}
 use Rattle.walk.specs.Joined.{frame_by, joined_by, joined_in, joined}
 use Rattle.walk.proofs.Turns.{Later, turn_later, advance_on, advance_stops}
@@ -117,10 +116,10 @@ pub record Counts (v : Waveform) (f : Frame) : Type 0 where
   pub long : v.len ≡ length f.waveform
 
 -- What a step from a place comes to: behind one frame more, or the verdict, 15 left out.
-abbrev pub StepStands : List ℕ → List Frame → ℕ → Step → Stand → Type 0
-StepStands s met at (Step.Frame v) y = (at < y.cursor.at) × (y.cursor.at ≤ length s) × Stands s (met ++ (frame_by s v y ∷ [])) y × Counts v (frame_by s v y)
-StepStands s met at Step.Ended y = accepted met ≡ unlimited s
-StepStands s met at (Step.Refused r) y = refused r ≡ unlimited s
+abbrev pub StepStands : List ℕ → List Frame → ℕ → Result (Option Waveform) Refusal → Stand → Type 0
+StepStands s met at (Ok (Some v)) y = (at < y.cursor.at) × (y.cursor.at ≤ length s) × Stands s (met ++ (frame_by s v y ∷ [])) y × Counts v (frame_by s v y)
+StepStands s met at (Ok None) y = accepted met ≡ unlimited s
+StepStands s met at (Err r) y = refused r ≡ unlimited s
 
 -- What one turn comes to.
 abbrev pub TurnStands : List ℕ → List Frame → ℕ → Turn → Type 0
@@ -140,7 +139,7 @@ module _ {s : List ℕ} {met : List Frame} {x : Stand} (p : Stands s met x) wher
   left = reached-unlimited s p.reached
 
   -- An item that ends within the limit.
-  module _ {i : Item} {d : Cursor} (found : next_of s x.cursor ≡ Found i d) (ends : d.at ≤ octets_limit) where
+  module _ {i : Item} {d : Cursor} (found : next_of s x.cursor ≡ Ok (Some (i, d))) (ends : d.at ≤ octets_limit) where
     forward : (x.cursor.at < length s) × (x.cursor.at < d.at) × (d.at ≤ length s)
     forward = let f = next_found s x.cursor refl found in (omega (arith, f.later, f.inside), f.later, f.inside)
 
@@ -162,10 +161,10 @@ module _ {s : List ℕ} {met : List Frame} {x : Stand} (p : Stands s met x) wher
     stays : (st : Standing) → carried s here (effect_of s x.standing i) ≡ goes (state st (settled_in st.root x.dates x.records) met) → Stands s met (behind x d st x.dates x.records x.frames)
     stays st g = leads-on st x.dates x.records p.full (timely_longer p.kept (omega (arith, further))) g
 
-    refuses-here : (n : ℕ) → carried s here (effect_of s x.standing i) ≡ refuses n → refused (refusal n (place_at i)) ≡ unlimited s
-    refuses-here n g = sym (interpret-refuses s here i (items_from s d) n g) ∙ ap (interpret s here) (sym (items_found s x.cursor i d found)) ∙ left
+    refuses-here : (fault : Fault) → carried s here (effect_of s x.standing i) ≡ refuses fault → refused (refusal fault (place_at i)) ≡ unlimited s
+    refuses-here fault g = sym (interpret-refuses s here i (items_from s d) fault g) ∙ ap (interpret s here) (sym (items_found s x.cursor i d found)) ∙ left
 
-    module _ {start len : ℕ} (a : Effect.Frame start len ≡ effect_of s x.standing i) where
+    module _ {start len : ℕ} (a : Ok (Effect.Frame start len) ≡ effect_of s x.standing i) where
       abbrev count : ℕ
       count = channels_of x.standing.counted
 
@@ -192,12 +191,12 @@ module _ {s : List ℕ} {met : List Frame} {x : Stand} (p : Stands s met x) wher
       whole : len ≡ length (take len (drop start s))
       whole = sym (waveform-long s (waveform_found s x.standing i a refl))
 
-      abbrev given : Framed
+      abbrev given : Result (ℕ × Standing) Fault
       given = framed_by x.frames x.standing laid.agree laid.octets len
 
-      framed_stands : (f : Framed) → given ≡ f → TurnStands s met x.cursor.at (framed_turn x d (place_at i) start len f)
+      framed_stands : (f : Result (ℕ × Standing) Fault) → given ≡ f → TurnStands s met x.cursor.at (framed_turn x d (place_at i) start len f)
       unfolding framed_turn with_frame
-      framed_stands (Framed.Taken n st) e =
+      framed_stands (Ok (n, st)) e =
           let g = frame-carried p.reached p.count 0 laid refl i start len small a refl e in
           let root = taken_root p.reached p.count 0 laid refl i small a refl e in
           let same : stands_for x ≡ settled_in st.root x.dates (records_at x) =
@@ -230,38 +229,38 @@ module _ {s : List ℕ} {met : List Frame} {x : Stand} (p : Stands s met x) wher
             },
             record { channels = ap length there; octets = ap sequence_octets there; long = whole },
           )
-      framed_stands (Framed.Refused n) e = refuses-here n (frame-carried p.reached p.count 0 laid refl i start len small a refl e)
+      framed_stands (Err fault) e = refuses-here fault (frame-carried p.reached p.count 0 laid refl i start len small a refl e)
 
-    effect_stands : (e : Effect) → e ≡ effect_of s x.standing i → TurnStands s met x.cursor.at (effect_turn x d (place_at i) e)
+    effect_stands : (e : Result Effect Fault) → e ≡ effect_of s x.standing i → TurnStands s met x.cursor.at (effect_turn x d (place_at i) e)
     unfolding effect_turn carried layout_of
-    effect_stands Effect.Pass a = stays x.standing (ap (carried s here) (sym a))
-    effect_stands (Effect.Order little) a = stays (standing_after x.standing (Effect.Order little)) (ap (carried s here) (sym a))
-    effect_stands (Effect.Count n) a =
-        leads-on (standing_after x.standing (Effect.Count n)) (all_cleared x.dates) x.records p.full (timely_longer (timely_cleared p.kept room) further)
+    effect_stands (Ok Effect.Pass) a = stays x.standing (ap (carried s here) (sym a))
+    effect_stands (Ok (Effect.Order little)) a = stays (standing_after x.standing (Ok (Effect.Order little))) (ap (carried s here) (sym a))
+    effect_stands (Ok (Effect.Count n)) a =
+        leads-on (standing_after x.standing (Ok (Effect.Count n))) (all_cleared x.dates) x.records p.full (timely_longer (timely_cleared p.kept room) further)
         (ap (carried s here) (sym a) ∙ carried-count s x.standing x.dates x.records met p.kept p.full n)
-    effect_stands (Effect.Sequences n) a = stays (standing_after x.standing (Effect.Sequences n)) (ap (carried s here) (sym a))
-    effect_stands (Effect.Start z) a = stays (standing_after x.standing (Effect.Start z)) (ap (carried s here) (sym a))
-    effect_stands (Effect.All ch) a =
-        leads-on (standing_after x.standing (Effect.All ch)) (root_defined ch x.dates) x.records p.full (timely_longer (timely_root p.kept room ch) further)
+    effect_stands (Ok (Effect.Sequences n)) a = stays (standing_after x.standing (Ok (Effect.Sequences n))) (ap (carried s here) (sym a))
+    effect_stands (Ok (Effect.Start z)) a = stays (standing_after x.standing (Ok (Effect.Start z))) (ap (carried s here) (sym a))
+    effect_stands (Ok (Effect.All ch)) a =
+        leads-on (standing_after x.standing (Ok (Effect.All ch))) (root_defined ch x.dates) x.records p.full (timely_longer (timely_root p.kept room ch) further)
         (ap (carried s here) (sym a) ∙ carried-all s x.standing x.dates x.records met p.kept p.full ch room)
-    effect_stands (Effect.One channel ch) a =
+    effect_stands (Ok (Effect.One channel ch)) a =
         leads-on x.standing x.dates (one_noted x channel (applied ch)) (length-set x.records channel _ ∙ p.full) (timely_longer (timely_set p.kept channel _) (omega (arith, further)))
         (ap (carried s here) (sym a) ∙ carried_one s x.standing x.dates x.records met p.kept p.full channel ch)
-    effect_stands (Effect.Frame start len) a =
+    effect_stands (Ok (Effect.Frame start len)) a =
         subst (λ (cs : List Settings). TurnStands s met x.cursor.at (framed_turn x d (place_at i) start len (framed_by x.frames x.standing (all_agree cs) (sequence_octets cs) len))) (sym (shown a)) (framed_stands a (given a) refl)
-    effect_stands (Effect.Refused n) a = refuses-here n (ap (carried s here) (sym a))
+    effect_stands (Err fault) a = refuses-here fault (ap (carried s here) (sym a))
 
   -- What one turn comes to, where the item ends within the limit.
-  abbrev pub Near : Next → Type 0
-  Near (Next.Found i d) = d.at ≤ octets_limit
-  Near Next.End = Unit {0}
-  Near (Next.Refused r) = Unit {0}
+  abbrev pub Near : Result (Option (Item × Cursor)) Refusal → Type 0
+  Near (Ok (Some (i, d))) = d.at ≤ octets_limit
+  Near (Ok None) = Unit {0}
+  Near (Err r) = Unit {0}
 
-  next-stands : (n : Next) → next_of s x.cursor ≡ n → Near n → TurnStands s met x.cursor.at (next_turn s x n)
+  next-stands : (n : Result (Option (Item × Cursor)) Refusal) → next_of s x.cursor ≡ n → Near n → TurnStands s met x.cursor.at (next_turn s x n)
   unfolding next_turn interpret
-  next-stands (Next.Found i d) e h = effect_stands e h (effect_of s x.standing i) refl
-  next-stands Next.End e h = ap (interpret s here) (sym (items_end s x.cursor e)) ∙ left
-  next-stands (Next.Refused r) e h = ap (interpret s here) (sym (items_refused s x.cursor r e)) ∙ left
+  next-stands (Ok (Some (i, d))) e h = effect_stands e h (effect_of s x.standing i) refl
+  next-stands (Ok None) e h = ap (interpret s here) (sym (items_end s x.cursor e)) ∙ left
+  next-stands (Err r) e h = ap (interpret s here) (sym (items_refused s x.cursor r e)) ∙ left
 
   pub turn_stands : Near (next_of s x.cursor) → TurnStands s met x.cursor.at (turn_of s x)
   unfolding turn_of
@@ -270,25 +269,25 @@ module _ {s : List ℕ} {met : List Frame} {x : Stand} (p : Stands s met x) wher
 -- ---- an advance
 
 -- What an advance from a place comes to: behind one frame more, or the verdict.
-abbrev pub StepReaches : List ℕ → List Frame → ℕ → Step → Stand → Type 0
-StepReaches s met at (Step.Frame v) y = (at < y.cursor.at) × (y.cursor.at ≤ length s) × Reaches s (met ++ (frame_by s v y ∷ [])) y × Counts v (frame_by s v y)
-StepReaches s met at Step.Ended y = accepted met ≡ verdict s
-StepReaches s met at (Step.Refused r) y = refused r ≡ verdict s
+abbrev pub StepReaches : List ℕ → List Frame → ℕ → Result (Option Waveform) Refusal → Stand → Type 0
+StepReaches s met at (Ok (Some v)) y = (at < y.cursor.at) × (y.cursor.at ≤ length s) × Reaches s (met ++ (frame_by s v y ∷ [])) y × Counts v (frame_by s v y)
+StepReaches s met at (Ok None) y = accepted met ≡ verdict s
+StepReaches s met at (Err r) y = refused r ≡ verdict s
 
-step_reaches : (s : List ℕ) (met : List Frame) (at : ℕ) → length s ≤ octets_limit → (k : Step) (y : Stand) → StepStands s met at k y → StepReaches s met at k y
-step_reaches s met at h (Step.Frame v) y r = (r.0, r.1, record { long = h; stands = r.2 }, r.3)
-step_reaches s met at h Step.Ended y r = r ∙ sym (within_limit s h)
-step_reaches s met at h (Step.Refused q) y r = r ∙ sym (within_limit s h)
+step_reaches : (s : List ℕ) (met : List Frame) (at : ℕ) → length s ≤ octets_limit → (k : Result (Option Waveform) Refusal) (y : Stand) → StepStands s met at k y → StepReaches s met at k y
+step_reaches s met at h (Ok (Some v)) y r = (r.0, r.1, record { long = h; stands = r.2 }, r.3)
+step_reaches s met at h (Ok None) y r = r ∙ sym (within_limit s h)
+step_reaches s met at h (Err q) y r = r ∙ sym (within_limit s h)
 
 -- What one turn comes to.
 abbrev TurnReaches : List ℕ → List Frame → ℕ → Turn → Type 0
 TurnReaches s met at (on y) = Reaches s met y
 TurnReaches s met at (stops z) = StepReaches s met at z.step z.at
 
-near_found : {s : List ℕ} {met : List Frame} {x : Stand} (p : Stands s met x) → length s ≤ octets_limit → (n : Next) → next_of s x.cursor ≡ n → Near p n
-near_found {s} {x = x} p h (Next.Found i d) e = omega (arith, (next_found s x.cursor refl e).inside)
-near_found p h Next.End e = tt
-near_found p h (Next.Refused r) e = tt
+near_found : {s : List ℕ} {met : List Frame} {x : Stand} (p : Stands s met x) → length s ≤ octets_limit → (n : Result (Option (Item × Cursor)) Refusal) → next_of s x.cursor ≡ n → Near p n
+near_found {s} {x = x} p h (Ok (Some (i, d))) e = omega (arith, (next_found s x.cursor refl e).inside)
+near_found p h (Ok None) e = tt
+near_found p h (Err r) e = tt
 
 turn_reaches : {s : List ℕ} {met : List Frame} {x : Stand} → Reaches s met x → TurnReaches s met x.cursor.at (turn_of s x)
 turn_reaches {s} {met} {x} p = by (turn_of s x) (turn_stands p.stands (near_found p.stands p.long (next_of s x.cursor) refl))
@@ -297,10 +296,10 @@ turn_reaches {s} {met} {x} p = by (turn_of s x) (turn_stands p.stands (near_foun
     by (on y) q = record { long = p.long; stands = q }
     by (stops z) q = step_reaches s met x.cursor.at p.long z.step z.at q
 
-further_back : (s : List ℕ) (met : List Frame) {a b : ℕ} → a ≤ b → (k : Step) (y : Stand) → StepReaches s met b k y → StepReaches s met a k y
-further_back s met h (Step.Frame v) y r = (omega (arith, r.0), r.1, r.2, r.3)
-further_back s met h Step.Ended y r = r
-further_back s met h (Step.Refused q) y r = r
+further_back : (s : List ℕ) (met : List Frame) {a b : ℕ} → a ≤ b → (k : Result (Option Waveform) Refusal) (y : Stand) → StepReaches s met b k y → StepReaches s met a k y
+further_back s met h (Ok (Some v)) y r = (omega (arith, r.0), r.1, r.2, r.3)
+further_back s met h (Ok None) y r = r
+further_back s met h (Err q) y r = r
 
 by_octets : (s : List ℕ) (met : List Frame) (k : ℕ) (x : Stand) → length s - x.cursor.at < k → Reaches s met x → StepReaches s met x.cursor.at (advance_of s x).step (advance_of s x).at
 by_octets s met zero x h p = let z : ⊥ = omega arith in absurd z
@@ -324,11 +323,11 @@ unfolding joined_in joined_by
 joined_in_lem s met zero x h p = let z : ⊥ = omega arith in absurd z
 joined_in_lem s met (suc k) x h p = by_step (advance_of s x).step (advance_of s x).at (advance_reaches p) (λ fs y l q. joined_in_lem s fs k y l q)
   where
-    by_step : (j : Step) (y : Stand) → StepReaches s met x.cursor.at j y
+    by_step : (j : Result (Option Waveform) Refusal) (y : Stand) → StepReaches s met x.cursor.at j y
         → ((fs : List Frame) (z : Stand) → length s - z.cursor.at < k → Reaches s fs z → joined_in k s fs z ≡ verdict s) → joined_by (joined_in k s) s met j y ≡ verdict s
-    by_step (Step.Frame v) y r ih = ih (met ++ (frame_by s v y ∷ [])) y (omega (arith, r.0, r.1)) r.2
-    by_step Step.Ended y r ih = r
-    by_step (Step.Refused q) y r ih = r
+    by_step (Ok (Some v)) y r ih = ih (met ++ (frame_by s v y ∷ [])) y (omega (arith, r.0, r.1)) r.2
+    by_step (Ok None) y r ih = r
+    by_step (Err q) y r ih = r
 
 -- The frames that a walk stops at, from the first item on, are the verdict's.
 pub joined-verdict : (s : List ℕ) → length s ≤ octets_limit → joined s [] first_stand ≡ verdict s

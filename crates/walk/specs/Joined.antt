@@ -1,12 +1,12 @@
 -- The frames that successive advances stop at, joined.
-use Rattle.std.specs.Prelude.{ℕ, zero, suc, ◌-◌, List, [], ◌∷◌, ◌++◌, length, take}
+use Rattle.heads.specs.declared.Refusal.{Refusal}
+use Rattle.std.specs.Prelude.{ℕ, zero, suc, ◌-◌, List, [], ◌∷◌, ◌++◌, length, take, Result, Ok, Err, Option, Some, None}
 use Rattle.dated.specs.Dated.{held}
 use Rattle.layout.specs.Frame.{Frame}
 use Rattle.effects.specs.Effects.{value_at}
 use Rattle.verdict.specs.Verdict.{Verdict, accepted, refused}
 use Rattle.walk.specs.declared.Waveform.{Waveform}
-use Rattle.walk.specs.declared.Step.{Step}
-use Rattle.walk.specs.Advance.{Stand, Stop, advance_of}
+use Rattle.walk.specs.Advance.{Stand, advance_of}
 
 -- The frame that a walk has stopped behind: the records of its channels are up to date.
 abbrev pub frame_by : List ℕ → Waveform → Stand → Frame
@@ -21,10 +21,10 @@ frame_by s v x =
     }
 
 -- Frame after frame, up to the end or the refusal.
-unfoldable pub joined_by : (List Frame → Stand → Verdict) → List ℕ → List Frame → Step → Stand → Verdict
-joined_by more s met (Step.Frame v) y = more (met ++ (frame_by s v y ∷ [])) y
-joined_by more s met Step.Ended y = accepted met
-joined_by more s met (Step.Refused r) y = refused r
+unfoldable pub joined_by : (List Frame → Stand → Verdict) → List ℕ → List Frame → Result (Option Waveform) Refusal → Stand → Verdict
+joined_by more s met (Ok (Some v)) y = more (met ++ (frame_by s v y ∷ [])) y
+joined_by more s met (Ok None) y = accepted met
+joined_by more s met (Err r) y = refused r
 
 unfoldable pub joined_in : ℕ → List ℕ → List Frame → Stand → Verdict
 joined_in zero s met x = accepted met

@@ -16,9 +16,8 @@ ghost use Rattle.walk.specs.Advance.{waveform_by, moved_to, first_head, Advances
 
 use dated::Dates;
 use effects::Effect;
-use framing::Framed;
-use heads::Refusal;
-use items::{Cursor, Item, Next};
+use heads::{Fault, Refusal};
+use items::{Cursor, Item};
 use settings::Settings;
 use standing::Standing;
 
@@ -34,14 +33,6 @@ pub struct Waveform {
     pub octets: u64,
 }
 
-// What a walk comes to.
-#[derive(Clone, Copy)]
-pub enum Step {
-    Frame(Waveform),
-    Ended,
-    Refused(Refusal),
-}
-
 // Where a walk stands, besides the channels' records.
 #[derive(Clone, Copy)]
 pub struct Head {
@@ -55,16 +46,16 @@ pub struct Head {
 // What a walk has come to, and where it stands then.
 #[derive(Clone, Copy)]
 pub struct Moved {
-    pub step: Step,
+    pub step: Result<Option<Waveform>, Refusal>,
     pub head: Head,
 }
 
 // A refused item decides at its place.
-fn refused_at(number: u8, item: Item) -> Step
-    ensures { result ≡ Step.Refused (refusal number (place_at item)) }
+fn refused_at(fault: Fault, item: Item) -> Result<Option<Waveform>, Refusal>
+    ensures { result ≡ Err (refusal fault (place_at item)) }
 {
-    Step::Refused(Refusal {
-        number,
+    Err(Refusal {
+        fault,
         place: verdict::place_of(item),
     })
 }
@@ -87,7 +78,7 @@ fn taken(st: Standing, n: usize, sequences: u32, start: usize, len: usize, octet
 
 // A walk that has come to a step.
 fn come_to(
-    step: Step,
+    step: Result<Option<Waveform>, Refusal>,
     cursor: Cursor,
     standing: Standing,
     dates: Dates,
@@ -137,72 +128,67 @@ pub fn advance(s: &[u8], h: Head, t: &mut [u64]) -> Moved
     let frames = h.frames;
     loop {
         match items::next_item(s, c) {
-            Next::End => {
-                return come_to(Step::Ended, c, st, dates, items, frames);
+            Ok(None) => {
+                return come_to(Ok(None), c, st, dates, items, frames);
             }
-            Next::Refused(x) => {
-                return come_to(Step::Refused(x), c, st, dates, items, frames);
+            Err(x) => {
+                return come_to(Err(x), c, st, dates, items, frames);
             }
-            Next::Found(item, next) => {
+            Ok(Some((item, next))) => {
                 let d = next.renewed();
                 let read = std::num::wrapping_add_u64(items, 1);
-                let effect = effects::item_effect(s, st, item);
-                match effect {
-                    Effect::Count(_) => {
-                        dates = dates.cleared();
-                        st = effects::standing_after(st, effect);
-                        c = d;
-                        items = read;
+                match effects::item_effect(s, st, item) {
+                    Err(fault) => {
+                        return come_to(refused_at(fault, item), c, st, dates, items, frames);
                     }
-                    Effect::All(change) => {
-                        dates = dates.defined(change);
-                        st = effects::standing_after(st, effect);
-                        c = d;
-                        items = read;
-                    }
-                    Effect::One(channel, change) => {
-                        let k = channel as usize;
-                        let stood = records::settled(t, k, st.root, dates);
-                        words::put(t, k, dates.note(settings::apply(stood, change)));
-                        c = d;
-                        items = read;
-                    }
-                    Effect::Frame { start, len } => {
-                        let count = framing::channels_of(st.counted) as usize;
-                        let n = records::at_most(t, count);
-                        let l = records::refresh(t, count, st.root, dates);
-                        match framing::frame_of(frames, st, l.agree, l.octets, len) {
-                            Framed::Refused(number) => {
-                                return come_to(
-                                    refused_at(number, item),
-                                    c,
-                                    st,
-                                    dates,
-                                    items,
-                                    frames,
-                                );
-                            }
-                            Framed::Taken(sequences, after) => {
-                                let frame = taken(st, n, sequences, start, len, l.octets);
-                                return come_to(
-                                    Step::Frame(frame),
-                                    d,
-                                    after,
-                                    dates,
-                                    read,
-                                    frames + 1,
-                                );
+                    Ok(effect) => match effect {
+                        Effect::Count(_) => {
+                            dates = dates.cleared();
+                            st = effects::standing_after(st, effect);
+                            c = d;
+                            items = read;
+                        }
+                        Effect::All(change) => {
+                            dates = dates.defined(change);
+                            st = effects::standing_after(st, effect);
+                            c = d;
+                            items = read;
+                        }
+                        Effect::One(channel, change) => {
+                            let k = channel as usize;
+                            let stood = records::settled(t, k, st.root, dates);
+                            words::put(t, k, dates.note(settings::apply(stood, change)));
+                            c = d;
+                            items = read;
+                        }
+                        Effect::Frame { start, len } => {
+                            let count = framing::channels_of(st.counted) as usize;
+                            let n = records::at_most(t, count);
+                            let l = records::refresh(t, count, st.root, dates);
+                            match framing::frame_of(frames, st, l.agree, l.octets, len) {
+                                Err(fault) => {
+                                    let refused = refused_at(fault, item);
+                                    return come_to(refused, c, st, dates, items, frames);
+                                }
+                                Ok((sequences, after)) => {
+                                    let frame = taken(st, n, sequences, start, len, l.octets);
+                                    return come_to(
+                                        Ok(Some(frame)),
+                                        d,
+                                        after,
+                                        dates,
+                                        read,
+                                        frames + 1,
+                                    );
+                                }
                             }
                         }
-                    }
-                    Effect::Refused(number) => {
-                        return come_to(refused_at(number, item), c, st, dates, items, frames);
-                    }
-                    _ => {
-                        st = effects::standing_after(st, effect);
-                        c = d;
-                        items = read;
-                    }
+                        _ => {
+                            st = effects::standing_after(st, effect);
+                            c = d;
+                            items = read;
+                        }
+                    },
                 }
             }
         }

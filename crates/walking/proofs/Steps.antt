@@ -5,23 +5,22 @@
 --     begins_when           words that begin a walk
 --     goes-few, goes_on     too few words, and words that go on
 -- Assumes nothing.
+use Rattle.std.specs.Prelude.{Result, Ok, Err, Option, None}
 use mathlib.Core.Path.{◌≡◌, refl, sym, ap, subst, ◌∙◌}
 use mathlib.Core.Bool.{Bool, false}
 use mathlib.Core.List.{List, [], ◌++◌, append-nil, map}
-use Prim.Native.Nat.{ℕ, ◌+◌, ◌-◌, ◌≤◌, ◌<◌}
+use Prim.Native.Nat.{ℕ, ◌-◌, ◌≤◌, ◌<◌}
 use native.Mathlib.Omega.{arith}
 use borrow.Author.Tests.{le-leb, lt-leb}
 use lib.ListN.{length, take, drop, length-drop, length-append, drop_of_length-le}
 use lib.Seq.{drop_at, length-take-le}
 use Rattle.octets.specs.Pick.{pick}
 use Rattle.heads.specs.declared.Refusal.{Refusal}
-use Rattle.heads.specs.Answer.{Answer}
+use Rattle.heads.specs.Answer.{Answer, answer_of}
 use Rattle.words.specs.Words.{records_in, Holding}
 use Rattle.records.specs.Records.{outdated, PastKept}
-use Rattle.verdict.specs.declared.Checked.{Checked}
-use Rattle.verdict.specs.Verdict.{checked_says, check_of}
+use Rattle.verdict.specs.Verdict.{check_of}
 use Rattle.walk.specs.declared.Waveform.{Waveform}
-use Rattle.walk.specs.declared.Step.{Step}
 use Rattle.walk.specs.declared.Head.{Head}
 use Rattle.dated.specs.Dated.{first_dates}
 use Rattle.standing.specs.Standing.{first_standing}
@@ -94,11 +93,11 @@ module _ (u x : List ℕ) (room : head_words ≤ length u) {h : Head} {f : Wavef
       }
 
   -- The head that an advance has come to.
-  pub goes_on : {s : List ℕ} {g : Head} {k : Step} → Advances s g (lent head_words u) (record { step = k; head = h }) x → g ≡ head_in u → f ≡ frame_told k → Goes s u k v
+  pub goes_on : {s : List ℕ} {g : Head} {k : Result (Option Waveform) Refusal} → Advances s g (lent head_words u) (record { step = k; head = h }) x → g ≡ head_in u → f ≡ frame_told k → Goes s u k v
   goes_on {s} {g} {k} a e d =
       let from : advance_of s (stand_of g (lent head_words u)) ≡ advance_of s (stand_in u) = λ i. advance_of s (stand_of (e i) (lent_all head_words u i)) in
       record {
-        same = ap (stop k) stand-kept ∙ a.same ∙ from ∙ sym (can_hold u (advance_of s (stand_in u)) (stop Step.Ended (stand_in u)) room);
+        same = ap (stop k) stand-kept ∙ a.same ∙ from ∙ sym (can_hold u (advance_of s (stand_in u)) (stop (Ok None) (stand_in u)) room);
         tells = frame-kept ∙ d ∙ sym (can_hold u (frame_told k) (waveform_in u) room);
         long = long_kept;
         past = subst (λ (w : List ℕ). PastKept w (drop head_words v)) (lent_all head_words u) (subst (PastKept (lent head_words u)) (sym (p.rest ∙ back_behind head_words u x room)) a.past);
@@ -107,11 +106,11 @@ module _ (u x : List ℕ) (room : head_words ≤ length u) {h : Head} {f : Wavef
       }
 
 -- Too few words stay as they are, and are at the end.
-pub goes-few : (s u : List ℕ) → length u < head_words → Goes s u Step.Ended u
+pub goes-few : (s u : List ℕ) → length u < head_words → Goes s u (Ok None) u
 goes-few s u h =
     record {
-      same = sym (cannot_hold u (advance_of s (stand_in u)) (stop Step.Ended (stand_in u)) h);
-      tells = sym (cannot_hold u (frame_told Step.Ended) (waveform_in u) h);
+      same = sym (cannot_hold u (advance_of s (stand_in u)) (stop (Ok None) (stand_in u)) h);
+      tells = sym (cannot_hold u (frame_told (Ok None)) (waveform_in u) h);
       long = refl;
       past = record { same = λ m j. refl };
       below = tt;
@@ -134,12 +133,12 @@ begun-few u h = not-begun u (lt-leb head_words (length u) h)
 -- ---- a file opened
 
 module _ (s u : List ℕ) where
-  pub opens_refused : {x : Refusal} → checked_says (Checked.Refused x) ≡ check_of s → Opens s u (Checked.Refused x) u
+  pub opens_refused : {x : Refusal} → answer_of (Err x) ≡ check_of s → Opens s u (Err x) u
   opens_refused e = record { answers = e; words = not-begun u (ap (λ (a : Answer ℕ). walk_begins a u) (sym e)) }
 
-  pub opens_begun : {n : ℕ} {v : List ℕ} → checked_says (Checked.Frames n) ≡ check_of s → Begun (holds_head u) u v → Opens s u (Checked.Frames n) v
+  pub opens_begun : {n : ℕ} {v : List ℕ} → answer_of (Ok n) ≡ check_of s → Begun (holds_head u) u v → Opens s u (Ok n) v
   opens_begun {v = v} e b = record { answers = e; words = subst (λ (t : Bool). Begun t u v) (ap (λ (a : Answer ℕ). walk_begins a u) e) b }
 
   -- Words that can hold a head begin a walk over an accepted file.
-  pub begins_when : {n : ℕ} → head_words ≤ length u → checked_says (Checked.Frames n) ≡ check_of s → {A : Type 0} (a b : A) → pick (walk_begins (check_of s) u) a b ≡ a
+  pub begins_when : {n : ℕ} → head_words ≤ length u → answer_of (Ok n) ≡ check_of s → {A : Type 0} (a b : A) → pick (walk_begins (check_of s) u) a b ≡ a
   begins_when h e a b = ap (λ (t : Bool). pick t a b) (ap (λ (x : Answer ℕ). walk_begins x u) (sym e) ∙ le-leb head_words (length u) h)

@@ -2,6 +2,7 @@
 --     walked_is, walked_some    the frame is one of the file's, and has a channel
 --     walked_seen     the channel of the frame that the last step told of, for any channel number
 -- Assumes nothing.
+use Rattle.std.specs.Prelude.{Ok, Some}
 use mathlib.Core.Path.{◌≡◌, sym, ap, ◌∙◌}
 use mathlib.Core.Bool.{Bool, true}
 use mathlib.Core.List.{List, [], ◌∷◌, ◌++◌, append_assoc}
@@ -13,7 +14,7 @@ use lib.Dec.{ltb}
 use lib.ListN.{length, get_or, length-append}
 use lib.Seq.{get_or-append_seam}
 use Rattle.octets.specs.Pick.{pick}
-use Rattle.heads.specs.Refusals.{no_frame, no_channel}
+use Rattle.heads.specs.declared.Fault.TheVariants.{NoFrame, NoChannel}
 use Rattle.heads.specs.Answer.{Answer, answered, refused_as}
 use Rattle.layout.specs.Frame.{Frame}
 use Rattle.view.specs.declared.View.{View}
@@ -22,7 +23,6 @@ use Rattle.pass.specs.Scan.{zero_frame}
 use Rattle.reader.specs.Answer.{asked, seen_of}
 use Rattle.reader.proofs.Ordered.{accepted-lies}
 use Rattle.walk.specs.declared.Waveform.{Waveform}
-use Rattle.walk.specs.declared.Step.{Step}
 use Rattle.walk.specs.Joined.{frame_by}
 use Rattle.walk.proofs.Joins.{reaches_grown}
 use Rattle.kept.specs.Words.{waveform_in}
@@ -32,7 +32,7 @@ use Rattle.walking.specs.Views.{view_in}
 use Rattle.walking.proofs.Walked.{Walked, walked_frame, walked_counts}
 use Rattle.walking.proofs.Views.{walked_room, walked_told, view_past, walked_view}
 
-module _ {s : List ℕ} {met : List Frame} {u v : List ℕ} {x : Waveform} (p : Walked s met u) (g : Goes s u (Step.Frame x) v) where
+module _ {s : List ℕ} {met : List Frame} {u v : List ℕ} {x : Waveform} (p : Walked s met u) (g : Goes s u (Ok (Some x)) v) where
   abbrev frame : Frame
   frame = frame_by s x (stand_in v)
 
@@ -60,7 +60,7 @@ module _ {s : List ℕ} {met : List Frame} {u v : List ℕ} {x : Waveform} (p : 
   module _ (c : ℕ) where
     -- What the question answers of the frame.
     abbrev answer : Bool → Bool → Frame → Answer View
-    answer a b f = pick a (pick b (answered (view_of c f)) (refused_as no_channel 0)) (refused_as no_frame 0)
+    answer a b f = pick a (pick b (answered (view_of c f)) (refused_as NoChannel 0)) (refused_as NoFrame 0)
 
     seen : {b : Bool} → ltb c (length frame.channels) ≡ b → answer true b frame ≡ seen_of s (length met) c
     unfolding seen_of

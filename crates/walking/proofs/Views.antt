@@ -2,6 +2,7 @@
 --     view_few, view_none, view_past, view_there    too few words, no frame, no such channel, a channel
 --     walked_room, walked_told, walked_view     after a step to a frame the words tell of it, and hold the views of its channels
 -- Assumes nothing.
+use Rattle.std.specs.Prelude.{Ok, Some}
 use mathlib.Core.Path.{◌≡◌, refl, sym, ap, ◌∙◌}
 use mathlib.Core.Bool.{Bool, true}
 use mathlib.Core.List.{List}
@@ -12,7 +13,7 @@ use lib.Dec.{ltb}
 use lib.ListN.{length, drop, get_or, length-take}
 use lib.Seq.{take-take, get_or-take}
 use Rattle.octets.specs.Pick.{pick, both}
-use Rattle.heads.specs.Refusals.{no_frame, no_channel}
+use Rattle.heads.specs.declared.Fault.TheVariants.{NoFrame, NoChannel}
 use Rattle.heads.specs.Answer.{Answer, answered, refused_as}
 use Rattle.settings.specs.Settings.{default_settings, zero_settings}
 use Rattle.dated.specs.Dated.{zero_dated, held}
@@ -22,7 +23,6 @@ use Rattle.view.specs.declared.View.{View}
 use Rattle.view.specs.View.{view_of}
 use Rattle.words.specs.Words.{records_in, below_in}
 use Rattle.walk.specs.declared.Waveform.{Waveform}
-use Rattle.walk.specs.declared.Step.{Step}
 use Rattle.walk.specs.Joined.{frame_by}
 use Rattle.walk.proofs.Joins.{Counts}
 use Rattle.kept.specs.Words.{head_words, holds_head, waveform_in}
@@ -36,27 +36,27 @@ use Rattle.walking.proofs.Walked.{Walked, walked_counts}
 
 module _ (u : List ℕ) (channel : ℕ) where
   abbrev answer : Bool → Bool → Bool → Answer View
-  answer a b c = pick (both a b) (pick c (answered (view_kept u channel)) (refused_as no_channel 0)) (refused_as no_frame 0)
+  answer a b c = pick (both a b) (pick c (answered (view_kept u channel)) (refused_as NoChannel 0)) (refused_as NoFrame 0)
 
   by_tests : {a b c : Bool} → holds_head u ≡ a → ltb 0 (waveform_in u).channels ≡ b → ltb channel (waveform_in u).channels ≡ c → answer a b c ≡ view_in u channel
   unfolding view_in
   by_tests p q r = λ i. answer (sym p i) (sym q i) (sym r i)
 
-  pub view_few : length u < head_words → refused_as no_frame 0 ≡ view_in u channel
+  pub view_few : length u < head_words → refused_as NoFrame 0 ≡ view_in u channel
   view_few h = by_tests (lt-leb head_words (length u) h) refl refl
 
   module _ (room : head_words ≤ length u) where
     there : holds_head u ≡ true
     there = le-leb head_words (length u) room
 
-    pub view_none : (waveform_in u).channels ≡ 0 → refused_as no_frame 0 ≡ view_in u channel
+    pub view_none : (waveform_in u).channels ≡ 0 → refused_as NoFrame 0 ≡ view_in u channel
     view_none e = by_tests there (le-ltb 0 (waveform_in u).channels (omega arith)) refl
 
     module _ (some : 0 < (waveform_in u).channels) where
       has : ltb 0 (waveform_in u).channels ≡ true
       has = lt-ltb 0 (waveform_in u).channels some
 
-      pub view_past : (waveform_in u).channels ≤ channel → refused_as no_channel 0 ≡ view_in u channel
+      pub view_past : (waveform_in u).channels ≤ channel → refused_as NoChannel 0 ≡ view_in u channel
       view_past h = by_tests there has (le-ltb channel (waveform_in u).channels h)
 
       pub view_there : channel < (waveform_in u).channels → answered (view_kept u channel) ≡ view_in u channel
@@ -64,7 +64,7 @@ module _ (u : List ℕ) (channel : ℕ) where
 
 -- ---- after a step to a frame
 
-module _ {s : List ℕ} {met : List Frame} {u v : List ℕ} {x : Waveform} (p : Walked s met u) (g : Goes s u (Step.Frame x) v) where
+module _ {s : List ℕ} {met : List Frame} {u v : List ℕ} {x : Waveform} (p : Walked s met u) (g : Goes s u (Ok (Some x)) v) where
   abbrev rest : List ℕ
   rest = drop head_words v
 

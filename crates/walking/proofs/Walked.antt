@@ -6,6 +6,7 @@
 --     walked_ended    at the end the frames met are all frames of the file
 --     walked_never    no step is a refusal
 -- Assumes nothing.
+use Rattle.std.specs.Prelude.{Result, Ok, Err, Option, Some, None}
 use mathlib.Core.Path.{◌≡◌, sym, subst, ◌∙◌}
 use mathlib.Core.List.{List, [], ◌∷◌, ◌++◌}
 use Prim.Native.Nat.{ℕ, ◌≤◌}
@@ -15,10 +16,8 @@ use Rattle.heads.specs.declared.Refusal.{Refusal}
 use Rattle.layout.specs.Frame.{Frame}
 use Rattle.words.specs.Words.{table_words, records_in}
 use Rattle.words.proofs.Laws.{records-full}
-use Rattle.verdict.specs.declared.Checked.{Checked}
 use Rattle.verdict.specs.Verdict.{accepted, refused, verdict}
 use Rattle.walk.specs.declared.Waveform.{Waveform}
-use Rattle.walk.specs.declared.Step.{Step}
 use Rattle.walk.specs.Advance.{Stop, stop, advance_of}
 use Rattle.walk.specs.Joined.{frame_by}
 use Rattle.walk.proofs.Joins.{Reaches, Counts, StepReaches, reaches_cleared, advance_reaches}
@@ -39,7 +38,7 @@ pub record Walked (s : List ℕ) (met : List Frame) (w : List ℕ) : Type 0 wher
 
 -- ---- opened
 
-pub walked_open : {s u v : List ℕ} {n : ℕ} → length u ≡ walk_words → Opens s u (Checked.Frames n) v → Walked s [] v
+pub walked_open : {s u v : List ℕ} {n : ℕ} → length u ≡ walk_words → Opens s u (Ok n) v → Walked s [] v
 walked_open {s} {u} {v} {n} l o =
     let a = (check-accepted s n).0 (sym o.answers) in
     let room : head_words ≤ length u = omega arith in
@@ -56,22 +55,22 @@ walked_open {s} {u} {v} {n} l o =
 
 module _ {s : List ℕ} {met : List Frame} {u v : List ℕ} (p : Walked s met u) where
   -- What a step comes to.
-  comes : {k : Step} → Goes s u k v → StepReaches s met (stand_in u).cursor.at k (stand_in v)
+  comes : {k : Result (Option Waveform) Refusal} → Goes s u k v → StepReaches s met (stand_in u).cursor.at k (stand_in v)
   comes {k} g =
       let room : head_words ≤ length u = omega (arith, p.long) in
-      let e : stop k (stand_in v) ≡ advance_of s (stand_in u) = g.same ∙ can_hold u (advance_of s (stand_in u)) (stop Step.Ended (stand_in u)) room in
+      let e : stop k (stand_in v) ≡ advance_of s (stand_in u) = g.same ∙ can_hold u (advance_of s (stand_in u)) (stop (Ok None) (stand_in u)) room in
       subst (λ (z : Stop). StepReaches s met (stand_in u).cursor.at z.step z.at) (sym e) (advance_reaches p.reaches)
 
-  pub walked_frame : {x : Waveform} → Goes s u (Step.Frame x) v → Walked s (met ++ (frame_by s x (stand_in v) ∷ [])) v
+  pub walked_frame : {x : Waveform} → Goes s u (Ok (Some x)) v → Walked s (met ++ (frame_by s x (stand_in v) ∷ [])) v
   walked_frame g = record { all = p.all; is = p.is; long = g.long ∙ p.long; reaches = (comes g).2 }
 
-  pub walked_counts : {x : Waveform} → Goes s u (Step.Frame x) v → Counts x (frame_by s x (stand_in v))
+  pub walked_counts : {x : Waveform} → Goes s u (Ok (Some x)) v → Counts x (frame_by s x (stand_in v))
   walked_counts g = (comes g).3
 
-  pub walked_ended : Goes s u Step.Ended v → verdict s ≡ accepted met
+  pub walked_ended : Goes s u (Ok None) v → verdict s ≡ accepted met
   walked_ended g = sym (comes g)
 
-  pub walked_never : {r : Refusal} → Goes s u (Step.Refused r) v → ⊥
+  pub walked_never : {r : Refusal} → Goes s u (Err r) v → ⊥
   walked_never {r} g =
       let e : refused r ≡ accepted p.all = comes g ∙ p.is in
       let z : ◌≡◌ {A = ℕ} 0 1 = cc in

@@ -1,7 +1,7 @@
 -- The channels of the frame that the last step told of, as words hold them.
 use Rattle.std.specs.Prelude.{List, ℕ, ltb, get_or, drop}
 use Rattle.octets.specs.Pick.{pick, both}
-use Rattle.heads.specs.Refusals.{no_frame, no_channel}
+use Rattle.heads.specs.declared.Fault.TheVariants.{NoFrame, NoChannel}
 use Rattle.heads.specs.Answer.{Answer, answered, refused_as}
 use Rattle.settings.specs.declared.Settings.{Settings}
 use Rattle.dated.specs.Dated.{zero_dated}
@@ -37,5 +37,5 @@ view_kept u channel = view_at (drop head_words u) (waveform_in u) channel
 unfoldable pub view_in : List ℕ → ℕ → Answer View
 view_in u channel =
     pick (both (holds_head u) (ltb 0 (waveform_in u).channels))
-    (pick (ltb channel (waveform_in u).channels) (answered (view_kept u channel)) (refused_as no_channel 0))
-    (refused_as no_frame 0)
+    (pick (ltb channel (waveform_in u).channels) (answered (view_kept u channel)) (refused_as NoChannel 0))
+    (refused_as NoFrame 0)

@@ -9,17 +9,15 @@
 #![tactic(auto)]
 
 ghost use Rattle.std.specs.Prelude.{◌≡◌, ◌≤◌, length};
-ghost use Rattle.reader.specs.Answer.{looked_up_says};
+ghost use Rattle.heads.specs.Answer.{answer_of};
 ghost use Rattle.kept.specs.Words.{head_words, holds_head};
 ghost use Rattle.walking.specs.Views.{view_kept, view_in};
 ghost use Rattle.walking.specs.Steps.{no_waveform, frame_told, Begun, Opens, Goes};
 
-use heads::Refusal;
+use heads::{Fault, Refusal};
 use kept::Kept;
-use reader::LookedUp;
-use verdict::Checked;
 use view::View;
-use walk::{Head, Step, Waveform};
+use walk::{Head, Waveform};
 use words::Records;
 
 // The size of a walk kept in words.
@@ -47,13 +45,13 @@ pub fn no_waveform() -> Waveform
 }
 
 // What a step tells of a frame.
-fn frame_told(step: Step) -> Waveform
+fn frame_told(step: Result<Option<Waveform>, Refusal>) -> Waveform
     ensures { result ≡ frame_told step }
 {
     match step {
-        Step::Frame(v) => v,
-        Step::Ended => no_waveform(),
-        Step::Refused(_) => no_waveform(),
+        Ok(Some(v)) => v,
+        Ok(None) => no_waveform(),
+        Err(_) => no_waveform(),
     }
 }
 
@@ -70,24 +68,20 @@ pub fn begin(w: &mut [u64])
 }
 
 // Checks a file; the words begin a walk over one that is accepted.
-pub fn open(s: &[u8], w: &mut [u64]) -> Checked
+pub fn open(s: &[u8], w: &mut [u64]) -> Result<u32, Refusal>
     ensures { Opens s.now w.old result w.new }
 {
-    match reader::check(s) {
-        Checked::Refused(x) => Checked::Refused(x),
-        Checked::Frames(n) => {
-            begin(w);
-            Checked::Frames(n)
-        }
-    }
+    let n = reader::check(s)?;
+    begin(w);
+    Ok(n)
 }
 
 // From where words stand to the next frame, the end or the refusal.
-pub fn next(s: &[u8], w: &mut [u64]) -> Step
+pub fn next(s: &[u8], w: &mut [u64]) -> Result<Option<Waveform>, Refusal>
     ensures { Goes s.now w.old result w.new }
 {
     if w.len() < Kept::HEAD {
-        return Step::Ended;
+        return Ok(None);
     }
     let rest = Kept::HEAD;
     let h = kept::head_at(w);
@@ -120,25 +114,25 @@ fn view_kept(w: &[u64], channel: u32) -> View
 }
 
 // The same, or why there is none: 20, then 21.
-pub fn view_at(w: &[u64], channel: u32) -> LookedUp
-    ensures { looked_up_says result ≡ view_in w.now channel }
+pub fn view_at(w: &[u64], channel: u32) -> Result<View, Refusal>
+    ensures { answer_of result ≡ view_in w.now channel }
 {
     let none = Refusal {
-        number: Refusal::NO_FRAME,
+        fault: Fault::NoFrame,
         place: 0,
     };
     if w.len() < Kept::HEAD {
-        return LookedUp::Refused(none);
+        return Err(none);
     }
     let v = kept::waveform_at(w);
     if v.channels == 0 {
-        return LookedUp::Refused(none);
+        return Err(none);
     }
     if v.channels <= channel {
-        return LookedUp::Refused(Refusal {
-            number: Refusal::NO_CHANNEL,
+        return Err(Refusal {
+            fault: Fault::NoChannel,
             place: 0,
         });
     }
-    LookedUp::Channel(view_kept(w, channel))
+    Ok(view_kept(w, channel))
 }

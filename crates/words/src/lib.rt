@@ -163,10 +163,7 @@ pub fn get(t: &[u64], k: usize) -> Dated
 pub fn signed_word(z: i64) -> u64
     ensures { twos 8 result ≡ z }
 {
-    if z < 0 {
-        return u64::MAX - (!z) as u64;
-    }
-    z as u64
+    z.cast_unsigned()
 }
 
 // The words of a record's numbers.
@@ -174,21 +171,21 @@ pub fn words_of(x: Dated) -> [u64; Records::NUMBERS]
     ensures { record_by (λ a. get_or result a 0) ≡ x }
 {
     [
-        x.settings.block as u64,
-        x.settings.class as u64,
-        x.settings.lead as u64,
-        x.settings.datatype as u64,
-        x.settings.interval.unit as u64,
-        signed_word(x.settings.interval.exponent as i64),
-        signed_word(x.settings.interval.mantissa as i64),
-        x.settings.resolution.unit as u64,
-        signed_word(x.settings.resolution.exponent as i64),
-        signed_word(x.settings.resolution.mantissa as i64),
-        x.settings.offset.width as u64,
+        u64::from(x.settings.block),
+        u64::from(x.settings.class),
+        u64::from(x.settings.lead),
+        u64::from(x.settings.datatype),
+        u64::from(x.settings.interval.unit),
+        signed_word(i64::from(x.settings.interval.exponent)),
+        signed_word(i64::from(x.settings.interval.mantissa)),
+        u64::from(x.settings.resolution.unit),
+        signed_word(i64::from(x.settings.resolution.exponent)),
+        signed_word(i64::from(x.settings.resolution.mantissa)),
+        u64::from(x.settings.offset.width),
         x.settings.offset.bits,
-        x.settings.null.width as u64,
+        u64::from(x.settings.null.width),
         x.settings.null.bits,
-        x.at as u64,
+        u64::from(x.at),
     ]
 }
 
@@ -197,11 +194,8 @@ fn overlay(t: &mut [u64], i: usize, w: [u64; Records::NUMBERS])
     requires { i + record_numbers ≤ length t.old }
     ensures { Overlaid t.old i w record_numbers t.new }
 {
-    let mut a = 0;
-    while a < Records::NUMBERS {
-        t[i + a] = w[a];
-        a += 1;
-    }
+    let end = i + Records::NUMBERS;
+    t[i..end].copy_from_slice(&w);
 }
 
 // A record stored.

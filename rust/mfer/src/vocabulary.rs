@@ -1,6 +1,7 @@
-//! One vocabulary: refusals and kinds of values have the same names, numbers and words in this crate,
-//! in the header, in the definitions and in Rattle, and the same names in the second program. The
-//! header has this crate's version, arrays of the same sizes, and the same limits.
+//! One vocabulary: refusals have the same names, numbers and words in this crate, in the header and in
+//! Rattle, and the same names and numbers in the definitions and in the second program; kinds of values
+//! have the same in this crate, in the header and in the definitions. The header has this crate's
+//! version, arrays of the same sizes, and the same limits.
 
 use crate::ffi::{self, Sampled};
 use crate::file::File;
@@ -8,7 +9,7 @@ use crate::refusal::REFUSALS;
 use crate::value::{Sample, Value};
 
 const HEADER: &str = include_str!("../../../include/mfer.h");
-const DEFINITIONS: &str = include_str!("../../../crates/heads/specs/Refusals.antt");
+const DEFINITIONS: &str = include_str!("../../../crates/heads/specs/Faults.antt");
 const RATTLE: &str = include_str!("../../../crates/heads/src/lib.rt");
 const VALUES: &str = include_str!("../../../crates/values/specs/Sample.antt");
 const SECOND: &str = include_str!("../../second/src/reader.rs");
@@ -35,7 +36,7 @@ fn table(name: &str) -> Vec<Entry> {
     table.split("X(MFER_").skip(1).map(line).collect()
 }
 
-/// The constants of a `Refusal` in Rattle or Rust, with no words.
+/// The constants of a `Refusal` in Rust, with no words.
 fn constants(source: &str) -> Vec<Entry> {
     let constant = |line: &str| {
         let line = line.trim().strip_prefix("pub const ")?.strip_suffix(';')?;
@@ -45,19 +46,31 @@ fn constants(source: &str) -> Vec<Entry> {
     source.lines().filter_map(constant).collect()
 }
 
-/// The definitions `no_frame = 20`, each with the comment above it, `-- 20: no such frame`.
-fn definitions() -> Vec<Entry> {
-    let definition = |paragraph: &str| {
-        let (comment, rest) = paragraph.strip_prefix("-- ")?.split_once('\n')?;
-        let (said, words) = comment.split_once(": ")?;
-        let (name, number) = rest.lines().nth(1)?.split_once(" = ")?;
-        assert_eq!(said, number, "{name}");
-        Some(entry(&upper(name), number, words))
+/// The variants of `Fault` in Rattle, each with the comment above it, `// 20: no such frame`.
+fn variants() -> Vec<Entry> {
+    let (_, rest) = RATTLE.split_once("pub enum Fault {\n").expect("an enum");
+    let (variants, _) = rest.split_once("\n}\n").expect("an end");
+    let variant = |lines: &[&str]| {
+        let comment = lines[0].trim().strip_prefix("// ").expect("a comment");
+        let (number, words) = comment.split_once(": ").expect("words");
+        let name = lines[1].trim().strip_suffix(',').expect("a variant");
+        entry(&upper(name), number, words)
     };
-    DEFINITIONS.split("\n\n").filter_map(definition).collect()
+    let lines: Vec<&str> = variants.lines().collect();
+    lines.chunks(2).map(variant).collect()
 }
 
-/// `no_frame` and `NoFrame` as `NO_FRAME`.
+/// The lines of a source that give a fault its number, `number_of Fault.NoFrame = 20` or `Fault::NoFrame => 20,`.
+fn numbers(source: &str, begins: &str, between: &str) -> Vec<Entry> {
+    let numbered = |line: &str| {
+        let line = line.trim().strip_prefix(begins)?;
+        let (name, number) = line.trim_end_matches(',').split_once(between)?;
+        Some(entry(&upper(name), number, ""))
+    };
+    source.lines().filter_map(numbered).collect()
+}
+
+/// `NoFrame` as `NO_FRAME`.
 fn upper(name: &str) -> String {
     let mut upper = String::new();
     for letter in name.chars() {
@@ -76,10 +89,11 @@ fn refusals_have_one_vocabulary() {
         .map(|(name, number, words)| entry(name, &number.to_string(), words));
     let here: Vec<Entry> = here.collect();
     assert_eq!(table("MFER_REFUSALS"), here);
-    assert_eq!(definitions(), here);
+    assert_eq!(variants(), here);
     let wordless = |(name, number, _)| (name, number, String::new());
     let here: Vec<Entry> = here.into_iter().map(wordless).collect();
-    assert_eq!(constants(RATTLE), here);
+    assert_eq!(numbers(DEFINITIONS, "number_of Fault.", " = "), here);
+    assert_eq!(numbers(RATTLE, "Fault::", " => "), here);
     assert_eq!(constants(SECOND), here);
 }
 

@@ -1,6 +1,5 @@
 -- The loop's invariant, for each buffer: what is told of the bits that are left gives the buffer that is wanted.
 use mathlib.Core.Path.{ap, ◌∙◌}
-use Prim.Native.Nat.{◌-◌}
 use native.Mathlib.Omega.{arith}
 use mir.Syntax.{w64}
 use mir.Val.{SFits}

@@ -1,9 +1,10 @@
 -- Frame after frame of the walk: what is written so far is the canonical file of the frames met so far.
-use mathlib.Core.Path.{◌≡◌, sym, ◌∙◌}
+use mathlib.Core.Path.{◌≡◌, sym, ap, ◌∙◌}
 use mathlib.Core.List.{[], List, map}
-use Prim.Native.Nat.{ℕ, ◌≤◌, ◌-◌}
+use Prim.Native.Nat.{ℕ, ◌≤◌}
 use native.Mathlib.Omega.{arith}
 use lib.ListN.{length, length-replicate}
+use Rattle.std.specs.Prelude.{Ok, None}
 use Rattle.stores.proofs.Stores.{put_long}
 use Rattle.standing.specs.Standing.{octets_limit}
 use Rattle.words.specs.Words.{table_words, records_in, Holding}
@@ -12,8 +13,7 @@ use Rattle.words.proofs.Laws.{records-full}
 use Rattle.walk.specs.declared.Head.{Head}
 use Rattle.walk.specs.Advance.{first_head, stand_of}
 use Rattle.walk.proofs.Joins.{Reaches, reaches_cleared}
-use Rattle.canonical.proofs.Writing.{ready_small, writing_first, writing_later, frame-start, writing_frame, written_done}
-use borrow.Enum.Refused.{opened}
+use Rattle.canonical.proofs.Writing.{ready_small, writing_first, writing_later, frame-start, writing_frame, written_done, never_done}
 use Rattle.canonical.proofs.write_frames.Goals as goal
 
 -- The walk begins with records that are all of the time before the first item.
@@ -37,23 +37,32 @@ slice_bounds-advance-end c = sym c.loop-v.invariant.1
 
 pub overflow_cast-v : goal.overflow_cast-v
 overflow_cast-v c =
-    frame-start c.loop-v.invariant.0 c.in-Frame.is c.advance-m.ensures.same
+    frame-start c.loop-v.invariant.0 (c.in-Ok-Some.is ∙ ap Ok (rw c.in-Ok-Some.is at c.in-Ok-Some.field-0-is)) c.advance-m.ensures.same
 
 pub loop-v-smaller : goal.loop-v-smaller
 loop-v-smaller c =
-    omega (arith, writing_later c.loop-v.invariant.0 c.in-Frame.is c.advance-m.ensures.same)
+    omega (arith, writing_later c.loop-v.invariant.0 (c.in-Ok-Some.is ∙ ap Ok (rw c.in-Ok-Some.is at c.in-Ok-Some.field-0-is)) c.advance-m.ensures.same)
 
 pub loop-v-preserved : goal.loop-v-preserved
 loop-v-preserved c = (
-  writing_frame c.loop-v.invariant.0 c.in-Frame.is c.advance-m.ensures.same (λ (k : ℕ). omega (arith, c.type_inv.s k))
+  writing_frame c.loop-v.invariant.0 (c.in-Ok-Some.is ∙ ap Ok (rw c.in-Ok-Some.is at c.in-Ok-Some.field-0-is)) c.advance-m.ensures.same (λ (k : ℕ). omega (arith, c.type_inv.s k))
       c.part-w.ensures c.put_frame-at.ensures,
   c.advance-m.ensures.long ∙ c.loop-v.invariant.1,
 )
 
-pub shape_of-out-in_default : goal.shape_of-out-in_default
-shape_of-out-in_default c =
+pub shape_of-out-in-Ok-None : goal.shape_of-out-in-Ok-None
+shape_of-out-in-Ok-None c =
     put_long c.loop-v.invariant.0.put ∙ put_long c.put_order-at.ensures
 
-pub returns-in_default : goal.returns-in_default
-returns-in_default c =
-    written_done c.loop-v.invariant.0 c.advance-m.result.step (opened c.in_default.in_default-own.keys2) c.advance-m.ensures.same c.put_order-at.ensures
+pub returns-in-Ok-None : goal.returns-in-Ok-None
+returns-in-Ok-None c =
+    let is : c.advance-m.result.step ≡ Ok None = c.in-Ok-None.is ∙ ap Ok (rw c.in-Ok-None.is at c.in-Ok-None.field-0-is) in
+    written_done c.loop-v.invariant.0 is c.advance-m.ensures.same c.put_order-at.ensures
+
+pub shape_of-out-in-Err : goal.shape_of-out-in-Err
+shape_of-out-in-Err c =
+    put_long c.loop-v.invariant.0.put ∙ put_long c.put_order-at.ensures
+
+pub returns-in-Err : goal.returns-in-Err
+returns-in-Err c =
+    never_done c.loop-v.invariant.0 _ c.in-Err.is c.advance-m.ensures.same

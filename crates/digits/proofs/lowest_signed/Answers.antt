@@ -9,7 +9,7 @@ use borrow.Author.Rules.{rules}
 use Rattle.digits.proofs.lowest_signed.Goals as goal
 
 pub extended-requires : goal.extended-requires
-extended-requires c = (rw c.at_most_four-k.ensures (min-le_right _ 4), rw c.lowest.ensures (mod-lt _ (range_pos _)))
+extended-requires c = (rw c.min-k.ensures (min-le_right _ 4), rw c.lowest.ensures (mod-lt _ (range_pos _)))
 
 pub returns : goal.returns
-returns c = to_z-of_z {w = w32} (search rules) ∙ c.extended.ensures ∙ rw (c.lowest.ensures, c.at_most_four-k.ensures)
+returns c = to_z-of_z {w = w32} (search rules) ∙ c.extended.ensures ∙ rw (c.lowest.ensures, c.min-k.ensures)

@@ -1,7 +1,7 @@
 -- One width so far, and after the last channel of all.
 use mathlib.Core.Path.{◌≡◌, refl, ap, sym, subst, ◌∙◌}
 use mathlib.Core.List.{List}
-use Prim.Native.Nat.{ℕ, ◌-◌, ◌≤◌, ◌<◌}
+use Prim.Native.Nat.{ℕ, ◌≤◌, ◌<◌}
 use native.Mathlib.Omega.{arith}
 use lib.ListN.{take, get_or}
 use Rattle.settings.specs.declared.Settings.{Settings}
@@ -16,22 +16,15 @@ use Rattle.frames.proofs.even_width.Goals as goal
 
 pub loop-i-init : goal.loop-i-init
 loop-i-init c =
-    (omega arith, c.requires, below_none _)
+    below_none _
 
 pub returns-then-width-v : goal.returns-then-width-v
 returns-then-width-v c = λ h. let z : ⊥ = omega arith in absurd z
 
-pub overflow_add-i : goal.overflow_add-i
-overflow_add-i c =
-    omega (arith, c.loop-i.invariant.1.most, c.loop-i-test.true)
-
-pub loop-i-smaller : goal.loop-i-smaller
-loop-i-smaller c = omega arith
-
 pub loop-i-preserved : goal.loop-i-preserved
 loop-i-preserved c =
     let inv = c.loop-i.invariant in
-    (omega (arith, c.loop-i-test.true), inv.1, below_more _ _ inv.2 (ap (λ (y : Settings). width_of y.datatype) (sym c.held-c.ensures) ∙ sym c.width.ensures ∙ c.if-width-v.false))
+    below_more _ _ inv (ap (λ (y : Settings). width_of y.datatype) (sym c.settings-c.ensures) ∙ sym c.width.ensures ∙ c.if-width-v.false)
 
 even_taken : (u : List ℕ) {n : ℕ} → Few n u → (i v : ℕ) → n ≤ i → ((k : ℕ) → k < i → width_of (get_or (records_in u) k zero_dated).settings.datatype ≡ v) → Even v (take n (held_in u))
 even_taken u f i v l g j m =
@@ -42,4 +35,4 @@ pub returns : goal.returns
 returns c =
     let a = c.args in
     let inv = c.loop-i.invariant in
-    λ h. even_taken a.t.now inv.1 c.loop-i.i _ c.loop-i-test.false inv.2
+    λ h. even_taken a.channels.words.now a.channels.few c.loop-i.i _ c.loop-i-test.false inv

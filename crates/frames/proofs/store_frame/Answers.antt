@@ -1,7 +1,7 @@
 -- Head, groups, tag, length and samples, one after the other.
+use Rattle.frames.specs.Channels.{settings_of}
 use mathlib.Core.Path.{◌≡◌}
-use lib.ListN.{length, take}
-use Rattle.words.specs.Words.{held_in}
+use lib.ListN.{length}
 use mir.Facts.{to_z-of_z}
 use Rattle.frames.proofs.Coming.{taken-long}
 use Rattle.frames.proofs.Given.{asked-samples, asked-long}
@@ -10,33 +10,33 @@ use Rattle.frames.proofs.store_frame.Goals as goal
 
 pub put_groups-b-requires : goal.put_groups-b-requires
 put_groups-b-requires c =
-    let tabled : let a = c.args in length (take a.count (held_in a.t.now)) ≡ a.count =
-    let a = c.args in taken-long a.t.now c.requires.few.0 in
+    let tabled : let a = c.args in length (settings_of a.channels) ≡ a.channels.count =
+    let a = c.args in taken-long a.channels.words.now a.channels.few in
     let a = c.args in
     let start = to_z-of_z c.ranges.start in
-    (c.requires.few.0, groups-room (take a.count (held_in a.t.now)) a.sequences a.octets (tabled) start c.requires.octets_in_bounds c.put_head-a.ensures)
+    groups-room (settings_of a.channels) a.sequences a.octets (tabled) start c.requires.octets_in_bounds c.put_head-a.ensures
 
 pub put_samples-requires : goal.put_samples-requires
 put_samples-requires c =
-    let tabled : let a = c.args in length (take a.count (held_in a.t.now)) ≡ a.count =
-    let a = c.args in taken-long a.t.now c.requires.few.0 in
+    let tabled : let a = c.args in length (settings_of a.channels) ≡ a.channels.count =
+    let a = c.args in taken-long a.channels.words.now a.channels.few in
     let a = c.args in
     let start = to_z-of_z c.ranges.start in
     let room =
-    samples-room (take a.count (held_in a.t.now)) a.sequences a.octets (tabled) start c.requires.octets_in_bounds c.put_head-a.ensures
+    samples-room (settings_of a.channels) a.sequences a.octets (tabled) start c.requires.octets_in_bounds c.put_head-a.ensures
     c.put_groups-b.ensures c.open_waveform-c.ensures in
-    let samples = asked-samples (take a.count (held_in a.t.now)) a.sequences a.w.now c.requires.octets_value.0 c.requires.few.1 in
+    let samples = asked-samples (settings_of a.channels) a.sequences a.w.now c.requires.octets_value.0 c.requires.whole in
     record {
-      few = c.requires.few;
+      whole = c.requires.whole;
       octets_in_bounds = (samples.0, samples.1, room);
     }
 
 pub returns : goal.returns
 returns c =
-    let tabled : let a = c.args in length (take a.count (held_in a.t.now)) ≡ a.count =
-    let a = c.args in taken-long a.t.now c.requires.few.0 in
+    let tabled : let a = c.args in length (settings_of a.channels) ≡ a.channels.count =
+    let a = c.args in taken-long a.channels.words.now a.channels.few in
     let a = c.args in
     let start = to_z-of_z c.ranges.start in
-    frame-stored (take a.count (held_in a.t.now)) a.sequences a.octets (tabled) start c.requires.octets_in_bounds c.put_head-a.ensures
+    frame-stored (settings_of a.channels) a.sequences a.octets (tabled) start c.requires.octets_in_bounds c.put_head-a.ensures
     c.put_groups-b.ensures c.open_waveform-c.ensures
-    (asked-long a.little (take a.count (held_in a.t.now)) a.sequences a.w.now c.requires.octets_value.0) c.put_samples.ensures
+    (asked-long a.little (settings_of a.channels) a.sequences a.w.now c.requires.octets_value.0) c.put_samples.ensures

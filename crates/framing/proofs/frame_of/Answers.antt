@@ -1,4 +1,5 @@
 -- Each way out is a law of what a waveform gives: the first three are for numbers that no file has, and past them the answer is document 01's.
+use Rattle.std.specs.Prelude.{Ok}
 use lib.IntN.{ℤ, pos, ◌+ℤ◌}
 use Prim.Native.Nat.{◌*◌, ◌<◌}
 use mir.Syntax.{w64}
@@ -9,8 +10,8 @@ use mathlib.Core.Path.{◌≡◌, ap, sym, ◌∙◌}
 use native.Mathlib.Omega.{arith}
 use borrow.Author.Rules.{rules}
 use Rattle.octets.specs.Number.{range}
+use Rattle.standing.specs.declared.Standing.{Standing}
 use Rattle.standing.specs.Standing.{with_continued}
-use Rattle.framing.specs.declared.Framed.TheVariants.{Taken}
 use Rattle.framing.specs.Framing.{pointer_fits, pointer_after, framed_as}
 use Rattle.framing.specs.AnyNumbers.{framed_by}
 use Rattle.framing.proofs.Framings.{sequences-small, framed_empty, framed_large, framed_block, framed_same, framed_limit, framed_width, framed_pointer, framed_taken}
@@ -81,6 +82,6 @@ returns c =
     let after : c.pointer_after-z.result ≡ pointer_after c.args.st c.sequences_of-sequences.result =
     c.pointer_after-z.ensures ∙ ap (λ (z : ℤ). z +ℤ pos (c.args.st.root.block * c.sequences_of-sequences.result)) (to_z-of_z (in64)) in
     let n = c.sequences_of-sequences.result in
-    ap (Taken n) (c.with_continued.ensures ∙ ap (λ (z : ℤ). with_continued z c.args.st) (to_z-of_z (in64_after) ∙ after))
+    ap (λ (x : Standing). Ok (n, x)) (c.with_continued.ensures ∙ ap (λ (z : ℤ). with_continued z c.args.st) (to_z-of_z (in64_after) ∙ after))
     ∙ framed_taken _ _ _ _ _ c.if-frames-ge-FRAMES.false (ap not c.if-not-agree.false) (fits) n c.sequences_of-sequences.ensures
     ∙ same

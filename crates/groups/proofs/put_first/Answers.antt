@@ -9,6 +9,6 @@ returns c =
     let room = simp length-append at c.requires in
     put_more (simp length-append (omega arith))
     (put_more (simp length-append (omega arith))
-    (put_two (omega arith) c.put_field-a.ensures c.put_field-b.ensures)
-    c.put_field-d.ensures)
-    c.put_field.ensures
+    (put_two (omega arith) (rw c.from.ensures at c.put_field-a.ensures) (rw c.from-2.ensures at c.put_field-b.ensures))
+    (rw c.from-3.ensures at c.put_field-d.ensures))
+    (rw c.from-4.ensures at c.put_field.ensures)

@@ -27,7 +27,7 @@ pub returns-then-overruns : goal.returns-then-overruns
 returns-then-overruns c =
     let a = c.args in
     let h = sym c.overruns.ensures ∙ c.if-overruns.true in
-    putting_kept (omega (arith, ltb-true, sized a.k a.c c.width-w.ensures c.group_size.ensures))
+    putting_kept (omega (arith, ltb-true, sized a.k a.c c.width-w.ensures (rw c.from.ensures at c.group_size.ensures)))
 
 pub overflow_cast-content_size : goal.overflow_cast-content_size
 overflow_cast-content_size c =
@@ -38,12 +38,12 @@ pub store_group-requires : goal.store_group-requires
 store_group-requires c =
     let a = c.args in
     let h = sym c.overruns.ensures ∙ c.if-overruns.false in
-    let size = sized a.k a.c c.width-w.ensures c.group_size.ensures in
+    let size = sized a.k a.c c.width-w.ensures (rw c.from.ensures at c.group_size.ensures) in
     (content a.c c.width-w.ensures c.content_size.ensures, omega (arith, ltb-false))
 
 pub returns : goal.returns
 returns c =
     let a = c.args in
     let h = sym c.overruns.ensures ∙ c.if-overruns.false in
-    let size = sized a.k a.c c.width-w.ensures c.group_size.ensures in
+    let size = sized a.k a.c c.width-w.ensures (rw c.from.ensures at c.group_size.ensures) in
     putting (omega (arith, ltb-false)) c.store_group.ensures

@@ -6,4 +6,4 @@ pub returns-then-sequences-eq0 : goal.returns-then-sequences-eq0
 returns-then-sequences-eq0 c = rw (sequences-none _ c.if-sequences-eq0.true) c.put_two.ensures
 
 pub returns : goal.returns
-returns c = rw (sequences-some _ c.if-sequences-eq0.false) c.put_field.ensures
+returns c = rw (sequences-some _ c.if-sequences-eq0.false) (rw c.from.ensures at c.put_field.ensures)

@@ -1,34 +1,38 @@
 -- By the answer of `length_field`.
-use mathlib.Core.Path.{sym, ◌∙◌}
+use Rattle.std.proofs.lemmas.Result.{err_from_is_err_and}
+use mathlib.Core.Path.{sym, ap, ◌∙◌}
+use Rattle.std.specs.Prelude.{Ok, Some}
 use native.Mathlib.Omega.{arith}
 use Rattle.heads.specs.Head.{group_length}
 use Rattle.heads.proofs.Heads.{length_found}
 use Rattle.heads.proofs.group_length.Goals as goal
 
 pub overflow_add-result : goal.overflow_add-result
-overflow_add-result c = omega (arith, length_found _ c.length_field.ensures c.in-Known.is)
+overflow_add-result c = omega (arith, length_found _ c.length_field.ensures (c.in_ok-length.was ∙ ap Ok (c.in-Some.is ∙ ap Some c.in-Known.is)))
 
 pub overflow_add-result-in-Known : goal.overflow_add-result-in-Known
-overflow_add-result-in-Known c = omega (arith, length_found _ c.length_field.ensures c.in-Known.is)
+overflow_add-result-in-Known c = omega (arith, length_found _ c.length_field.ensures (c.in_ok-length.was ∙ ap Ok (c.in-Some.is ∙ ap Some c.in-Known.is)))
 
 pub overflow_add-result-in-Open : goal.overflow_add-result-in-Open
-overflow_add-result-in-Open c = omega (arith, length_found _ c.length_field.ensures c.in-Open.is)
+overflow_add-result-in-Open c = omega (arith, length_found _ c.length_field.ensures (c.in_ok-length.was ∙ ap Ok (c.in-Some.is ∙ ap Some c.in-Open.is)))
 
 pub overflow_add-result-in-Open-2 : goal.overflow_add-result-in-Open-2
-overflow_add-result-in-Open-2 c = omega (arith, length_found _ c.length_field.ensures c.in-Open.is)
+overflow_add-result-in-Open-2 c = omega (arith, length_found _ c.length_field.ensures (c.in_ok-length.was ∙ ap Ok (c.in-Some.is ∙ ap Some c.in-Open.is)))
 
 pub returns-in-Known : goal.returns-in-Known
 unfolding group_length
-returns-in-Known c = simp (sym c.length_field.ensures ∙ c.in-Known.is)
+returns-in-Known c = simp (sym c.length_field.ensures ∙ c.in_ok-length.was ∙ ap Ok (c.in-Some.is ∙ ap Some c.in-Known.is))
 
 pub returns-in-Open : goal.returns-in-Open
 unfolding group_length
-returns-in-Open c = simp (sym c.length_field.ensures ∙ c.in-Open.is)
+returns-in-Open c = simp (sym c.length_field.ensures ∙ c.in_ok-length.was ∙ ap Ok (c.in-Some.is ∙ ap Some c.in-Open.is))
 
-pub returns-in-PastEnd : goal.returns-in-PastEnd
+pub returns-in_err-length : goal.returns-in_err-length
 unfolding group_length
-returns-in-PastEnd c = simp (sym c.length_field.ensures ∙ c.in-PastEnd.is)
+returns-in_err-length c =
+    let p = err_from_is_err_and c.from_residual.result c.from_residual.ensures.1 in
+    rw (p.1, p.2) (simp (sym c.length_field.ensures ∙ c.in_err-length.was))
 
-pub returns-in-Bad : goal.returns-in-Bad
+pub returns-in_default : goal.returns-in_default
 unfolding group_length
-returns-in-Bad c = simp (sym c.length_field.ensures ∙ c.in-Bad.is)
+returns-in_default c = simp (sym c.length_field.ensures ∙ c.in_ok-length.was ∙ ap Ok c.in_default.is)

@@ -1,7 +1,9 @@
 -- Each way out is a law of the length field, by its first octet.
+use Rattle.std.specs.Prelude.{Result, Ok, Option, Some}
+use Rattle.heads.specs.declared.Fault.{Fault}
+use Rattle.heads.specs.declared.Length.{Length}
 use Rattle.octets.proofs.Laws.{read_all, part_short}
 use Rattle.octets.specs.Number.{big_from, number_of, NumberRead}
-use Rattle.heads.specs.declared.Length.TheVariants.{Known}
 use Prim.Native.Nat.{ℕ, ◌+◌, ◌-◌, ◌≤◌}
 use mathlib.Core.List.{List}
 use mathlib.Core.Bool.{false}
@@ -31,9 +33,9 @@ pub returns-then-u-n : goal.returns-then-u-n
 returns-then-u-n c =
     length-past _ c.if-u-eq0.false c.if-b-lt128.false c.if-n-eq0.false c.if-n-gt4.false c.if-u-n.true
 
-read_is : (u v : List ℕ) (n r : ℕ) → n ≤ 4 → v ≡ take n (drop 1 u) → NumberRead false (take 8 v) r → Known r (n + 1) ≡ Known (big_from 0 (take n (drop 1 u))) (n + 1)
+read_is : (u v : List ℕ) (n r : ℕ) → n ≤ 4 → v ≡ take n (drop 1 u) → NumberRead false (take 8 v) r → ◌≡◌ {A = Result (Option Length) Fault} (Ok (Some (Length.Known r (n + 1)))) (Ok (Some (Length.Known (big_from 0 (take n (drop 1 u))) (n + 1))))
 unfolding number_of
-read_is u v n r h e q = ap (λ (k : ℕ). Known k (n + 1)) ((read_all false v r (omega (arith, part_short n (drop 1 u) v e)) q).value ∙ ap (number_of false) e)
+read_is u v n r h e q = ap (λ (k : ℕ). Ok (Some (Length.Known k (n + 1)))) ((read_all false v r (omega (arith, part_short n (drop 1 u) v e)) q).value ∙ ap (number_of false) e)
 
 pub returns : goal.returns
 returns c =

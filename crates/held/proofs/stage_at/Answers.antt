@@ -1,11 +1,11 @@
 -- By the kind.
+use Rattle.std.specs.Prelude.{Ok, Err}
 use mathlib.Core.Path.{◌≡◌, sym, ◌∙◌}
 use mathlib.Core.Bool.{false}
 use Prim.Native.Nat.{ℕ}
 use borrow.Author.Tests.{ne_eqb}
 use lib.Dec.{eqb}
 use lib.ListN.{get_or}
-use Rattle.verdict.specs.declared.Checked.{Checked}
 use Rattle.held.specs.declared.Stage.{Stage}
 use Rattle.held.proofs.stage_at.Goals as goal
 
@@ -28,7 +28,7 @@ returns-in-3 c =
 
 pub returns-in-4 : goal.returns-in-4
 returns-in-4 c =
-    simp (sym c.word-kind.ensures ∙ c.in-4.is) (λ i. Stage.Decided (Checked.Frames (c.four_at-in-4.ensures i)))
+    simp (sym c.word-kind.ensures ∙ c.in-4.is) (λ i. Stage.Decided (Ok (c.four_at-in-4.ensures i)))
 
 pub returns-in_default : goal.returns-in_default
 returns-in_default c =
@@ -36,4 +36,4 @@ returns-in_default c =
     λ n ne. ne_eqb _ n (λ e. ne (c.word-kind.ensures ∙ e)) in
     let others = c.in_default.in_default-own.rest in
     simp (other 0 others.0.0.0.0.1, other 1 others.0.0.0.1, other 2 others.0.0.1, other 3 others.0.1, other 4 others.1)
-    (λ i. Stage.Decided (Checked.Refused (c.refusal_at-in_default.ensures i)))
+    (λ i. Stage.Decided (Err (c.refusal_at-in_default.ensures i)))

@@ -1,10 +1,13 @@
 -- By the arm of the match: each number is that of the lowest octets of its word.
+use Rattle.std.specs.Prelude.{Ok, Err}
 use mathlib.Core.Path.{ap, sym, ◌∙◌}
-use Prim.Native.Nat.{◌<◌, ◌^◌}
+use Prim.Native.Nat.{ℕ, ◌<◌, ◌^◌}
 use native.Mathlib.Nat.{mod-eq_of_lt}
+use Rattle.octets.specs.Number.{low_of}
 use Rattle.items.specs.Walk.{refusal}
-use Rattle.verdict.specs.declared.Checked.{Checked}
 use Rattle.held.specs.declared.Stage.{Stage}
+use Rattle.held.specs.Words.{fault_by}
+use Rattle.held.proofs.Laws.{fault-kept}
 use borrow.Author.Rules.{rules}
 use Rattle.held.proofs.stage_words.Goals as goal
 
@@ -23,16 +26,16 @@ returns-in-Waveform c =
 pub returns-in-Waits : goal.returns-in-Waits
 returns-in-Waits c =
     let r = c.in-Waits.r in
-    let low : r.number < 256 = search rules in
-    (λ i. Stage.Waits c.in-Waits.left (refusal (mod-eq_of_lt low i) r.place)) ∙ sym c.in-Waits.is
+    let fault = ap (λ (n : ℕ). fault_by (low_of 1 n)) c.number.ensures ∙ fault-kept r.fault in
+    (λ i. Stage.Waits c.in-Waits.left (refusal (fault i) r.place)) ∙ sym c.in-Waits.is
 
-pub returns-in-Frames : goal.returns-in-Frames
-returns-in-Frames c =
-    let low : c.in-Frames.n < 2 ^ 32 = search rules in
-    (λ i. Stage.Decided (Checked.Frames (mod-eq_of_lt low i))) ∙ sym (c.in-Decided.is ∙ ap Stage.Decided c.in-Frames.is)
+pub returns-in-Ok : goal.returns-in-Ok
+returns-in-Ok c =
+    let low : c.in-Ok.n < 2 ^ 32 = search rules in
+    (λ i. Stage.Decided (Ok (mod-eq_of_lt low i))) ∙ sym (c.in-Decided.is ∙ ap Stage.Decided c.in-Ok.is)
 
-pub returns-in-Refused : goal.returns-in-Refused
-returns-in-Refused c =
-    let r = c.in-Refused.r in
-    let low : r.number < 256 = search rules in
-    (λ i. Stage.Decided (Checked.Refused (refusal (mod-eq_of_lt low i) r.place))) ∙ sym (c.in-Decided.is ∙ ap Stage.Decided c.in-Refused.is)
+pub returns-in-Err : goal.returns-in-Err
+returns-in-Err c =
+    let r = c.in-Err.r in
+    let fault = ap (λ (n : ℕ). fault_by (low_of 1 n)) c.number-in-Err.ensures ∙ fault-kept r.fault in
+    (λ i. Stage.Decided (Err (refusal (fault i) r.place))) ∙ sym (c.in-Decided.is ∙ ap Stage.Decided c.in-Err.is)

@@ -1,6 +1,5 @@
 -- The loop's invariant: the words before a are stored.
 use mathlib.Core.Path.{◌≡◌}
-use Prim.Native.Nat.{◌-◌}
 use native.Mathlib.Nat.{zero-add}
 use native.Mathlib.Omega.{arith}
 use Rattle.words.proofs.Laws.{overlaid_more}

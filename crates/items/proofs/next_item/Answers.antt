@@ -1,11 +1,8 @@
 -- By the octets that are left at the cursor and by the head of the item there; the item lies in the file, so that no place overflows.
-use mathlib.Core.Path.{◌≡◌, ◌∙◌}
-use mathlib.Core.List.{List}
-use Prim.Native.Nat.{ℕ, ◌+◌, ◌≤◌}
+use Rattle.std.specs.Prelude.{Ok}
+use mathlib.Core.Path.{ap, ◌∙◌}
 use native.Mathlib.Omega.{arith}
-use lib.ListN.{length}
-use Rattle.heads.specs.declared.Head.{Head}
-use Rattle.items.specs.Walk.{item_of, next_of}
+use Rattle.items.specs.Walk.{item_of}
 use Rattle.heads.proofs.Heads.{head_found}
 use Rattle.items.proofs.Walks.{next-none, next-head, extent_found}
 use Rattle.items.proofs.next_item.Goals as goal
@@ -15,75 +12,36 @@ returns-then-u-eq0 c = c.end_of.ensures ∙ next-none _ _ _ _ c.stands_in-within
 
 pub primitive_item-requires : goal.primitive_item-requires
 primitive_item-requires c =
-    let left_there : List ℕ =
-    c.rest-u.result.now in
-    let there : c.args.c.at + length (left_there) ≤ length c.args.s.now =
-    extent_found _ _ c.stands_in-within.result _ c.rest-u.ensures c.if-u-eq0.false in
-    omega (arith, head_found _ _ c.item_head.ensures c.in-Primitive.is, there)
+    omega (arith, head_found c.is_inside.result c.rest-u.result.now c.item_head.ensures (c.in-Ok-Primitive.is ∙ ap Ok c.in-Ok-Primitive.field-0-is), extent_found c.args.s.now c.args.c.at c.stands_in-within.result c.rest-u.result.now c.rest-u.ensures c.if-u-eq0.false)
 
-pub overflow_add-result : goal.overflow_add-result
-overflow_add-result c =
-    let left_there : List ℕ =
-    c.rest-u.result.now in
-    let there : c.args.c.at + length (left_there) ≤ length c.args.s.now =
-    extent_found _ _ c.stands_in-within.result _ c.rest-u.ensures c.if-u-eq0.false in
-    omega (arith, head_found _ _ c.item_head.ensures c.in-Definite.is, there)
+pub overflow_add-behind : goal.overflow_add-behind
+overflow_add-behind c =
+    omega (arith, head_found c.is_inside.result c.rest-u.result.now c.item_head.ensures (c.in-Ok-Definite.is ∙ ap Ok c.in-Ok-Definite.field-0-is), extent_found c.args.s.now c.args.c.at c.stands_in-within.result c.rest-u.result.now c.rest-u.ensures c.if-u-eq0.false)
 
-pub overflow_add-result-in-Definite : goal.overflow_add-result-in-Definite
-overflow_add-result-in-Definite c =
-    let left_there : List ℕ =
-    c.rest-u.result.now in
-    let there : c.args.c.at + length (left_there) ≤ length c.args.s.now =
-    extent_found _ _ c.stands_in-within.result _ c.rest-u.ensures c.if-u-eq0.false in
-    omega (arith, head_found _ _ c.item_head.ensures c.in-Definite.is, there)
+pub overflow_add-behind-in-Ok-Definite : goal.overflow_add-behind-in-Ok-Definite
+overflow_add-behind-in-Ok-Definite c =
+    omega (arith, head_found c.is_inside.result c.rest-u.result.now c.item_head.ensures (c.in-Ok-Definite.is ∙ ap Ok c.in-Ok-Definite.field-0-is), extent_found c.args.s.now c.args.c.at c.stands_in-within.result c.rest-u.result.now c.rest-u.ensures c.if-u-eq0.false)
 
-pub overflow_add-result-in-Definite-2 : goal.overflow_add-result-in-Definite-2
-overflow_add-result-in-Definite-2 c =
-    let left_there : List ℕ =
-    c.rest-u.result.now in
-    let there : c.args.c.at + length (left_there) ≤ length c.args.s.now =
-    extent_found _ _ c.stands_in-within.result _ c.rest-u.ensures c.if-u-eq0.false in
-    omega (arith, head_found _ _ c.item_head.ensures c.in-Definite.is, there)
+pub overflow_add-behind-in-Ok-Definite-2 : goal.overflow_add-behind-in-Ok-Definite-2
+overflow_add-behind-in-Ok-Definite-2 c =
+    omega (arith, head_found c.is_inside.result c.rest-u.result.now c.item_head.ensures (c.in-Ok-Definite.is ∙ ap Ok c.in-Ok-Definite.field-0-is), extent_found c.args.s.now c.args.c.at c.stands_in-within.result c.rest-u.result.now c.rest-u.ensures c.if-u-eq0.false)
 
-pub overflow_add-result-in-Open : goal.overflow_add-result-in-Open
-overflow_add-result-in-Open c =
-    let left_there : List ℕ =
-    c.rest-u.result.now in
-    let there : c.args.c.at + length (left_there) ≤ length c.args.s.now =
-    extent_found _ _ c.stands_in-within.result _ c.rest-u.ensures c.if-u-eq0.false in
-    omega (arith, head_found _ _ c.item_head.ensures c.in-Open.is, there)
+pub overflow_add-behind-in-Ok-Open : goal.overflow_add-behind-in-Ok-Open
+overflow_add-behind-in-Ok-Open c =
+    omega (arith, head_found c.is_inside.result c.rest-u.result.now c.item_head.ensures (c.in-Ok-Open.is ∙ ap Ok c.in-Ok-Open.field-0-is), extent_found c.args.s.now c.args.c.at c.stands_in-within.result c.rest-u.result.now c.rest-u.ensures c.if-u-eq0.false)
 
-pub returns-in-Primitive : goal.returns-in-Primitive
-returns-in-Primitive c =
-    let by_head : (h : Head) → c.item_head.result ≡ h
-    → item_of c.args.c.at c.stands_in-within.result h ≡ next_of c.args.s.now c.args.c =
-    λ h e. next-head _ _ _ _ c.stands_in-within.ensures c.rest-u.ensures c.if-u-eq0.false _ _ h c.is_inside.ensures
-    c.item_head.ensures e in
-    c.primitive_item.ensures ∙ by_head _ c.in-Primitive.is
-
-pub returns-in-Definite : goal.returns-in-Definite
+pub returns-in-Ok-Primitive : goal.returns-in-Ok-Primitive
 unfolding item_of
-returns-in-Definite c =
-    let by_head : (h : Head) → c.item_head.result ≡ h
-    → item_of c.args.c.at c.stands_in-within.result h ≡ next_of c.args.s.now c.args.c =
-    λ h e. next-head _ _ _ _ c.stands_in-within.ensures c.rest-u.ensures c.if-u-eq0.false _ _ h c.is_inside.ensures
-    c.item_head.ensures e in
-    by_head _ c.in-Definite.is
+returns-in-Ok-Primitive c = c.primitive_item.ensures ∙ next-head _ _ _ _ c.stands_in-within.ensures c.rest-u.ensures c.if-u-eq0.false _ _ _ c.is_inside.ensures c.item_head.ensures (c.in-Ok-Primitive.is ∙ ap Ok c.in-Ok-Primitive.field-0-is)
 
-pub returns-in-Open : goal.returns-in-Open
+pub returns-in-Ok-Definite : goal.returns-in-Ok-Definite
 unfolding item_of
-returns-in-Open c =
-    let by_head : (h : Head) → c.item_head.result ≡ h
-    → item_of c.args.c.at c.stands_in-within.result h ≡ next_of c.args.s.now c.args.c =
-    λ h e. next-head _ _ _ _ c.stands_in-within.ensures c.rest-u.ensures c.if-u-eq0.false _ _ h c.is_inside.ensures
-    c.item_head.ensures e in
-    by_head _ c.in-Open.is
+returns-in-Ok-Definite c = next-head _ _ _ _ c.stands_in-within.ensures c.rest-u.ensures c.if-u-eq0.false _ _ _ c.is_inside.ensures c.item_head.ensures (c.in-Ok-Definite.is ∙ ap Ok c.in-Ok-Definite.field-0-is)
 
-pub returns-in-Refused : goal.returns-in-Refused
+pub returns-in-Ok-Open : goal.returns-in-Ok-Open
 unfolding item_of
-returns-in-Refused c =
-    let by_head : (h : Head) → c.item_head.result ≡ h
-    → item_of c.args.c.at c.stands_in-within.result h ≡ next_of c.args.s.now c.args.c =
-    λ h e. next-head _ _ _ _ c.stands_in-within.ensures c.rest-u.ensures c.if-u-eq0.false _ _ h c.is_inside.ensures
-    c.item_head.ensures e in
-    by_head _ c.in-Refused.is
+returns-in-Ok-Open c = next-head _ _ _ _ c.stands_in-within.ensures c.rest-u.ensures c.if-u-eq0.false _ _ _ c.is_inside.ensures c.item_head.ensures (c.in-Ok-Open.is ∙ ap Ok c.in-Ok-Open.field-0-is)
+
+pub returns-in-Err : goal.returns-in-Err
+unfolding item_of
+returns-in-Err c = next-head _ _ _ _ c.stands_in-within.ensures c.rest-u.ensures c.if-u-eq0.false _ _ _ c.is_inside.ensures c.item_head.ensures c.in-Err.is

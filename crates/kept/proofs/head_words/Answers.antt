@@ -1,13 +1,15 @@
 -- Each number is that of the lowest octets of its word.
-use mathlib.Core.Path.{◌∙◌}
+use mathlib.Core.Path.{ap, ◌∙◌}
 use Prim.Native.Nat.{◌<◌, ◌^◌}
 use native.Mathlib.Nat.{mod-eq_of_lt}
 use mir.Syntax.{w64}
 use mir.Val.{SFits}
 use mir.Facts.{to_z-of_z}
+use Rattle.octets.specs.Number.{low_of}
 use Rattle.walk.specs.declared.Head.{Head}
 use borrow.Author.Rules.{rules}
 use Rattle.kept.proofs.head_words.Goals as goal
+use Rattle.kept.proofs.head_words.Goals.{After-from}
 
 -- The numbers of a head are those of their types.
 record Fit (h : Head) : Type 0 where
@@ -26,36 +28,37 @@ record Fit (h : Head) : Type 0 where
   cleared : h.dates.cleared < 2 ^ 32
   frames : h.frames < 2 ^ 32
 
+fit : (c : After-from) → Fit c.args.h
+fit c = search rules
+
 pub returns : goal.returns
 returns c =
-    let fit : Fit c.args.h =
-    search rules in
     let h = c.args.h in
-    let f = fit in
+    let f = fit (goal.at.returns c).After-from in
     λ i. record {
       cursor = record { at = h.cursor.at; within = c.within_words-within.ensures i };
       standing = record {
         little = c.flag_word.ensures i;
-        counted = mod-eq_of_lt f.counted i;
-        sequences = mod-eq_of_lt f.sequences i;
+        counted = (ap (low_of 4) c.from.ensures ∙ mod-eq_of_lt f.counted) i;
+        sequences = (ap (low_of 4) c.from-2.ensures ∙ mod-eq_of_lt f.sequences) i;
         start = (c.signed_word.ensures ∙ to_z-of_z f.start) i;
         continued = (c.signed_word-2.ensures ∙ to_z-of_z f.continued) i;
         root = h.standing.root;
       };
       dates = record {
         times = record {
-          block = mod-eq_of_lt f.block i;
-          class = mod-eq_of_lt f.class i;
-          lead = mod-eq_of_lt f.lead i;
-          datatype = mod-eq_of_lt f.datatype i;
-          interval = mod-eq_of_lt f.interval i;
-          resolution = mod-eq_of_lt f.resolution i;
-          offset = mod-eq_of_lt f.offset i;
-          null = mod-eq_of_lt f.null i;
+          block = (ap (low_of 4) c.from-3.ensures ∙ mod-eq_of_lt f.block) i;
+          class = (ap (low_of 4) c.from-4.ensures ∙ mod-eq_of_lt f.class) i;
+          lead = (ap (low_of 4) c.from-5.ensures ∙ mod-eq_of_lt f.lead) i;
+          datatype = (ap (low_of 4) c.from-6.ensures ∙ mod-eq_of_lt f.datatype) i;
+          interval = (ap (low_of 4) c.from-7.ensures ∙ mod-eq_of_lt f.interval) i;
+          resolution = (ap (low_of 4) c.from-8.ensures ∙ mod-eq_of_lt f.resolution) i;
+          offset = (ap (low_of 4) c.from-9.ensures ∙ mod-eq_of_lt f.offset) i;
+          null = (ap (low_of 4) c.from-10.ensures ∙ mod-eq_of_lt f.null) i;
         };
-        cleared = mod-eq_of_lt f.cleared i;
+        cleared = (ap (low_of 4) c.from-11.ensures ∙ mod-eq_of_lt f.cleared) i;
         now = h.dates.now;
       };
       items = h.items;
-      frames = mod-eq_of_lt f.frames i;
+      frames = (ap (low_of 4) c.from-12.ensures ∙ mod-eq_of_lt f.frames) i;
     }

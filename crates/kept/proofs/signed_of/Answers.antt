@@ -1,12 +1,10 @@
--- A word below half of the range is the number, and any other its complement's complement.
-use Prim.Native.Nat.{◌-◌}
+-- A word's bits, read with a sign.
+use mathlib.Core.Path.{refl, ◌∙◌}
 use mir.Syntax.{w64}
-use Rattle.octets.proofs.Laws.{twos-low, twos_high}
+use mir.Facts.{to_z-of_z}
 use borrow.Author.Rules.{rules}
+use Rattle.octets.proofs.Laws.{twos-whole}
 use Rattle.kept.proofs.signed_of.Goals as goal
 
-pub returns-then-x-lt9223372036854775808 : goal.returns-then-x-lt9223372036854775808
-returns-then-x-lt9223372036854775808 c = twos-low w64 8 _ (search rules) (search rules)
-
-pub returns-else-x-lt9223372036854775808 : goal.returns-else-x-lt9223372036854775808
-returns-else-x-lt9223372036854775808 c = twos_high w64 8 _ (18446744073709551615 - (18446744073709551615 - c.args.x)) (search rules) (search rules) (search rules)
+pub returns : goal.returns
+returns c = to_z-of_z {w = w64} (search rules) ∙ c.cast_signed.ensures ∙ twos-whole w64 8 c.args.x refl refl c.ranges.x.fits

@@ -42,7 +42,7 @@ returns-in_default c =
     let samples-octets : Octets (given).samples =
     λ i. (c.type_inv.samples i).fits in
     let m = given in
-    let outside = measured_out m.channels m.numbers m.bits c.measure-m.result c.in_default.in_default-own.keys2 c.measure-m.ensures in
+    let outside = measured_out m.channels m.numbers m.bits (sym c.in_default.is ∙ c.measure-m.ensures) in
     made-refused (samples-octets) c.refused-in_default.ensures (setting-refused m _ (row-outside m outside))
 
 pub overflow_mul-sequences : goal.overflow_mul-sequences
@@ -55,9 +55,9 @@ overflow_mul-sequences c =
     let asked : Making =
     given in
     let layout : Layout =
-    c.in-Channels.l in
+    c.in-Some.l in
     let laid_out : Found (asked) (layout) =
-    found (asked) (layout) (own_is ∙ c.if-not-frame_fits.false) (sym c.in-Channels.is ∙ c.measure-m.ensures) in
+    found (asked) (layout) (own_is ∙ c.if-not-frame_fits.false) (sym c.in-Some.is ∙ c.measure-m.ensures) in
     record { fits = product_small (laid_out) }
 
 pub returns-then-samples-sequences : goal.returns-then-samples-sequences
@@ -72,9 +72,9 @@ returns-then-samples-sequences c =
     let asked : Making =
     given in
     let layout : Layout =
-    c.in-Channels.l in
+    c.in-Some.l in
     let laid_out : Found (asked) (layout) =
-    found (asked) (layout) (own_is ∙ c.if-not-frame_fits.false) (sym c.in-Channels.is ∙ c.measure-m.ensures) in
+    found (asked) (layout) (own_is ∙ c.if-not-frame_fits.false) (sym c.in-Some.is ∙ c.measure-m.ensures) in
     let p = laid_out in
     made-refused (samples-octets) c.refused-then-samples-sequences.ensures (samples-refused (asked) _ p.fit (samples_other p c.if-samples-sequences.true))
 
@@ -90,9 +90,9 @@ returns-then-samples-gt-OCTETS c =
     let asked : Making =
     given in
     let layout : Layout =
-    c.in-Channels.l in
+    c.in-Some.l in
     let laid_out : Found (asked) (layout) =
-    found (asked) (layout) (own_is ∙ c.if-not-frame_fits.false) (sym c.in-Channels.is ∙ c.measure-m.ensures) in
+    found (asked) (layout) (own_is ∙ c.if-not-frame_fits.false) (sym c.in-Some.is ∙ c.measure-m.ensures) in
     let p = laid_out in
     let e = c.if-samples-sequences.false in
     made-refused (samples-octets) c.refused-then-samples-gt-OCTETS.ensures
@@ -108,9 +108,9 @@ overflow_cast-sequences c =
     let asked : Making =
     given in
     let layout : Layout =
-    c.in-Channels.l in
+    c.in-Some.l in
     let laid_out : Found (asked) (layout) =
-    found (asked) (layout) (own_is ∙ c.if-not-frame_fits.false) (sym c.in-Channels.is ∙ c.measure-m.ensures) in
+    found (asked) (layout) (own_is ∙ c.if-not-frame_fits.false) (sym c.in-Some.is ∙ c.measure-m.ensures) in
     record { fits = omega (arith, (laid_out).own.most) }
 
 pub overflow_cast-l : goal.overflow_cast-l
@@ -123,9 +123,9 @@ overflow_cast-l c =
     let asked : Making =
     given in
     let layout : Layout =
-    c.in-Channels.l in
+    c.in-Some.l in
     let laid_out : Found (asked) (layout) =
-    found (asked) (layout) (own_is ∙ c.if-not-frame_fits.false) (sym c.in-Channels.is ∙ c.measure-m.ensures) in
+    found (asked) (layout) (own_is ∙ c.if-not-frame_fits.false) (sym c.in-Some.is ∙ c.measure-m.ensures) in
     record { fits = groups-small (laid_out) }
 
 pub returns-then-size : goal.returns-then-size
@@ -140,9 +140,9 @@ returns-then-size c =
     let asked : Making =
     given in
     let layout : Layout =
-    c.in-Channels.l in
+    c.in-Some.l in
     let laid_out : Found (asked) (layout) =
-    found (asked) (layout) (own_is ∙ c.if-not-frame_fits.false) (sym c.in-Channels.is ∙ c.measure-m.ensures) in
+    found (asked) (layout) (own_is ∙ c.if-not-frame_fits.false) (sym c.in-Some.is ∙ c.measure-m.ensures) in
     let p = laid_out in
     let e = c.if-samples-sequences.false in
     made-refused (samples-octets) c.refused-then-size.ensures
@@ -160,9 +160,9 @@ returns-then-out-size c =
     let asked : Making =
     given in
     let layout : Layout =
-    c.in-Channels.l in
+    c.in-Some.l in
     let laid_out : Found (asked) (layout) =
-    found (asked) (layout) (own_is ∙ c.if-not-frame_fits.false) (sym c.in-Channels.is ∙ c.measure-m.ensures) in
+    found (asked) (layout) (own_is ∙ c.if-not-frame_fits.false) (sym c.in-Some.is ∙ c.measure-m.ensures) in
     let p = laid_out in
     let e = c.if-samples-sequences.false in
     made-refused (samples-octets) c.refused-then-out-size.ensures
@@ -178,9 +178,9 @@ overflow_cast-start c =
     let asked : Making =
     given in
     let layout : Layout =
-    c.in-Channels.l in
+    c.in-Some.l in
     let laid_out : Found (asked) (layout) =
-    found (asked) (layout) (own_is ∙ c.if-not-frame_fits.false) (sym c.in-Channels.is ∙ c.measure-m.ensures) in
+    found (asked) (layout) (own_is ∙ c.if-not-frame_fits.false) (sym c.in-Some.is ∙ c.measure-m.ensures) in
     let start_small : mag (asked).start < 2 ^ 31 =
     pointer_small (asked).start (laid_out).own.pointer in
     narrow_fits (asked).start (start_small)
@@ -195,9 +195,9 @@ overflow_cast-sequences-2 c =
     let asked : Making =
     given in
     let layout : Layout =
-    c.in-Channels.l in
+    c.in-Some.l in
     let laid_out : Found (asked) (layout) =
-    found (asked) (layout) (own_is ∙ c.if-not-frame_fits.false) (sym c.in-Channels.is ∙ c.measure-m.ensures) in
+    found (asked) (layout) (own_is ∙ c.if-not-frame_fits.false) (sym c.in-Some.is ∙ c.measure-m.ensures) in
     record { fits = omega (arith, (laid_out).own.most) }
 
 pub store_frame-stored-requires : goal.store_frame-stored-requires
@@ -210,9 +210,9 @@ store_frame-stored-requires c =
     let asked : Making =
     given in
     let layout : Layout =
-    c.in-Channels.l in
+    c.in-Some.l in
     let laid_out : Found (asked) (layout) =
-    found (asked) (layout) (own_is ∙ c.if-not-frame_fits.false) (sym c.in-Channels.is ∙ c.measure-m.ensures) in
+    found (asked) (layout) (own_is ∙ c.if-not-frame_fits.false) (sym c.in-Some.is ∙ c.measure-m.ensures) in
     store_asked (laid_out) c.if-samples-gt-OCTETS.false c.frame_size-size.ensures.0 _ c.if-out-size.false in
     record {
       rows_fit = told.0;
@@ -231,9 +231,9 @@ returns c =
     let asked : Making =
     given in
     let layout : Layout =
-    c.in-Channels.l in
+    c.in-Some.l in
     let laid_out : Found (asked) (layout) =
-    found (asked) (layout) (own_is ∙ c.if-not-frame_fits.false) (sym c.in-Channels.is ∙ c.measure-m.ensures) in
+    found (asked) (layout) (own_is ∙ c.if-not-frame_fits.false) (sym c.in-Some.is ∙ c.measure-m.ensures) in
     let start_small : mag (asked).start < 2 ^ 31 =
     pointer_small (asked).start (laid_out).own.pointer in
     let m = asked in

@@ -5,4 +5,4 @@ use Rattle.mfer.proofs.mfer_make_frame.Goals as goal
 
 pub returns : goal.returns
 returns c =
-    made_handed (to_z-of_z c.ranges.start) c.make_frame.ensures c.written_out.ensures
+    made_handed (to_z-of_z c.ranges.start) c.make_frame.ensures c.count_out.ensures

@@ -6,8 +6,6 @@ use lib.ListN.{length, drop}
 use Rattle.octets.specs.Number.{range, little_of}
 use Rattle.octets.proofs.little_endian.Given as goal
 
-abbrev pub invariant-loop-i : goal.invariant-loop-i
-invariant-loop-i l = (l.i ≤ length l.s) × (l.n < range (length l.s - l.i)) × (l.n ≡ little_of (drop l.i l.s))
-
-abbrev pub decreases-loop-i : goal.decreases-loop-i
-decreases-loop-i l = l.i
+abbrev pub invariant-loop-b : goal.invariant-loop-b
+invariant-loop-b l =
+    (length l.yielded ≤ length l.s) × (l.n < range (length l.yielded)) × (l.n ≡ little_of (drop (length l.s - length l.yielded) l.s))

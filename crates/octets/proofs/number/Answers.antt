@@ -12,35 +12,35 @@ pub returns-then-s-eq1 : goal.returns-then-s-eq1
 returns-then-s-eq1 c =
     first_read c.args.little 1 c.args.s.now c.if-s-eq1.true (lit≤ tt)
     (λ i. (c.type_inv.s i).fits)
-    (here_one c.args.little c.args.s.now 0 (omega (arith, c.if-s-eq1.true)) c.wide.ensures.0)
+    (here_one c.args.little c.args.s.now 0 (omega (arith, c.if-s-eq1.true)) c.from.ensures)
 
 pub returns-then-little : goal.returns-then-little
 unfolding big_from
 returns-then-little c =
     first_read c.args.little 2 c.args.s.now c.if-s-eq2.true (lit≤ tt)
     (λ i. (c.type_inv.s i).fits)
-    (here-little 1 c.args.s.now 0 (omega (arith, c.if-s-eq2.true)) c.if-little.true refl c.two_octets.ensures)
+    (here-little 1 c.args.s.now 0 (omega (arith, c.if-s-eq2.true)) c.if-little.true refl (omega (arith, c.from_le_bytes.ensures, c.from-then-little.ensures)))
 
 pub returns-then-s-eq2 : goal.returns-then-s-eq2
 unfolding big_from
 returns-then-s-eq2 c =
     first_read c.args.little 2 c.args.s.now c.if-s-eq2.true (lit≤ tt)
     (λ i. (c.type_inv.s i).fits)
-    (here_big 1 c.args.s.now 0 (omega (arith, c.if-s-eq2.true)) c.if-little.false c.two_octets-then-s-eq2.ensures)
+    (here_big 1 c.args.s.now 0 (omega (arith, c.if-s-eq2.true)) c.if-little.false (omega (arith, c.from_be_bytes.ensures, c.from-then-s-eq2.ensures)))
 
 pub returns-then-little-2 : goal.returns-then-little-2
 unfolding big_from
 returns-then-little-2 c =
     first_read c.args.little 4 c.args.s.now c.if-s-eq4.true (lit≤ tt)
     (λ i. (c.type_inv.s i).fits)
-    (here-little 3 c.args.s.now 0 (omega (arith, c.if-s-eq4.true)) c.if-little-2.true refl c.four_octets.ensures)
+    (here-little 3 c.args.s.now 0 (omega (arith, c.if-s-eq4.true)) c.if-little-2.true refl (omega (arith, c.from_le_bytes-then-little-2.ensures, c.from-then-little-2.ensures)))
 
 pub returns-then-s-eq4 : goal.returns-then-s-eq4
 unfolding big_from
 returns-then-s-eq4 c =
     first_read c.args.little 4 c.args.s.now c.if-s-eq4.true (lit≤ tt)
     (λ i. (c.type_inv.s i).fits)
-    (here_big 3 c.args.s.now 0 (omega (arith, c.if-s-eq4.true)) c.if-little-2.false c.four_octets-then-s-eq4.ensures)
+    (here_big 3 c.args.s.now 0 (omega (arith, c.if-s-eq4.true)) c.if-little-2.false (omega (arith, c.from_be_bytes-then-s-eq4.ensures, c.from-then-s-eq4.ensures)))
 
 pub little_endian-requires : goal.little_endian-requires
 little_endian-requires c =

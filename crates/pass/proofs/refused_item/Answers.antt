@@ -6,4 +6,4 @@ use Rattle.pass.specs.Scan.{refused_scan}
 use Rattle.pass.proofs.refused_item.Goals as goal
 
 pub returns : goal.returns
-returns c = c.refused_scan.ensures ∙ ap (λ (p : ℕ). refused_scan (refusal c.args.number p)) c.place_of.ensures
+returns c = c.refused_scan.ensures ∙ ap (λ (p : ℕ). refused_scan (refusal c.args.fault p)) c.place_of.ensures

@@ -1,6 +1,5 @@
 -- Channel by channel, each of them holding the root settings.
 use native.Mathlib.Omega.{arith}
-use Prim.Native.Nat.{◌-◌}
 use lib.ListN.{length-replicate}
 use Rattle.settings.specs.Settings.{channel_limit}
 use Rattle.layout.proofs.Laws.{summing_none, summed_up}

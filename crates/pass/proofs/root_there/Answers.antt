@@ -1,5 +1,4 @@
 -- All channels have one width.
-use Prim.Native.Nat.{◌-◌}
 use lib.ListN.{take, replicate}
 use native.Mathlib.Nat.{mod-le}
 use native.Mathlib.Omega.{arith}

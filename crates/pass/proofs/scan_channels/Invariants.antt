@@ -12,8 +12,8 @@ invariant-loop-i l = Summing l.asked.channel (settled_in l.root l.dates l.table)
 abbrev pub decreases-loop-i : goal.decreases-loop-i
 decreases-loop-i l = l.n - l.i
 
-abbrev pub invariant-loop-x : goal.invariant-loop-x
-invariant-loop-x l = Passing l.s l.asked l.table l.dates l.c l.st l.met
+abbrev pub invariant-loop-item : goal.invariant-loop-item
+invariant-loop-item l = Passing l.s l.asked l.table l.dates l.c l.st l.met
 
-abbrev pub decreases-loop-x : goal.decreases-loop-x
-decreases-loop-x l = length l.s - l.c.at
+abbrev pub decreases-loop-item : goal.decreases-loop-item
+decreases-loop-item l = length l.s - l.c.at

@@ -1,6 +1,5 @@
 -- Summed up channel by channel.
 use mathlib.Core.Path.{sym, subst, ◌∙◌}
-use Prim.Native.Nat.{◌-◌}
 use native.Mathlib.Omega.{arith}
 use Rattle.settings.specs.declared.Settings.{Settings}
 use Rattle.settings.specs.Settings.{zero_settings}
@@ -16,12 +15,6 @@ pub loop-i-init : goal.loop-i-init
 loop-i-init c =
     let few = channels-few _ _ c.at_most-n.ensures in
     (few.1, summing_start 0 (rw held-long few.1) few.0 c.none-l.ensures)
-
-pub overflow_add-i : goal.overflow_add-i
-overflow_add-i c = omega (arith, c.loop-i.invariant.1.few, c.loop-i-test.true)
-
-pub loop-i-smaller : goal.loop-i-smaller
-loop-i-smaller c = omega arith
 
 pub loop-i-preserved : goal.loop-i-preserved
 loop-i-preserved c =

@@ -1,5 +1,4 @@
 -- Record by record: those behind are up to date.
-use Prim.Native.Nat.{◌-◌}
 use native.Mathlib.Omega.{arith}
 use Rattle.records.proofs.Refreshing.{refreshing_start, refreshing_room, refreshing_more, refreshing_all}
 use Rattle.records.proofs.renew_all.Goals as goal
@@ -20,13 +19,6 @@ renew-requires c =
 pub lay_next-l-requires : goal.lay_next-l-requires
 lay_next-l-requires c =
     omega (arith, refreshing_room c.loop-i.invariant c.loop-i-test.true, c.renew.ensures.long)
-
-pub overflow_add-i : goal.overflow_add-i
-overflow_add-i c =
-    omega (arith, c.loop-i.invariant.sums.few, c.loop-i-test.true)
-
-pub loop-i-smaller : goal.loop-i-smaller
-loop-i-smaller c = omega (arith, c.loop-i-test.true)
 
 pub loop-i-preserved : goal.loop-i-preserved
 loop-i-preserved c =

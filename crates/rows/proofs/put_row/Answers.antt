@@ -14,13 +14,13 @@ pub overflow_mul-out : goal.overflow_mul-out
 overflow_mul-out c =
     let number-here : c.args.at.sequence * c.args.c.block + c.args.at.index < 2 ^ 64 =
     number_fits c.args.at.sequence c.args.c.block c.args.at.index (search rules) (search rules) (search rules) in
-    omega (arith, number-here)
+    rw (c.from-2.ensures, c.from-3.ensures) (omega (arith, number-here))
 
 pub overflow_add-out : goal.overflow_add-out
 overflow_add-out c =
     let number-here : c.args.at.sequence * c.args.c.block + c.args.at.index < 2 ^ 64 =
     number_fits c.args.at.sequence c.args.c.block c.args.at.index (search rules) (search rules) (search rules) in
-    omega (arith, number-here)
+    rw (c.from-2.ensures, c.from-3.ensures, c.from-4.ensures) (omega (arith, number-here))
 
 pub bounds-out-p-2 : goal.bounds-out-p-2
 bounds-out-p-2 c = simp length-set (omega arith)
@@ -44,5 +44,6 @@ pub returns : goal.returns
 returns c =
     let a = c.args in
     let number = a.at.sequence * a.c.block + a.at.index in
-    six_stored a.out.now a.p _ _ _ _ _ _
-    ∙ ap (λ (x : Shown). sets a.out.now a.p (a.at.channel ∷ number ∷ a.place ∷ x.kind ∷ x.whole ∷ a.bits ∷ [])) c.told-x.ensures
+    rw (c.from.ensures, c.from-2.ensures, c.from-3.ensures, c.from-4.ensures)
+    (six_stored a.out.now a.p _ _ _ _ _ _
+    ∙ ap (λ (x : Shown). sets a.out.now a.p (a.at.channel ∷ number ∷ a.place ∷ x.kind ∷ x.whole ∷ a.bits ∷ [])) c.told-x.ensures)

@@ -43,4 +43,4 @@ returns c =
     simp (le-leb _ _ c.if-out-lt-WORDS.false)
     (c.put_row.ensures
     ∙ ap (λ (x : Given). sets a.out.now 0 (row_of x))
-    (given_is (records_in a.t.now) a.little a.count a.at a.octets.now c.sampling_at-c.result c.width.result _ _ c.sampling_at-c.ensures c.width.ensures c.before-2.ensures (bits_of).0))
+    (given_is (records_in a.t.now) a.little a.count a.at a.octets.now c.sampling_at-c.result c.width.result _ _ c.sampling_at-c.ensures c.width.ensures c.saturating_sub.ensures (bits_of).0))

@@ -1,53 +1,33 @@
--- `runs::turn_blocks` meets its contract. The loop's invariant: the samples that are left give the buffer that is wanted.
-use mathlib.Core.Path.{refl, ◌∙◌}
-use Prim.Native.Nat.{ℕ, ◌*◌, ◌/◌, ◌≤◌}
-use native.Mathlib.Nat.{mul-le-mul_right}
+-- A turn stores the next block.
+use mathlib.Core.Path.{◌≡◌, ◌∙◌}
+use Prim.Native.Nat.{ℕ, ◌+◌, ◌*◌, ◌-◌, ◌/◌, ◌≤◌, ◌<◌}
+use native.Mathlib.Nat.{add-mul, one-mul, mul-le-mul_right, le-div_iff_mul-le}
 use native.Mathlib.Omega.{arith}
-use Rattle.runs.proofs.Blocks.{Whole, whole}
+use lib.ListN.{length}
+use Rattle.runs.proofs.Blocks.{whole, block_stored}
 use Rattle.runs.proofs.Samples.{left_less}
 use Rattle.runs.proofs.turn_blocks.Goals as goal
 
--- Where a block's samples are left, 16 octets are.
-block : {w left : ℕ} → Whole w → 16 / w ≤ left → 16 ≤ left * w
-block {w} a h = rw a.size at (mul-le-mul_right w h)
+-- The samples of block k are left.
+left : (k n each : ℕ) → 0 < each → k < n / each → each ≤ n - k * each
+left k n each some h =
+    let l : (k + 1) * each ≤ n = (le-div_iff_mul-le some).0 (omega arith) in
+    omega (arith, (rw (add-mul, one-mul) at l))
 
-pub nonzero_div-each : goal.nonzero_div-each
-nonzero_div-each c = (whole c.requires.fact).some
-
-pub loop-left-init : goal.loop-left-init
-loop-left-init c = record { there = omega arith; room = omega arith; long = refl; rest = refl }
-
-pub turn_block-requires : goal.turn_block-requires
-turn_block-requires c =
-    let h = block (whole c.requires.fact) c.loop-left-test.true in
-    record {
-      fact = c.requires.fact;
-      q_in_bounds = omega arith;
-      p_in_bounds = omega arith;
-    }
-
-pub overflow_add-q : goal.overflow_add-q
-overflow_add-q c =
-    let h = block (whole c.requires.fact) c.loop-left-test.true in
-    omega arith
-
-pub overflow_add-p : goal.overflow_add-p
-overflow_add-p c =
-    let h = block (whole c.requires.fact) c.loop-left-test.true in
-    omega arith
-
-pub loop-left-smaller : goal.loop-left-smaller
-loop-left-smaller c = let h = whole c.requires.fact in omega arith
-
-pub loop-left-preserved : goal.loop-left-preserved
-loop-left-preserved c =
-    left_less _ 16 (whole c.requires.fact).size
-    c.loop-left-test.true
-    c.turn_block.ensures
-    c.loop-left.invariant
-
-pub turn_each-requires : goal.turn_each-requires
-turn_each-requires c = omega arith
-
-pub returns : goal.returns
-returns c = c.turn_each.ensures ∙ c.loop-left.invariant.rest
+pub loop-k-preserved : goal.loop-k-preserved
+loop-k-preserved c =
+    let a = c.args in
+    let k = c.loop-k.k in
+    let e = whole c.requires.fact in
+    let h = left k a.n (16 / a.w) e.each c.loop-k-test.true in
+    let b = mul-le-mul_right a.w h in
+    let size = e.size in
+    let inv = c.loop-k.invariant in
+    let q : a.from + k * 16 + 16 ≡ a.from + (k + 1) * 16 = omega arith in
+    let p : a.at + k * 16 + 16 ≡ a.at + (k + 1) * 16 = omega arith in
+    let next : (k + 1) * (16 / a.w) ≡ k * (16 / a.w) + 16 / a.w = rw (add-mul, one-mul) in
+    let less : a.n - k * (16 / a.w) - 16 / a.w ≡ a.n - (k + 1) * (16 / a.w) = omega arith in
+    let there : a.from + k * 16 + 16 ≤ length a.src.now = omega (arith, inv.there, size, b) in
+    let room : a.at + k * 16 + 16 ≤ length c.loop-k.dst = omega (arith, inv.room, size, b) in
+    let stored = block_stored a.src.now c.loop-k.dst (a.from + k * 16) (a.at + k * 16) (a.from + k * 16 + 16 - (a.from + k * 16)) (a.at + k * 16 + 16 - (a.at + k * 16)) e there room (omega arith) (omega arith) c.copy_from_slice.ensures.after (c.copy_from_slice-in-loop-k.ensures.after ∙ c.turn_here.ensures) in
+    rw (← q, ← p, ← less) (left_less (16 / a.w) 16 e.size h stored inv)

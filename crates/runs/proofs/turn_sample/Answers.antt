@@ -1,54 +1,31 @@
--- `runs::turn_sample` meets its contract. The loop's invariant: the stores still to come give the buffer that is wanted.
-use mathlib.Core.Path.{◌≡◌, refl, sym, ap, ◌∙◌}
+-- A turn stores the next octet before those that are stored.
+use mathlib.Core.Path.{◌≡◌, sym, ap, ◌∙◌}
 use mathlib.Core.List.{List}
-use Prim.Native.Nat.{ℕ, zero, suc, ◌+◌, ◌-◌, ◌<◌}
+use Prim.Native.Nat.{ℕ, suc, ◌+◌, ◌-◌, ◌<◌}
 use native.Mathlib.Numerals.{add-one}
 use native.Mathlib.Omega.{arith}
-use lib.ListN.{set, get_or, length-set}
-use lib.Seq.{sets}
-use Rattle.runs.proofs.Places.{from_end, reversed}
+use lib.ListN.{length, set, get_or}
+use lib.Seq.{sets, length-sets}
+use Rattle.runs.proofs.Places.{from_end, reversed, set_before}
 use Rattle.runs.proofs.turn_sample.Goals as goal
 
--- A turn: the last octet that is left is stored.
-last : (s d : List ℕ) (q p k : ℕ) → 0 < k
-    → sets (set d p (get_or s (q + (k - 1)) 0)) (p + 1) (from_end s q (k - 1)) ≡ sets d p (from_end s q k)
-last s d q p zero h = let z : ⊥ = omega arith in absurd z
-last s d q p (suc k) h =
-    let e : suc k - 1 ≡ k = omega arith in
-    rw (e, add-one)
+turn : (s d : List ℕ) (q p k : ℕ) → k < p → set (sets d (p - k) (from_end s q k)) (p - 1 - k) (get_or s (q + k) 0) ≡ sets d (p - (k + 1)) (from_end s q (k + 1))
+turn s d q p k h =
+    let e : p - k ≡ suc (p - 1 - k) = omega arith in
+    let f : p - suc k ≡ p - 1 - k = omega arith in
+    rw (add-one, e, f) (sym (set_before (from_end s q k) d (suc (p - 1 - k)) (p - 1 - k) (get_or s (q + k) 0) (omega arith)))
 
-pub loop-k-init : goal.loop-k-init
-loop-k-init c = (omega arith, refl, refl, refl)
-
-pub overflow_sub-k : goal.overflow_sub-k
-overflow_sub-k c = omega arith
-
-pub overflow_add-dst : goal.overflow_add-dst
-overflow_add-dst c = omega arith
-
-pub bounds-src-from : goal.bounds-src-from
-bounds-src-from c = omega arith
-
-pub bounds-dst-p : goal.bounds-dst-p
-bounds-dst-p c = omega arith
-
-pub overflow_add-p : goal.overflow_add-p
-overflow_add-p c = omega arith
-
-pub loop-k-smaller : goal.loop-k-smaller
-loop-k-smaller c = omega arith
+pub bounds-dst-end : goal.bounds-dst-end
+bounds-dst-end c = omega (arith, ap length c.loop-k.invariant, length-sets c.args.dst.now (c.args.at + c.args.w - c.loop-k.k) (from_end c.args.src.now c.args.from c.loop-k.k))
 
 pub loop-k-preserved : goal.loop-k-preserved
 loop-k-preserved c =
-    let l = c.loop-k in
     let a = c.args in
-    let turn = last a.src.now l.dst a.from l.p l.k c.loop-k-test.true in
-    (omega arith, omega arith, simp length-set l.invariant.2, turn ∙ l.invariant.3)
+    rw c.loop-k.invariant (turn a.src.now a.dst.now a.from (a.at + a.w) c.loop-k.k (omega arith))
 
 pub returns : goal.returns
 returns c =
     let a = c.args in
-    let l = c.loop-k in
-    let e : l.k ≡ 0 = omega arith in
-    rw e at l.invariant.3
-    ∙ ap (sets a.dst.now a.at) (sym (reversed a.src.now a.from a.w (omega arith)))
+    let all : c.loop-k.k ≡ a.w = omega arith in
+    let first : a.at + a.w - a.w ≡ a.at = omega arith in
+    (rw (all, first) at c.loop-k.invariant) ∙ ap (sets a.dst.now a.at) (sym (reversed a.src.now a.from a.w (omega arith)))

@@ -9,16 +9,16 @@ pub returns-then-n-lt128 : goal.returns-then-n-lt128
 returns-then-n-lt128 c = sym (length_shortest_short _ c.if-n-lt128.true)
 
 pub returns-then-x-lt-ONE_OCTET : goal.returns-then-x-lt-ONE_OCTET
-returns-then-x-lt-ONE_OCTET c = omega (arith, length-shortest-long _ c.if-n-lt128.false, holding_one _ c.if-x-lt-ONE_OCTET.true)
+returns-then-x-lt-ONE_OCTET c = omega (arith, length-shortest-long _ c.if-n-lt128.false, holding_one c.args.n (omega arith))
 
 pub returns-then-x-lt-TWO_OCTETS : goal.returns-then-x-lt-TWO_OCTETS
 returns-then-x-lt-TWO_OCTETS c =
-    omega (arith, length-shortest-long _ c.if-n-lt128.false, holding_two _ c.if-x-lt-ONE_OCTET.false c.if-x-lt-TWO_OCTETS.true)
+    omega (arith, length-shortest-long _ c.if-n-lt128.false, holding_two c.args.n (omega arith) (omega arith))
 
 pub returns-then-x-lt-THREE_OCTETS : goal.returns-then-x-lt-THREE_OCTETS
 returns-then-x-lt-THREE_OCTETS c =
-    omega (arith, length-shortest-long _ c.if-n-lt128.false, holding_three _ c.if-x-lt-TWO_OCTETS.false c.if-x-lt-THREE_OCTETS.true)
+    omega (arith, length-shortest-long _ c.if-n-lt128.false, holding_three c.args.n (omega arith) (omega arith))
 
 pub returns : goal.returns
 returns c =
-    omega (arith, length-shortest-long _ c.if-n-lt128.false, holding_four _ c.if-x-lt-THREE_OCTETS.false)
+    omega (arith, length-shortest-long _ c.if-n-lt128.false, holding_four c.args.n (omega arith))

@@ -17,4 +17,4 @@ unfolding field
 returns c =
     let a = c.args in
     let h = sym c.overruns.ensures ∙ c.if-overruns.false in
-    putting_then (omega (arith, ltb-false, length-be a.w a.x)) c.put_two-next.ensures c.put_number.ensures
+    putting_then (omega (arith, ltb-false, length-be a.w a.x)) c.put_two-next.ensures (rw c.from-2.ensures at c.put_number.ensures)

@@ -47,4 +47,4 @@ returns c =
     let size = c.length_octets-size in
     let h = sym c.overruns.ensures ∙ c.if-overruns.false in
     long c.args.n size.result c.if-n-lt128.false size.ensures (omega (arith, ltb-false))
-    c.put_octet-next.ensures c.put_number.ensures
+    c.put_octet-next.ensures (rw c.from.ensures at c.put_number.ensures)

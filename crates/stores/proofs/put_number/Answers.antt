@@ -31,10 +31,7 @@ returns-then-overruns c =
 pub loop-i-init : goal.loop-i-init
 loop-i-init c =
     let h = sym c.overruns.ensures ∙ c.if-overruns.false in
-    (omega (arith, ltb-false), omega arith, refl, refl)
-
-pub overflow_sub-i : goal.overflow_sub-i
-overflow_sub-i c = omega arith
+    (omega (arith, ltb-false), refl, refl)
 
 pub overflow_cast-buf : goal.overflow_cast-buf
 overflow_cast-buf c = omega arith
@@ -45,15 +42,12 @@ overflow_add-buf c = omega arith
 pub bounds-buf-at : goal.bounds-buf-at
 bounds-buf-at c = omega arith
 
-pub loop-i-smaller : goal.loop-i-smaller
-loop-i-smaller c = omega arith
-
 pub loop-i-preserved : goal.loop-i-preserved
 loop-i-preserved c =
     let l = c.loop-i in
     let a = c.args in
     let turn = lowest l.buf a.at l.i l.v c.loop-i-test.true in
-    (l.invariant.0, omega arith, simp length-set l.invariant.2, turn ∙ l.invariant.3)
+    (l.invariant.0, simp length-set l.invariant.1, turn ∙ l.invariant.2)
 
 pub overflow_add-result : goal.overflow_add-result
 overflow_add-result c = omega arith
@@ -65,4 +59,4 @@ returns c =
     let l = c.loop-i in
     let e : l.i ≡ 0 = omega arith in
     let k = length-be a.w a.x in
-    putting (omega arith) (record { next = omega arith; stored = rw e at l.invariant.3 })
+    putting (omega arith) (record { next = omega arith; stored = rw e at l.invariant.2 })

@@ -1,6 +1,6 @@
 -- `stores::put_number` meets its contract. The loop's invariant: the stores still to come give the buffer that is wanted.
 use mathlib.Core.Path.{◌≡◌}
-use Prim.Native.Nat.{◌+◌, ◌-◌, ◌≤◌}
+use Prim.Native.Nat.{◌+◌, ◌≤◌}
 use lib.ListN.{length}
 use lib.Seq.{sets}
 use Rattle.stores.specs.Number.{be}
@@ -8,7 +8,4 @@ use Rattle.stores.proofs.put_number.Given as goal
 
 abbrev pub invariant-loop-i : goal.invariant-loop-i
 invariant-loop-i l =
-    (l.at + l.w ≤ length l.initial.buf) × (l.i ≤ l.w) × (length l.buf ≡ length l.initial.buf) × (sets l.buf l.at (be l.i l.v) ≡ sets l.initial.buf l.at (be l.w l.x))
-
-abbrev pub decreases-loop-i : goal.decreases-loop-i
-decreases-loop-i l = l.i
+    (l.at + l.w ≤ length l.initial.buf) × (length l.buf ≡ length l.initial.buf) × (sets l.buf l.at (be l.i l.v) ≡ sets l.initial.buf l.at (be l.w l.x))

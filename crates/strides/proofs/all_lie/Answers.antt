@@ -1,6 +1,5 @@
 -- The loop's invariant: the channels that are left decide.
 use mathlib.Core.Path.{sym, ap, ◌∙◌}
-use Prim.Native.Nat.{◌-◌}
 use native.Mathlib.Omega.{arith}
 use Rattle.spread.specs.Spread.{lies_spread}
 use Rattle.strides.proofs.Channels.{checking_begins, checking_unlaid, checking_turns, checking_ends}
@@ -9,21 +8,15 @@ use Rattle.strides.proofs.all_lie.Goals as goal
 pub loop-channel-init : goal.loop-channel-init
 loop-channel-init c = checking_begins _ _ _ _
 
-pub overflow_add-channel : goal.overflow_add-channel
-overflow_add-channel c = omega (arith, c.loop-channel-test.true)
-
-pub loop-channel-smaller : goal.loop-channel-smaller
-loop-channel-smaller c = omega (arith, c.loop-channel-test.true)
-
 pub loop-channel-preserved : goal.loop-channel-preserved
 loop-channel-preserved c =
-    let lies = ap (lies_spread c.args.size) (sym c.spread_at-x.ensures) ∙ sym c.lies.ensures ∙ c.if-lies.true in
+    let lies = ap (lies_spread c.args.size) (sym c.spread_at-x.ensures) ∙ sym c.lies.ensures ∙ c.if-not-lies.false in
     checking_turns _ _ _ _ c.loop-channel.invariant c.loop-channel-test.true lies
 
-pub returns-else-lies : goal.returns-else-lies
-returns-else-lies c =
-    let lies = ap (lies_spread c.args.size) (sym c.spread_at-x.ensures) ∙ sym c.lies.ensures ∙ c.if-lies.false in
+pub returns-then-not-lies : goal.returns-then-not-lies
+returns-then-not-lies c =
+    let lies = ap (lies_spread c.args.size) (sym c.spread_at-x.ensures) ∙ sym c.lies.ensures ∙ c.if-not-lies.true in
     checking_unlaid _ _ _ _ c.loop-channel.invariant c.loop-channel-test.true lies
 
 pub returns : goal.returns
-returns c = checking_ends _ _ _ _ c.loop-channel.invariant c.loop-channel-test.false
+returns c = checking_ends _ _ _ _ c.loop-channel.invariant (omega arith)

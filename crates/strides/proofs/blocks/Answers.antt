@@ -1,5 +1,4 @@
 -- `strides::blocks` meets its contract. The loop's invariant: the samples that are left give the buffer that is wanted.
-use Prim.Native.Nat.{◌-◌}
 use native.Mathlib.Omega.{arith}
 use borrow.Author.Rules.{rules}
 use Rattle.strides.proofs.Walks.{blocks_begin, piece_some, block-starts, block_within, blocks_turn, blocks_end}

@@ -1,5 +1,4 @@
 -- The loop's invariant: the samples of the channels that are left give the buffer that is wanted.
-use Prim.Native.Nat.{◌-◌}
 use native.Mathlib.Omega.{arith}
 use Rattle.strides.proofs.Channels.{laying_begins, laying_can, laying_turns, laying-ends}
 use Rattle.strides.proofs.lay_all.Goals as goal
@@ -20,12 +19,6 @@ overflow_add-at c =
     let n = rw c.spread_at-x.ensures at c.readable-n.ensures in
     omega (arith, (laying_can _ _ _ _ _ c.loop-channel.invariant c.loop-channel-test.true n).fits)
 
-pub overflow_add-channel : goal.overflow_add-channel
-overflow_add-channel c = omega (arith, c.loop-channel-test.true)
-
-pub loop-channel-smaller : goal.loop-channel-smaller
-loop-channel-smaller c = omega (arith, c.loop-channel-test.true)
-
 pub loop-channel-preserved : goal.loop-channel-preserved
 loop-channel-preserved c =
     let n = rw c.spread_at-x.ensures at c.readable-n.ensures in
@@ -36,7 +29,7 @@ shape_of-out c = c.loop-channel.invariant.long
 
 pub returns : goal.returns
 returns c =
-    let told = laying-ends _ _ _ _ _ c.loop-channel.invariant c.loop-channel-test.false in
+    let told = laying-ends _ _ _ _ _ c.loop-channel.invariant (omega arith) in
     record {
       value = told.0;
       out_after = told.1;

@@ -8,10 +8,11 @@ use Rattle.strides.proofs.lay_whole.Goals as goal
 pub overflow_add-start : goal.overflow_add-start
 overflow_add-start c = omega (arith, whole-small c.if-n-gt0.true c.requires)
 
-pub column2-requires : goal.column2-requires
-column2-requires c =
+pub fours_of-requires : goal.fours_of-requires
+fours_of-requires c =
     let pre = c.requires in
     rw c.apart-g.ensures (record {
+      small = omega arith;
       in_file = single_inside c.if-n-gt0.true pre c.if-x-eq1.true (sym c.if-width-eq2.true ∙ c.width.ensures);
       n_in_bounds = pre.fits;
     })
@@ -19,7 +20,7 @@ column2-requires c =
 pub returns-then-width-eq2 : goal.returns-then-width-eq2
 returns-then-width-eq2 c =
     let pre = c.requires in
-    (rw c.apart-g.ensures at c.column2.ensures) ∙ ap (sets _ _) (single_bits c.if-n-gt0.true pre c.if-x-eq1.true (sym c.if-width-eq2.true ∙ c.width.ensures) _)
+    (rw c.apart-g.ensures at c.fours_of.ensures) ∙ ap (sets _ _) (single_bits c.if-n-gt0.true pre c.if-x-eq1.true (sym c.if-width-eq2.true ∙ c.width.ensures) _)
 
 pub fill-requires : goal.fill-requires
 fill-requires c =

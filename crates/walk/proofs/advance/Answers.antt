@@ -1,248 +1,104 @@
 -- Each turn is a law of the walk: what is left from where it stands gives the answer.
-use Rattle.std.proofs.Common.{◌≡◌, ℕ, ◌-◌, List, length, sym, refl, ap, ◌∙◌, arith}
-use Rattle.items.specs.declared.Item.{Item}
-use Rattle.items.proofs.Walks.{found_as}
-use Rattle.words.specs.Words.{records_in}
-use Rattle.records.specs.Records.{PastKept}
+use Rattle.std.specs.Prelude.{Ok}
+use Rattle.std.proofs.Common.{refl, ap, ◌∙◌, arith, rules}
+use Rattle.effects.specs.declared.Effect.{Effect}
 use Rattle.records.proofs.Channels.{channels-few}
-use Rattle.walk.specs.declared.Waveform.{Waveform}
-use Rattle.walk.specs.Advance.{Stand, stand}
-use Rattle.walk.proofs.Turns.{advance_end, advance_fault, Turning, turning_later, turning_stands, turning_count, turning_all, turning_one, turning_refused, Measured, turning_measured, measured-refused, measured_last, measured-taken, below-frame, past_then, past_put, answered}
+use Rattle.walk.proofs.Comes.{comes_first, met, ends_there, fails_there, comes_smaller, comes_plain, comes_count, comes_all, comes_one, refused_there, frame_few, frame_refused, frame_taken}
 use Rattle.walk.proofs.advance.Goals as goal
 
--- ---- what is known at the places on the way
+pub loop-item-init : goal.loop-item-init
+loop-item-init c = comes_first _ _ _
 
--- What the item asks for is known.
+pub shape_of-t-in-Ok-None : goal.shape_of-t-in-Ok-None
+shape_of-t-in-Ok-None c = c.loop-item.invariant.long
 
--- What the item's waveform gives is known.
+pub returns-in-Ok-None : goal.returns-in-Ok-None
+returns-in-Ok-None c = ends_there c.loop-item.invariant c.next_item.ensures c.in-Ok-None.is c.in-Ok-None.field-0-is c.come_to.ensures
 
--- ---- the needs
+pub shape_of-t-in-Err : goal.shape_of-t-in-Err
+shape_of-t-in-Err c = c.loop-item.invariant.long
 
-pub loop-x-init : goal.loop-x-init
-loop-x-init c = (refl, refl, record { same = λ m h. refl })
+pub returns-in-Err : goal.returns-in-Err
+returns-in-Err c = fails_there c.loop-item.invariant c.next_item.ensures c.in-Err.is c.come_to-in-Err.ensures
 
-pub shape_of-t-in-End : goal.shape_of-t-in-End
-shape_of-t-in-End c =
-    c.loop-x.invariant.1
+pub loop-item-smaller-in-Count : goal.loop-item-smaller-in-Count
+loop-item-smaller-in-Count c =
+    comes_smaller c.loop-item.invariant (met c.next_item.ensures c.in-Ok-Some.is c.in-Ok-Some.field-0-is c.renewed-d.ensures c.item_effect.ensures c.in-Ok.is)
 
-pub returns-in-End : goal.returns-in-End
-returns-in-End c =
-    let file_of : List ℕ =
-    c.args.s.now in
-    let here : Stand =
-    stand c.loop-x.c c.loop-x.st c.loop-x.dates (records_in c.loop-x.t) c.loop-x.items c.args.h.frames in
-    answered c.come_to.ensures refl (advance_end (file_of) (here) c.next_item.ensures c.in-End.is ∙ c.loop-x.invariant.0) c.loop-x.invariant.1 c.loop-x.invariant.2 tt
+pub loop-item-preserved-in-Count : goal.loop-item-preserved-in-Count
+loop-item-preserved-in-Count c =
+    comes_count c.loop-item.invariant
+    (met c.next_item.ensures c.in-Ok-Some.is c.in-Ok-Some.field-0-is c.renewed-d.ensures c.item_effect.ensures c.in-Ok.is)
+    (ap (λ (e : Effect). Ok e) c.in-Count.is) c.standing_after-st.ensures c.cleared-dates.ensures c.wrapping_add_u64-read.ensures.value
 
-pub shape_of-t-in-Refused : goal.shape_of-t-in-Refused
-shape_of-t-in-Refused c =
-    c.loop-x.invariant.1
+pub loop-item-smaller-in-All : goal.loop-item-smaller-in-All
+loop-item-smaller-in-All c =
+    comes_smaller c.loop-item.invariant (met c.next_item.ensures c.in-Ok-Some.is c.in-Ok-Some.field-0-is c.renewed-d.ensures c.item_effect.ensures c.in-Ok.is)
 
-pub returns-in-Refused : goal.returns-in-Refused
-returns-in-Refused c =
-    let file_of : List ℕ =
-    c.args.s.now in
-    let here : Stand =
-    stand c.loop-x.c c.loop-x.st c.loop-x.dates (records_in c.loop-x.t) c.loop-x.items c.args.h.frames in
-    answered c.come_to-in-Refused.ensures refl (advance_fault (file_of) (here) _ c.next_item.ensures c.in-Refused.is ∙ c.loop-x.invariant.0) c.loop-x.invariant.1 c.loop-x.invariant.2 tt
+pub loop-item-preserved-in-All : goal.loop-item-preserved-in-All
+loop-item-preserved-in-All c =
+    comes_all c.loop-item.invariant
+    (met c.next_item.ensures c.in-Ok-Some.is c.in-Ok-Some.field-0-is c.renewed-d.ensures c.item_effect.ensures c.in-Ok.is)
+    (ap (λ (e : Effect). Ok e) c.in-All.is) c.standing_after-st-in-All.ensures c.defined-dates.ensures c.wrapping_add_u64-read.ensures.value
 
-pub loop-x-smaller-in-Count : goal.loop-x-smaller-in-Count
-loop-x-smaller-in-Count c =
-    let file_of : List ℕ =
-    c.args.s.now in
-    let here : Stand =
-    stand c.loop-x.c c.loop-x.st c.loop-x.dates (records_in c.loop-x.t) c.loop-x.items c.args.h.frames in
-    let item_of : Item =
-    c.in-Found.item in
-    let turn : Turning (file_of) (here) (item_of) c.renewed-d.result c.item_effect-effect.result =
-    record { found = sym c.next_item.ensures ∙ found_as c.in-Found.is c.renewed-d.ensures; asks = c.item_effect-effect.ensures } in
-    omega (arith, turning_later (turn))
+pub loop-item-smaller-in-One : goal.loop-item-smaller-in-One
+loop-item-smaller-in-One c =
+    comes_smaller c.loop-item.invariant (met c.next_item.ensures c.in-Ok-Some.is c.in-Ok-Some.field-0-is c.renewed-d.ensures c.item_effect.ensures c.in-Ok.is)
 
-pub loop-x-preserved-in-Count : goal.loop-x-preserved-in-Count
-loop-x-preserved-in-Count c =
-    let file_of : List ℕ =
-    c.args.s.now in
-    let here : Stand =
-    stand c.loop-x.c c.loop-x.st c.loop-x.dates (records_in c.loop-x.t) c.loop-x.items c.args.h.frames in
-    let item_of : Item =
-    c.in-Found.item in
-    let turn : Turning (file_of) (here) (item_of) c.renewed-d.result c.item_effect-effect.result =
-    record { found = sym c.next_item.ensures ∙ found_as c.in-Found.is c.renewed-d.ensures; asks = c.item_effect-effect.ensures } in
-    let inv = c.loop-x.invariant in
-    (turning_count (turn) c.in-Count.is c.standing_after-st.ensures c.cleared-dates.ensures c.wrapping_add_u64-read.ensures.value ∙ inv.0, inv.1, inv.2)
+pub loop-item-preserved-in-One : goal.loop-item-preserved-in-One
+loop-item-preserved-in-One c =
+    comes_one c.loop-item.invariant
+    (met c.next_item.ensures c.in-Ok-Some.is c.in-Ok-Some.field-0-is c.renewed-d.ensures c.item_effect.ensures c.in-Ok.is)
+    (ap (λ (e : Effect). Ok e) c.in-One.is) c.settled-stood.ensures c.apply.ensures c.note.ensures c.put.ensures c.wrapping_add_u64-read.ensures.value
 
-pub loop-x-smaller-in-All : goal.loop-x-smaller-in-All
-loop-x-smaller-in-All c =
-    let file_of : List ℕ =
-    c.args.s.now in
-    let here : Stand =
-    stand c.loop-x.c c.loop-x.st c.loop-x.dates (records_in c.loop-x.t) c.loop-x.items c.args.h.frames in
-    let item_of : Item =
-    c.in-Found.item in
-    let turn : Turning (file_of) (here) (item_of) c.renewed-d.result c.item_effect-effect.result =
-    record { found = sym c.next_item.ensures ∙ found_as c.in-Found.is c.renewed-d.ensures; asks = c.item_effect-effect.ensures } in
-    omega (arith, turning_later (turn))
+pub shape_of-t-in-Err-frame_of : goal.shape_of-t-in-Err-frame_of
+shape_of-t-in-Err-frame_of c = c.refresh-l.ensures.long ∙ c.loop-item.invariant.long
 
-pub loop-x-preserved-in-All : goal.loop-x-preserved-in-All
-loop-x-preserved-in-All c =
-    let file_of : List ℕ =
-    c.args.s.now in
-    let here : Stand =
-    stand c.loop-x.c c.loop-x.st c.loop-x.dates (records_in c.loop-x.t) c.loop-x.items c.args.h.frames in
-    let item_of : Item =
-    c.in-Found.item in
-    let turn : Turning (file_of) (here) (item_of) c.renewed-d.result c.item_effect-effect.result =
-    record { found = sym c.next_item.ensures ∙ found_as c.in-Found.is c.renewed-d.ensures; asks = c.item_effect-effect.ensures } in
-    let inv = c.loop-x.invariant in
-    (turning_all (turn) c.in-All.is c.standing_after-st-in-All.ensures c.defined-dates.ensures c.wrapping_add_u64-read.ensures.value ∙ inv.0, inv.1, inv.2)
-
-pub loop-x-smaller-in-One : goal.loop-x-smaller-in-One
-loop-x-smaller-in-One c =
-    let file_of : List ℕ =
-    c.args.s.now in
-    let here : Stand =
-    stand c.loop-x.c c.loop-x.st c.loop-x.dates (records_in c.loop-x.t) c.loop-x.items c.args.h.frames in
-    let item_of : Item =
-    c.in-Found.item in
-    let turn : Turning (file_of) (here) (item_of) c.renewed-d.result c.item_effect-effect.result =
-    record { found = sym c.next_item.ensures ∙ found_as c.in-Found.is c.renewed-d.ensures; asks = c.item_effect-effect.ensures } in
-    omega (arith, turning_later (turn))
-
-pub loop-x-preserved-in-One : goal.loop-x-preserved-in-One
-loop-x-preserved-in-One c =
-    let file_of : List ℕ =
-    c.args.s.now in
-    let here : Stand =
-    stand c.loop-x.c c.loop-x.st c.loop-x.dates (records_in c.loop-x.t) c.loop-x.items c.args.h.frames in
-    let item_of : Item =
-    c.in-Found.item in
-    let turn : Turning (file_of) (here) (item_of) c.renewed-d.result c.item_effect-effect.result =
-    record { found = sym c.next_item.ensures ∙ found_as c.in-Found.is c.renewed-d.ensures; asks = c.item_effect-effect.ensures } in
-    let inv = c.loop-x.invariant in
-    let stored = c.put.ensures in (
-      turning_one (turn) c.in-One.is c.settled-stood.ensures c.apply.ensures c.note.ensures stored.records c.wrapping_add_u64-read.ensures.value ∙ inv.0,
-      stored.long ∙ inv.1,
-      past_then inv.1 inv.2 (past_put stored),
-    )
-
-pub shape_of-t-in-Refused-frame_of : goal.shape_of-t-in-Refused-frame_of
-shape_of-t-in-Refused-frame_of c =
-    let words_of : List ℕ =
-    c.refresh-l.new.t in
-    let long_of : length (words_of) ≡ length c.args.t.now =
-    c.refresh-l.ensures.long ∙ c.loop-x.invariant.1 in
-    long_of
-
-pub returns-in-Refused-frame_of : goal.returns-in-Refused-frame_of
-returns-in-Refused-frame_of c =
-    let file_of : List ℕ =
-    c.args.s.now in
-    let here : Stand =
-    stand c.loop-x.c c.loop-x.st c.loop-x.dates (records_in c.loop-x.t) c.loop-x.items c.args.h.frames in
-    let item_of : Item =
-    c.in-Found.item in
-    let turn : Turning (file_of) (here) (item_of) c.renewed-d.result c.item_effect-effect.result =
-    record { found = sym c.next_item.ensures ∙ found_as c.in-Found.is c.renewed-d.ensures; asks = c.item_effect-effect.ensures } in
-    let words_of : List ℕ =
-    c.refresh-l.new.t in
-    let framing : Measured (file_of) (here) (item_of) c.renewed-d.result c.in-Frame.start c.in-Frame.len c.at_most-n.result c.refresh-l.result (records_in (words_of)) c.frame_of.result =
-    turning_measured (turn) c.in-Frame.is c.channels_of-count.ensures c.at_most-n.ensures refl c.refresh-l.ensures c.frame_of.ensures in
-    let long_of : length (words_of) ≡ length c.args.t.now =
-    c.refresh-l.ensures.long ∙ c.loop-x.invariant.1 in
-    let past_of : PastKept c.args.t.now (words_of) =
-    let inv = c.loop-x.invariant in
-    past_then inv.1 inv.2 c.refresh-l.ensures.past in
-    let inv = c.loop-x.invariant in
-    answered c.come_to-in-Refused-frame_of.ensures c.refused_at.ensures (measured-refused (framing) c.in-Refused-frame_of.is ∙ inv.0) (long_of) (past_of) tt
+pub returns-in-Err-frame_of : goal.returns-in-Err-frame_of
+returns-in-Err-frame_of c =
+    frame_refused c.loop-item.invariant
+    (met c.next_item.ensures c.in-Ok-Some.is c.in-Ok-Some.field-0-is c.renewed-d.ensures c.item_effect.ensures c.in-Ok.is)
+    (ap (λ (e : Effect). Ok e) c.in-Frame.is) c.channels_of-count.ensures c.at_most-n.ensures c.refresh-l.ensures c.frame_of.ensures
+    c.in-Err-frame_of.is c.refused_at-refused.ensures c.come_to-in-Err-frame_of.ensures
 
 pub taken-frame-requires : goal.taken-frame-requires
-taken-frame-requires c =
-    (channels-few _ _ c.at_most-n.ensures).0
+taken-frame-requires c = (channels-few _ _ c.at_most-n.ensures).0
 
 pub overflow_add-frames : goal.overflow_add-frames
 overflow_add-frames c =
-    let file_of : List ℕ =
-    c.args.s.now in
-    let here : Stand =
-    stand c.loop-x.c c.loop-x.st c.loop-x.dates (records_in c.loop-x.t) c.loop-x.items c.args.h.frames in
-    let item_of : Item =
-    c.in-Found.item in
-    let turn : Turning (file_of) (here) (item_of) c.renewed-d.result c.item_effect-effect.result =
-    record { found = sym c.next_item.ensures ∙ found_as c.in-Found.is c.renewed-d.ensures; asks = c.item_effect-effect.ensures } in
-    let words_of : List ℕ =
-    c.refresh-l.new.t in
-    let framing : Measured (file_of) (here) (item_of) c.renewed-d.result c.in-Frame.start c.in-Frame.len c.at_most-n.result c.refresh-l.result (records_in (words_of)) c.frame_of.result =
-    turning_measured (turn) c.in-Frame.is c.channels_of-count.ensures c.at_most-n.ensures refl c.refresh-l.ensures c.frame_of.ensures in
-    omega (arith, measured_last (framing) c.in-Taken.is)
+    omega (
+      arith,
+      frame_few c.loop-item.invariant
+          (met c.next_item.ensures c.in-Ok-Some.is c.in-Ok-Some.field-0-is c.renewed-d.ensures c.item_effect.ensures c.in-Ok.is)
+          (ap (λ (e : Effect). Ok e) c.in-Frame.is) c.channels_of-count.ensures c.at_most-n.ensures c.refresh-l.ensures c.frame_of.ensures
+          c.in-Ok-frame_of.is,
+    )
 
-pub shape_of-t-in-Taken : goal.shape_of-t-in-Taken
-shape_of-t-in-Taken c =
-    let words_of : List ℕ =
-    c.refresh-l.new.t in
-    let long_of : length (words_of) ≡ length c.args.t.now =
-    c.refresh-l.ensures.long ∙ c.loop-x.invariant.1 in
-    long_of
+pub shape_of-t-in-Ok-frame_of : goal.shape_of-t-in-Ok-frame_of
+shape_of-t-in-Ok-frame_of c = c.refresh-l.ensures.long ∙ c.loop-item.invariant.long
 
-pub returns-in-Taken : goal.returns-in-Taken
-returns-in-Taken c =
-    let file_of : List ℕ =
-    c.args.s.now in
-    let here : Stand =
-    stand c.loop-x.c c.loop-x.st c.loop-x.dates (records_in c.loop-x.t) c.loop-x.items c.args.h.frames in
-    let item_of : Item =
-    c.in-Found.item in
-    let turn : Turning (file_of) (here) (item_of) c.renewed-d.result c.item_effect-effect.result =
-    record { found = sym c.next_item.ensures ∙ found_as c.in-Found.is c.renewed-d.ensures; asks = c.item_effect-effect.ensures } in
-    let words_of : List ℕ =
-    c.refresh-l.new.t in
-    let framing : Measured (file_of) (here) (item_of) c.renewed-d.result c.in-Frame.start c.in-Frame.len c.at_most-n.result c.refresh-l.result (records_in (words_of)) c.frame_of.result =
-    turning_measured (turn) c.in-Frame.is c.channels_of-count.ensures c.at_most-n.ensures refl c.refresh-l.ensures c.frame_of.ensures in
-    let long_of : length (words_of) ≡ length c.args.t.now =
-    c.refresh-l.ensures.long ∙ c.loop-x.invariant.1 in
-    let past_of : PastKept c.args.t.now (words_of) =
-    let inv = c.loop-x.invariant in
-    past_then inv.1 inv.2 c.refresh-l.ensures.past in
-    let inv = c.loop-x.invariant in
-    answered c.come_to-in-Taken.ensures refl (measured-taken (framing) c.in-Taken.is c.taken-frame.ensures c.wrapping_add_u64-read.ensures.value ∙ inv.0) (long_of) (past_of)
-    (below-frame c.refresh-l.ensures c.at_most-n.ensures (ap (λ (w : Waveform). w.channels) c.taken-frame.ensures))
+pub returns-in-Ok-frame_of : goal.returns-in-Ok-frame_of
+returns-in-Ok-frame_of c =
+    frame_taken c.loop-item.invariant
+    (met c.next_item.ensures c.in-Ok-Some.is c.in-Ok-Some.field-0-is c.renewed-d.ensures c.item_effect.ensures c.in-Ok.is)
+    (ap (λ (e : Effect). Ok e) c.in-Frame.is) c.channels_of-count.ensures c.at_most-n.ensures c.refresh-l.ensures c.frame_of.ensures
+    c.in-Ok-frame_of.is c.taken-frame.ensures c.wrapping_add_u64-read.ensures.value c.come_to-in-Ok-frame_of.ensures
 
-pub shape_of-t-in-Refused-effect : goal.shape_of-t-in-Refused-effect
-shape_of-t-in-Refused-effect c =
-    c.loop-x.invariant.1
+pub shape_of-t-in-Err-item_effect : goal.shape_of-t-in-Err-item_effect
+shape_of-t-in-Err-item_effect c = c.loop-item.invariant.long
 
-pub returns-in-Refused-effect : goal.returns-in-Refused-effect
-returns-in-Refused-effect c =
-    let file_of : List ℕ =
-    c.args.s.now in
-    let here : Stand =
-    stand c.loop-x.c c.loop-x.st c.loop-x.dates (records_in c.loop-x.t) c.loop-x.items c.args.h.frames in
-    let item_of : Item =
-    c.in-Found.item in
-    let turn : Turning (file_of) (here) (item_of) c.renewed-d.result c.item_effect-effect.result =
-    record { found = sym c.next_item.ensures ∙ found_as c.in-Found.is c.renewed-d.ensures; asks = c.item_effect-effect.ensures } in
-    let inv = c.loop-x.invariant in
-    answered c.come_to-in-Refused-effect.ensures c.refused_at-in-Refused-effect.ensures (turning_refused (turn) c.in-Refused-effect.is ∙ inv.0) inv.1 inv.2 tt
+pub returns-in-Err-item_effect : goal.returns-in-Err-item_effect
+returns-in-Err-item_effect c =
+    refused_there c.loop-item.invariant
+    (met c.next_item.ensures c.in-Ok-Some.is c.in-Ok-Some.field-0-is c.renewed-d.ensures c.item_effect.ensures refl)
+    c.in-Err-item_effect.is c.refused_at.ensures c.come_to-in-Err-item_effect.ensures
 
-pub loop-x-smaller : goal.loop-x-smaller
-loop-x-smaller c =
-    let file_of : List ℕ =
-    c.args.s.now in
-    let here : Stand =
-    stand c.loop-x.c c.loop-x.st c.loop-x.dates (records_in c.loop-x.t) c.loop-x.items c.args.h.frames in
-    let item_of : Item =
-    c.in-Found.item in
-    let turn : Turning (file_of) (here) (item_of) c.renewed-d.result c.item_effect-effect.result =
-    record { found = sym c.next_item.ensures ∙ found_as c.in-Found.is c.renewed-d.ensures; asks = c.item_effect-effect.ensures } in
-    omega (arith, turning_later (turn))
+pub loop-item-smaller : goal.loop-item-smaller
+loop-item-smaller c =
+    comes_smaller c.loop-item.invariant (met c.next_item.ensures c.in-Ok-Some.is c.in-Ok-Some.field-0-is c.renewed-d.ensures c.item_effect.ensures c.in-Ok.is)
 
-pub loop-x-preserved : goal.loop-x-preserved
-loop-x-preserved c =
-    let file_of : List ℕ =
-    c.args.s.now in
-    let here : Stand =
-    stand c.loop-x.c c.loop-x.st c.loop-x.dates (records_in c.loop-x.t) c.loop-x.items c.args.h.frames in
-    let item_of : Item =
-    c.in-Found.item in
-    let turn : Turning (file_of) (here) (item_of) c.renewed-d.result c.item_effect-effect.result =
-    record { found = sym c.next_item.ensures ∙ found_as c.in-Found.is c.renewed-d.ensures; asks = c.item_effect-effect.ensures } in
-    let inv = c.loop-x.invariant in
-    (turning_stands (turn) c.in_default.in_default-own.keys6 c.standing_after-st-in_default.ensures c.wrapping_add_u64-read.ensures.value ∙ inv.0, inv.1, inv.2)
+pub loop-item-preserved : goal.loop-item-preserved
+loop-item-preserved c =
+    comes_plain c.loop-item.invariant
+    (met c.next_item.ensures c.in-Ok-Some.is c.in-Ok-Some.field-0-is c.renewed-d.ensures c.item_effect.ensures c.in-Ok.is)
+    refl (search rules) c.standing_after-st-in_default.ensures c.wrapping_add_u64-read.ensures.value

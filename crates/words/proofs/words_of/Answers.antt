@@ -1,13 +1,12 @@
 -- Each number is that of the lowest octets of its word.
-use mathlib.Core.Path.{◌≡◌, ◌∙◌}
+use mathlib.Core.Path.{◌≡◌, ◌∙◌, ap}
 use Prim.Native.Nat.{ℕ, ◌<◌, ◌^◌}
 use native.Mathlib.Nat.{mod-eq_of_lt}
-use native.Mathlib.Omega.{arith}
 use lib.IntN.{ℤ}
 use mir.Syntax.{w8, w32, w64}
 use mir.Val.{SFits, to_z, of_z}
 use Rattle.octets.specs.Number.{low_of, twos}
-use Rattle.octets.proofs.Machine.{widens, widened}
+use Rattle.octets.proofs.Machine.{widened}
 use Rattle.dated.specs.declared.Dated.{Dated}
 use Rattle.dated.specs.Dated.{noted}
 use Rattle.words.proofs.Laws.{one_back, four_back}
@@ -36,58 +35,27 @@ record Fit (x : Dated) : Type 0 where
   offset : x.settings.offset.width < 256
   null : x.settings.null.width < 256
 
-pub overflow_cast-x : goal.overflow_cast-x
-overflow_cast-x c =
-    let fit : Fit c.args.x =
-    search rules in
-    widens tt (fit).exponent
-
-pub overflow_cast-x-2 : goal.overflow_cast-x-2
-overflow_cast-x-2 c =
-    let fit : Fit c.args.x =
-    search rules in
-    widens tt (fit).mantissa
-
-pub overflow_cast-x-3 : goal.overflow_cast-x-3
-overflow_cast-x-3 c =
-    let fit : Fit c.args.x =
-    search rules in
-    widens tt (fit).exponent2
-
-pub overflow_cast-x-4 : goal.overflow_cast-x-4
-overflow_cast-x-4 c =
-    let fit : Fit c.args.x =
-    search rules in
-    widens tt (fit).mantissa2
-
-pub overflow_cast-result-8 : goal.overflow_cast-result-8
-overflow_cast-result-8 c =
-    let fit : Fit c.args.x =
-    search rules in
-    omega (arith, (fit).null)
-
 pub returns : goal.returns
 returns c =
-    let fit : Fit c.args.x =
+    let f : Fit c.args.x =
     search rules in
     let s = c.args.x.settings in
-    let f = fit in
     let word = c.signed_word in
     let word2 = c.signed_word-2 in
     let word3 = c.signed_word-3 in
     let word4 = c.signed_word-4 in
-    let e = exponent_back word.result (search rules) f.exponent word.ensures in
-    let m = mantissa_back word2.result (search rules) f.mantissa word2.ensures in
-    let e2 = exponent_back word3.result (search rules) f.exponent2 word3.ensures in
-    let m2 = mantissa_back word4.result (search rules) f.mantissa2 word4.ensures in
-    λ i. noted (mod-eq_of_lt f.at i)
+    let e = exponent_back word.result (search rules) f.exponent (rw c.from-6.ensures at word.ensures) in
+    let m = mantissa_back word2.result (search rules) f.mantissa (rw c.from-7.ensures at word2.ensures) in
+    let e2 = exponent_back word3.result (search rules) f.exponent2 (rw c.from-9.ensures at word3.ensures) in
+    let m2 = mantissa_back word4.result (search rules) f.mantissa2 (rw c.from-10.ensures at word4.ensures) in
+    λ i. noted ((ap (low_of 4) c.from-13.ensures ∙ mod-eq_of_lt f.at) i)
     (record {
-      block = mod-eq_of_lt f.block i;
-      class = mod-eq_of_lt f.class i;
-      lead = mod-eq_of_lt f.lead i;
-      datatype = mod-eq_of_lt f.datatype i;
-      interval = record { unit = mod-eq_of_lt f.unit i; exponent = e i; mantissa = m i };
-      resolution = record { unit = mod-eq_of_lt f.unit2 i; exponent = e2 i; mantissa = m2 i };
-      offset = record { width = mod-eq_of_lt f.offset i; bits = s.offset.bits };
-      null = record { width = mod-eq_of_lt f.null i; bits = s.null.bits };
+      block = (ap (low_of 4) c.from.ensures ∙ mod-eq_of_lt f.block) i;
+      class = (ap (low_of 2) c.from-2.ensures ∙ mod-eq_of_lt f.class) i;
+      lead = (ap (low_of 2) c.from-3.ensures ∙ mod-eq_of_lt f.lead) i;
+      datatype = (ap (low_of 1) c.from-4.ensures ∙ mod-eq_of_lt f.datatype) i;
+      interval = record { unit = (ap (low_of 1) c.from-5.ensures ∙ mod-eq_of_lt f.unit) i; exponent = e i; mantissa = m i };
+      resolution = record { unit = (ap (low_of 1) c.from-8.ensures ∙ mod-eq_of_lt f.unit2) i; exponent = e2 i; mantissa = m2 i };
+      offset = record { width = (ap (low_of 1) c.from-11.ensures ∙ mod-eq_of_lt f.offset) i; bits = s.offset.bits };
+      null = record { width = (ap (low_of 1) c.from-12.ensures ∙ mod-eq_of_lt f.null) i; bits = s.null.bits };
     })

@@ -2,4 +2,4 @@
 use Rattle.dated.proofs.Dates.defined.Goals as goal
 
 pub returns : goal.returns
-returns c = rw (c.timed-times.ensures, c.wrapping_add_u32.ensures.value)
+returns c = rw c.timed-times.ensures

@@ -1,35 +1,25 @@
 -- Row by row: the first one outside the table decides, and the layout is summed up.
 use Rattle.maker.proofs.Channels.{row-there, measuring_first, measuring_next, measuring_outside, measuring_done}
 use mathlib.Core.Path.{sym, ◌∙◌}
-use native.Mathlib.Omega.{arith}
-use Prim.Native.Nat.{◌-◌}
 use Rattle.maker.proofs.rows.measure.Goals as goal
 
-pub loop-i-init : goal.loop-i-init
-loop-i-init c = measuring_first c.requires c.none-l.ensures
+pub loop-index-init : goal.loop-index-init
+loop-index-init c = measuring_first c.requires c.none-l.ensures
 
-pub row_fits-requires : goal.row_fits-requires
-row_fits-requires c = row-there c.loop-i.invariant.there _ c.loop-i-test.true
+pub invariant_of-row : goal.invariant_of-row
+invariant_of-row c = record { there = row-there c.loop-index.invariant.there _ c.loop-index-test.true }
 
-pub returns-then-not-row_fits : goal.returns-then-not-row_fits
-returns-then-not-row_fits c =
-    measuring_outside c.loop-i.invariant c.loop-i-test.true (sym c.row_fits.ensures ∙ c.if-not-row_fits.true)
+pub returns-then-not-fits : goal.returns-then-not-fits
+returns-then-not-fits c =
+    measuring_outside c.loop-index.invariant c.loop-index-test.true (sym c.fits.ensures ∙ c.if-not-fits.true)
 
-pub settings_at-requires : goal.settings_at-requires
-settings_at-requires c =
-    (row-there c.loop-i.invariant.there _ c.loop-i-test.true, sym c.row_fits.ensures ∙ c.if-not-row_fits.false)
+pub settings-requires : goal.settings-requires
+settings-requires c = sym c.fits.ensures ∙ c.if-not-fits.false
 
-pub overflow_add-i : goal.overflow_add-i
-overflow_add-i c =
-    omega (arith, c.loop-i.invariant.there.few, c.loop-i-test.true)
-
-pub loop-i-smaller : goal.loop-i-smaller
-loop-i-smaller c = omega arith
-
-pub loop-i-preserved : goal.loop-i-preserved
-loop-i-preserved c =
-    measuring_next c.loop-i.invariant c.loop-i-test.true (sym c.row_fits.ensures ∙ c.if-not-row_fits.false)
-    c.settings_at.ensures c.more-l.ensures
+pub loop-index-preserved : goal.loop-index-preserved
+loop-index-preserved c =
+    measuring_next c.loop-index.invariant c.loop-index-test.true (sym c.fits.ensures ∙ c.if-not-fits.false)
+    c.settings.ensures c.more-l.ensures
 
 pub returns : goal.returns
-returns c = measuring_done c.loop-i.invariant c.loop-i-test.false
+returns c = measuring_done c.loop-index.invariant c.loop-index-test.false

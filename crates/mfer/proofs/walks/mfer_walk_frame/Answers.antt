@@ -6,6 +6,6 @@ use Rattle.mfer.proofs.walks.mfer_walk_frame.Goals as goal
 pub returns : goal.returns
 returns c =
     record {
-      count_after = c.read_out.ensures ∙ ap count_out c.sweep.ensures.result_value;
+      count_after = c.count_out.ensures ∙ ap count_out c.sweep.ensures.result_value;
       out_after = c.sweep.ensures.out_after;
     }

@@ -6,6 +6,6 @@ use Rattle.mfer.proofs.walks.mfer_walk_samples.Goals as goal
 pub returns : goal.returns
 returns c =
     record {
-      count_after = c.read_out.ensures ∙ ap count_out c.samples.ensures.result_value;
+      count_after = c.count_out.ensures ∙ ap count_out c.samples.ensures.result_value;
       out_after = c.samples.ensures.out_after;
     }

@@ -6,7 +6,7 @@ use Rattle.mfer.proofs.walks.mfer_walk_values.Goals as goal
 pub returns : goal.returns
 returns c =
     record {
-      count_after = c.read_out.ensures ∙ ap count_out c.values.ensures.result_value;
+      count_after = c.count_out.ensures ∙ ap count_out c.values.ensures.result_value;
       kinds_after = c.values.ensures.kinds_after;
       wholes_after = c.values.ensures.wholes_after;
     }

@@ -1,8 +1,8 @@
 -- The frame is kept where it is the one that is asked for, and its octets are added up.
+use Rattle.std.specs.Prelude.{Some}
 use mathlib.Core.Path.{◌∙◌, ap}
 use Prim.Native.Nat.{◌+◌}
 use Rattle.layout.proofs.Laws.{frame-few}
-use Rattle.pass.specs.declared.Found.{Found}
 use Rattle.pass.specs.Passing.{view_met}
 use Rattle.pass.proofs.Scans.{kept_this, kept_before}
 use native.Mathlib.Omega.{arith}
@@ -13,7 +13,7 @@ returns-then-self-asked c =
     let a = c.args in (
       λ k. record {
         frames = a.self.frames + 1;
-        found = (ap Found.Frame c.view_of.ensures ∙ kept_this _ a.self.found c.if-self-asked.true) k;
+        found = (ap Some c.view_of.ensures ∙ kept_this _ a.self.found c.if-self-asked.true) k;
         size = a.self.size + c.frame_size.ensures.0 k;
       },
       frame-few a.sequences a.l.groups a.there c.requires.groups (omega (arith, c.requires.waveform)),
@@ -24,7 +24,7 @@ returns c =
     let a = c.args in (
       λ k. record {
         frames = a.self.frames + 1;
-        found = kept_before (Found.Frame (view_met a.asked.channel a.st a.sequences a.start a.len a.l a.c)) a.self.found c.if-self-asked.false k;
+        found = kept_before (Some (view_met a.asked.channel a.st a.sequences a.start a.len a.l a.c)) a.self.found c.if-self-asked.false k;
         size = a.self.size + c.frame_size.ensures.0 k;
       },
       frame-few a.sequences a.l.groups a.there c.requires.groups (omega (arith, c.requires.waveform)),

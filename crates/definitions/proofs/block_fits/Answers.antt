@@ -1,9 +1,0 @@
--- Each way out is what its tests say.
-use borrow.Author.Tests.{le-leb, lt-leb}
-use Rattle.definitions.proofs.block_fits.Goals as goal
-
-pub returns-then-n-ge1 : goal.returns-then-n-ge1
-returns-then-n-ge1 c = simp (le-leb 1 _ c.if-n-ge1.true)
-
-pub returns-else-n-ge1 : goal.returns-else-n-ge1
-returns-else-n-ge1 c = simp (lt-leb 1 _ c.if-n-ge1.false)

@@ -1,7 +1,0 @@
--- No octets are in none.
-use mathlib.Core.Path.{sym}
-use native.Mathlib.Nat.{div-zero}
-use Rattle.spread.proofs.times.Goals as goal
-
-pub returns-then-b-eq0 : goal.returns-then-b-eq0
-returns-then-b-eq0 c = rw c.if-b-eq0.true (sym (div-zero c.args.a))

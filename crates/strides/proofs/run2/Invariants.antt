@@ -1,9 +1,0 @@
--- `strides::run2` meets its contract. The loop's invariant: the samples that are left give the buffer that is wanted.
-use Rattle.strides.proofs.Walks.{Running}
-use Rattle.strides.proofs.run2.Given as goal
-
-abbrev pub invariant-loop-left : goal.invariant-loop-left
-invariant-loop-left l = Running l.little 2 l.s l.step l.from l.n l.initial.out l.at l.out l.q l.p l.left
-
-abbrev pub decreases-loop-left : goal.decreases-loop-left
-decreases-loop-left l = l.left
