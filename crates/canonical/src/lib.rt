@@ -105,7 +105,7 @@ pub fn write_canonical(s: &[u8], out: &mut [u8]) -> Result<usize, Refusal>
 {
     let octets = canonical_length(s)?;
     if octets == 0 {
-        return Ok(0);
+        return Ok(octets);
     }
     if out.len() < octets {
         return no_room();

@@ -53,7 +53,16 @@ pub fn look_up(s: &[u8], frame: u32, channel: u32) -> Result<View, Refusal>
     ensures { answer_of result ≡ seen_of s.now frame channel }
 {
     let pass = pass::scan_file(s, Asked { frame, channel });
-    let n = pass.checked?;
+    let checked = pass.checked;
+    let Ok(n) = checked else {
+        let Err(x) = checked else {
+            return Err(Refusal {
+                fault: Fault::NoFrame,
+                place: 0,
+            });
+        };
+        return Err(x);
+    };
     if n <= frame {
         return Err(Refusal {
             fault: Fault::NoFrame,

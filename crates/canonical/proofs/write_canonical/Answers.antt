@@ -10,7 +10,7 @@ returns-in_err-octets c =
 
 pub returns-then-octets-eq0 : goal.returns-then-octets-eq0
 returns-then-octets-eq0 c =
-    rw (← c.if-octets-eq0.true) (written_none (λ i. (c.type_inv.s i).fits) c.in_ok-octets.ensures c.if-octets-eq0.true)
+    written_none (λ i. (c.type_inv.s i).fits) c.in_ok-octets.ensures c.if-octets-eq0.true
 
 pub returns-then-out-octets : goal.returns-then-out-octets
 returns-then-out-octets c =

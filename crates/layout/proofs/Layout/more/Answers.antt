@@ -6,7 +6,6 @@ use Rattle.sizes.specs.Size.{group_size}
 use Rattle.settings.specs.declared.Settings.{Settings}
 use Rattle.layout.specs.Frame.{width_in, block_octets, channel_agrees, width_agrees}
 use Rattle.layout.proofs.Layout.more.Goals as goal
-use Rattle.layout.proofs.Layout.more.Goals.{then-self, else-self}
 
 narrow : (c : Settings) (w : ℕ) → w ≡ width_in c → c.block * w ≤ c.block * 8
 narrow c w e = mul-le-mul_left c.block (rw e (width_le c.datatype))
@@ -27,14 +26,9 @@ returns c =
     let l = c.args.self in
     let w = c.width-w.ensures in
     let own : c.from.result * c.from-2.result ≡ x.block * width_in x = rw (c.from.ensures, c.from-2.ensures, w) in
-    let agree : c.if-self.result ≡ both l.agree (both (width_agrees (width_in x) x.offset) (width_agrees (width_in x) x.null)) =
-    elim c.if-self.branch [
-      | then-self s ↦ s.result-is ∙ s.widths_agree.ensures ∙ rw (s.if-self.true, w)
-      | else-self s ↦ s.result-is ∙ rw s.if-self.false
-    ] in
     record {
       value = λ k. record {
-        agree = agree k;
+        agree = (c.agree_both.ensures ∙ ap (both l.agree) (c.widths_agree.ensures ∙ ap (λ (n : ℕ). both (width_agrees n x.offset) (width_agrees n x.null)) w)) k;
         octets = ap (λ (n : ℕ). (l.octets + n) % 2 ^ 64) own k;
         below = (c.added_below.ensures ∙ ap (λ (n : ℕ). pick (ltb c.args.i c.args.channel) ((l.below + n) % 2 ^ 64) l.below) own) k;
         groups = ap (λ (n : ℕ). (l.groups + n) % 2 ^ 64) (c.group_size.ensures ∙ ap (λ (n : ℕ). group_size c.args.i n x.null) w) k;
