@@ -9,7 +9,6 @@ ghost use Rattle.std.specs.Prelude.{OnOk, IfSome};
 ghost use Rattle.std.specs.Io.KnownBytes.{Appends};
 ghost use Rattle.bench.specs.Said.{said_of};
 
-use line::Line;
 use std::io;
 use std::io::{Read, Write};
 
@@ -25,7 +24,9 @@ fn answer<R: Read, W: Write>(from: &mut R, to: &mut W) -> io::Result<()>
     if LIMIT < n {
         return to.write_all(b"too long\n");
     }
-    write!(to, "{}", Line(reader::check(&file[..n])))
+    let mut line = [0u8; line::BUFFER];
+    let k = line::put_line(reader::check(&file[..n]), &mut line);
+    to.write_all(octets::part(&line, 0, k))
 }
 
 fn main(rt: HostRuntime) -> io::Result<()> {

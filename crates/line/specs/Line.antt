@@ -1,10 +1,10 @@
 -- The line that the bench program writes for an answer of the check (document 01, "The canonical file").
-use Rattle.std.specs.Prelude.{List, [], ◌∷◌, ◌++◌, ℕ, zero, suc, ◌+◌, ◌/◌, ◌%◌, ltb}
+use Rattle.std.specs.Prelude.{◌≡◌, List, [], ◌∷◌, ◌++◌, ℕ, zero, suc, ◌+◌, ◌/◌, ◌%◌, ltb, length}
 use Prim.Native.Char.{code}
 use Prim.Native.String.{String, [] as []ᵗ, ◌∷◌ as ◌∷ᵗ◌}
 use Rattle.octets.specs.Pick.{pick}
 use Rattle.heads.specs.Faults.{number_of}
-use Rattle.heads.specs.Answer.{Answer, answered, refused_as}
+use Rattle.heads.specs.Answer.{Answer, answered, refused_as, left_by}
 
 -- A number in decimal, in ASCII; no more digits than are allowed.
 unfoldable pub decimal_in : ℕ → ℕ → List ℕ
@@ -26,3 +26,8 @@ ascii (c ∷ᵗ more) = code c ∷ ascii more
 unfoldable pub line_of : Answer ℕ → List ℕ
 line_of (answered n) = ascii "frames " ++ decimal_of n ++ ascii "\n"
 line_of (refused_as fault place) = ascii "refused " ++ decimal_of (number_of fault) ++ ascii " at " ++ decimal_of place ++ ascii "\n"
+
+-- The line of an answer stands at the start of the buffer d, and octets past it keep what they held: r is its length, and e the buffer then.
+pub record Lined (a : Answer ℕ) (d : List ℕ) (r : ℕ) (e : List ℕ) : Type 0 where
+  pub long : r ≡ length (line_of a)
+  pub left : e ≡ left_by (answered (line_of a)) d

@@ -14,7 +14,6 @@ ghost use Rattle.line.specs.Line.{line_of};
 ghost use Rattle.rewrite.specs.Rewritten.{rewritten, complaint};
 
 use heads::Refusal;
-use line::Line;
 use std::io;
 use std::io::{Read, Write};
 
@@ -28,7 +27,9 @@ const ROOM: usize = 120_000;
 fn say_refused<W: Write>(to: &mut W, x: Refusal) -> io::Result<()>
     ensures { OnOk result (Appends (W.contents to.old) (W.contents to.new) (line_of (refused_by x))) }
 {
-    write!(to, "{}", Line(Err(x)))
+    let mut line = [0u8; line::BUFFER];
+    let k = line::put_line(Err(x), &mut line);
+    to.write_all(octets::part(&line, 0, k))
 }
 
 // Reads a file and writes its canonical file. One octet more than the limit is read, to see that a file is longer.
