@@ -54,6 +54,7 @@ pub fn look_up(s: &[u8], frame: u32, channel: u32) -> Result<View, Refusal>
 {
     let pass = pass::scan_file(s, Asked { frame, channel });
     let checked = pass.checked;
+    // By `let .. else` and not by `?`: document 01 names this form for this place.
     let Ok(n) = checked else {
         let Err(x) = checked else {
             return Err(Refusal {
