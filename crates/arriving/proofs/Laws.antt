@@ -1,7 +1,8 @@
 -- Laws of a link that goes by value.
 --     confined-none, -more, -faulty, -past, -fits, -definite, -open    what a head says in a definite group
 --     seen_small          a length that is said has no more than four octets
---     waiting_now, waiting-on, framed_long, framed_told, waved-stage   refusals that wait, and frames
+--     notes_none, notes_limit, notes_then    what a link notes
+--     waiting_now, waiting-on, waiting_noted, framed_long, framed_told, waved-stage   refusals that wait, and frames
 --     turned_on, turned-frame, turned-refused      what became of an item
 --     one_more, one_kept  the octets that are kept, and one more
 -- Assumes nothing.
@@ -10,8 +11,8 @@ use Rattle.effects.specs.declared.Effect.{Effect}
 use Rattle.heads.specs.declared.Length.{Length}
 use Rattle.heads.specs.declared.ItemHead.{ItemHead}
 use Rattle.std.specs.Prelude.{Result, Ok, Err, Option, Some, None}
-use Rattle.heads.specs.Answer.{answer_of}
 use Rattle.std.proofs.Common.{◌≡◌, ℕ, zero, suc, ◌+◌, ◌-◌, ◌^◌, ◌<◌, ◌≤◌, min, Bool, true, false, eqb, ltb, leb, List, [], ◌∷◌, ◌++◌, length, get_or, take, drop, set, sym, refl, ap, ◌∙◌, subst, mod-eq_of_lt, add-one, arith, length-append, length-take, take_all, take-take, take-suc-set, ltb-false, ltb-true, le-ltb, lt-ltb, eq-eqb, ne_eqb, le-leb}
+use mathlib.Core.Logic.{◌⊎◌, inl, inr}
 use borrow.Author.Tests.{lt-leb}
 use native.Mathlib.Decide.{dec_lt}
 use Rattle.octets.specs.Pick.{pick, both}
@@ -42,13 +43,15 @@ use Rattle.layout.specs.Frame.{width_in}
 use Rattle.words.specs.Words.{records_in}
 use Rattle.link.specs.Link as L
 use Rattle.link.specs.Link.{Coming, kept_limit, cut_at, lasts_in, group_at, waiting, condemned, waved, stopped_at, turned_by, item_at, within_after, confined, seen_in}
+use Rattle.held.specs.declared.Noted.{Noted}
 use Rattle.held.specs.declared.Stage.{Stage}
-use Rattle.held.specs.Words.{phase_of}
+use Rattle.held.specs.Words.{noted_of, refusal_of, answer_by, phase_of}
+use Rattle.held.proofs.Laws.{noted_back}
 use Rattle.arriving.specs.declared.Link.{Link}
 use Rattle.rows.specs.declared.Spot.{Spot}
 use Rattle.rows.specs.Rows.{coming_at}
 use Rattle.arriving.specs.declared.Arrived.{Arrived}
-use Rattle.arriving.specs.Arriving.{kept_of, link_by, core, link_with, in_stage, in_stand, marked_by, counted_by, further_by, untold_by, waved_stage, at_sample, ComesNext, DecidedIn, Becomes, Moves, Turns, TurnsOn, Bounded, SmallForm, Seen, Takes, Steps}
+use Rattle.arriving.specs.Arriving.{kept_of, link_by, core, link_with, in_stage, in_stand, marked_by, counted_by, further_by, untold_by, waved_stage, at_sample, waiting_by, noted_in, Known, NotesBy, Notes, ComesNext, DecidedIn, Becomes, Moves, Turns, TurnsOn, Bounded, SmallForm, Seen, Takes, Steps}
 
 -- ---- tests
 
@@ -69,6 +72,84 @@ module _ {A : Type 0} (left : ℕ) (a b : A) where
 
   pub some_left : (left ≡ 0 → ⊥) → b ≡ pick (eqb left 0) a b
   some_left z = sym (ap (λ (t : Bool). pick t a b) (ne_eqb left 0 z))
+
+-- ---- what is noted
+
+-- A refusal is noted by the number of its fault.
+known_of : (r : Refusal) → noted_of (refusal_of (noted_of r)) ≡ noted_of r
+known_of r = ap noted_of (noted_back r)
+
+abbrev limit_noted : Noted
+limit_noted = noted_of (refusal LongFile 0)
+
+-- The same link, behind no more octets.
+pub notes_none : (x : Link) (n : ℕ) → x.core.count ≤ n → NotesBy n x.core.stage x
+notes_none x n h = by x.core.stage refl
+  where
+    by : (s : Stage) → x.core.stage ≡ s → NotesBy n s x
+    by Stage.Head e = subst Known (sym (ap noted_in e)) tt
+    by (Stage.Value tag left) e = subst Known (sym (ap noted_in e)) tt
+    by (Stage.Waveform left sequence channel index) e = subst Known (sym (ap noted_in e)) tt
+    by (Stage.Waits left r) e = inl (ap noted_in e, h)
+    by (Stage.Decided a) e = (e, h)
+
+-- Past the limit, where no answer was given.
+pub notes_limit : (s : Stage) (y : Link) (n : ℕ) → L.is_decided (phase_of s []) ≡ false → octets_limit < n → noted_in y.core.stage ≡ Some limit_noted → NotesBy n s y
+notes_limit Stage.Head y n d h e = subst Known (sym e) (known_of (refusal LongFile 0))
+notes_limit (Stage.Value tag left) y n d h e = subst Known (sym e) (known_of (refusal LongFile 0))
+notes_limit (Stage.Waveform left sequence channel index) y n d h e = subst Known (sym e) (known_of (refusal LongFile 0))
+notes_limit (Stage.Waits left r) y n d h e = inr (e, h)
+notes_limit (Stage.Decided a) y n d h e = absurd (subst Holds d tt)
+  where
+    Holds : Bool → Type 0
+    Holds true = Unit {0}
+    Holds false = ⊥
+
+-- Some octets, and then more.
+pub notes_then : (x y z : Link) (m k : ℕ) → Notes x m y → Notes y k z → Notes x (m + k) z
+notes_then x y z m k = by x.core.stage
+  where
+    Notes_one : Option Noted → Type 0
+    Notes_one None = ⊥
+    Notes_one (Some r) = Unit {0}
+
+    known : (t : Stage) → Known (noted_in t) → NotesBy (y.core.count + k) t z → Known (noted_in z.core.stage)
+    known Stage.Head h q = q
+    known (Stage.Value tag left) h q = q
+    known (Stage.Waveform left sequence channel index) h q = q
+    known (Stage.Waits left r) h (inl q) = subst Known (sym q.0) h
+    known (Stage.Waits left r) h (inr q) = subst Known (sym q.0) (known_of (refusal LongFile 0))
+    known (Stage.Decided a) h q = subst Known (sym (ap noted_in q.0)) h
+
+    same : (t : Stage) (r : Noted) → noted_in t ≡ Some r → NotesBy (y.core.count + k) t z
+        → ((noted_in z.core.stage ≡ Some r) × (z.core.count ≤ y.core.count + k)) ⊎ ((noted_in z.core.stage ≡ Some limit_noted) × (octets_limit < y.core.count + k))
+    same Stage.Head r e q = absurd (subst Notes_one (sym e) tt)
+    same (Stage.Value tag left) r e q = absurd (subst Notes_one (sym e) tt)
+    same (Stage.Waveform left sequence channel index) r e q = absurd (subst Notes_one (sym e) tt)
+    same (Stage.Waits left n) r e (inl q) = inl (q.0 ∙ e, q.1)
+    same (Stage.Waits left n) r e (inr q) = inr q
+    same (Stage.Decided a) r e q = inl (ap noted_in q.0 ∙ e, q.1)
+
+    waits : (left : ℕ) (r : Noted) → NotesBy (x.core.count + m) (Stage.Waits left r) y → Notes y k z → NotesBy (x.core.count + (m + k)) (Stage.Waits left r) z
+    waits left r (inl h) q = on (same y.core.stage r h.0 q)
+      where
+        on : ((noted_in z.core.stage ≡ Some r) × (z.core.count ≤ y.core.count + k)) ⊎ ((noted_in z.core.stage ≡ Some limit_noted) × (octets_limit < y.core.count + k)) → NotesBy (x.core.count + (m + k)) (Stage.Waits left r) z
+        on (inl w) = inl (w.0, omega (arith, h.1, w.1))
+        on (inr w) = inr (w.0, omega (arith, h.1, w.1))
+    waits left r (inr h) q = on (same y.core.stage limit_noted h.0 q)
+      where
+        on : ((noted_in z.core.stage ≡ Some limit_noted) × (z.core.count ≤ y.core.count + k)) ⊎ ((noted_in z.core.stage ≡ Some limit_noted) × (octets_limit < y.core.count + k)) → NotesBy (x.core.count + (m + k)) (Stage.Waits left r) z
+        on (inl w) = inr (w.0, omega (arith, h.1))
+        on (inr w) = inr (w.0, omega (arith, h.1))
+
+    by : (s : Stage) → NotesBy (x.core.count + m) s y → Notes y k z → NotesBy (x.core.count + (m + k)) s z
+    by Stage.Head h q = known y.core.stage h q
+    by (Stage.Value tag left) h q = known y.core.stage h q
+    by (Stage.Waveform left sequence channel index) h q = known y.core.stage h q
+    by (Stage.Waits left r) h q = waits left r h q
+    by (Stage.Decided a) h q =
+        let w = subst (λ (t : Stage). NotesBy (y.core.count + k) t z) h.0 q in
+        (w.0, omega (arith, h.1, w.1))
 
 -- ---- what is around
 
@@ -237,18 +318,37 @@ bounded x n (Ok (Some (ItemHead.Open channel start))) c h = tt
 
 -- ---- refusals that wait, and frames
 
-module _ {x y : Link} (left : ℕ) (r : Refusal) where
-  pub waiting_now : y ≡ in_stage (Stage.Decided (Err r)) x → left ≡ 0 → Becomes x y (waiting left r)
-  unfolding waiting
-  waiting_now e z = record { same = λ p q t. rw (e, eq-eqb left 0 z) refl }
+-- With whatever octets and words a choice is that of what is chosen.
+pick_link : (b : Bool) (y z : Link) (p t : List ℕ) → link_by (pick b y z) p t ≡ pick b (link_by y p t) (link_by z p t)
+pick_link true y z p t = refl
+pick_link false y z p t = refl
 
-  pub waiting-on : y ≡ in_stage (Stage.Waits left r) x → (left ≡ 0 → ⊥) → Becomes x y (waiting left r)
-  unfolding waiting
-  waiting-on e z = record { same = λ p q t. rw (e, ne_eqb left 0 z) refl }
+waiting-is : (left : ℕ) (r : Noted) (x : Link) (p q t : List ℕ) → link_by (waiting_by left r x) q t ≡ waiting left (refusal_of r) (link_by x p t)
+unfolding waiting
+waiting-is left r x p q t = pick_link (eqb left 0) (in_stage (Stage.Decided (Err r)) x) (in_stage (Stage.Waits left r) x) q t
+
+waiting_notes : (left : ℕ) (r : Noted) (x : Link) → (noted_in (waiting_by left r x).core.stage ≡ Some r) × ((waiting_by left r x).core.count ≤ x.core.count)
+waiting_notes left r x = pick_cases (λ (y : Link). (noted_in y.core.stage ≡ Some r) × (y.core.count ≤ x.core.count)) (eqb left 0) (λ _. (refl, omega arith)) (λ _. (refl, omega arith))
+
+-- A refusal that is noted waits as it does itself.
+pub waiting_noted : {x y : Link} (left : ℕ) (r : Refusal) {k : Noted} → k ≡ noted_of r → y ≡ waiting_by left k x → Becomes x y (waiting left r)
+waiting_noted {x} {y} left r {k} ek ey =
+    let is = ey ∙ ap (λ (n : Noted). waiting_by left n x) ek in
+    record {
+      known = subst Known (sym (ap (λ (z : Link). noted_in z.core.stage) is ∙ (waiting_notes left (noted_of r) x).0)) (known_of r);
+      same = λ p q t. ap (λ (z : Link). link_by z q t) is ∙ waiting-is left (noted_of r) x p q t ∙ ap (λ (n : Refusal). waiting left n (link_by x p t)) (noted_back r);
+    }
+
+module _ {x y : Link} (left : ℕ) (r : Refusal) where
+  pub waiting_now : y ≡ in_stage (Stage.Decided (Err (noted_of r))) x → left ≡ 0 → Becomes x y (waiting left r)
+  waiting_now e z = waiting_noted left r refl (e ∙ none_left left (in_stage (Stage.Decided (Err (noted_of r))) x) (in_stage (Stage.Waits left (noted_of r)) x) z)
+
+  pub waiting-on : y ≡ in_stage (Stage.Waits left (noted_of r)) x → (left ≡ 0 → ⊥) → Becomes x y (waiting left r)
+  waiting-on e z = waiting_noted left r refl (e ∙ some_left left (in_stage (Stage.Decided (Err (noted_of r))) x) (in_stage (Stage.Waits left (noted_of r)) x) z)
 
 pub condemned_by : {x y : Link} (w : Within) (left n : ℕ) (r : Refusal) → Becomes x y (waiting n r) → n ≡ lasts_in w x.core.count left → Becomes x y (condemned w left r)
 unfolding condemned
-condemned_by {x} w left n r b e = record { same = λ p q t. b.same p q t ∙ ap (λ (k : ℕ). waiting k r (link_by x p t)) e }
+condemned_by {x} w left n r b e = record { known = b.known; same = λ p q t. b.same p q t ∙ ap (λ (k : ℕ). waiting k r (link_by x p t)) e }
 
 waved-phase : (left : ℕ) → phase_of (waved_stage left) [] ≡ waved left L.first_coming
 unfolding waved
@@ -260,6 +360,7 @@ module _ {x : Link} (left : ℕ) {h : Head} (v : Waveform) where
   unfolding stopped_at
   framed_long t e b =
       record {
+        known = b.known;
         same = λ p q u w. b.same p q w ∙ ap (λ (k : Link). waiting left (refusal LongFile 0) (link_by k p w)) e
             ∙ sym (ap (λ (c : Bool). pick c (waiting left (refusal LongFile 0) (link_by (in_stand h x) p w)) (L.link x.core.count (stand_of h w) x.core.around v (waved left L.first_coming))) t);
       }
@@ -268,6 +369,7 @@ module _ {x : Link} (left : ℕ) {h : Head} (v : Waveform) where
   unfolding stopped_at
   framed_told t e =
       record {
+        known = subst (λ (k : Stage). Known (noted_in k)) (sym e) (pick_cases (λ (k : Stage). Known (noted_in k)) (eqb left 0) (λ _. tt) (λ _. tt));
         same = λ p q u w. ap (λ (k : L.Phase). L.link x.core.count (stand_of h w) x.core.around v k) (ap (λ (k : Stage). phase_of k []) e ∙ waved-phase left)
             ∙ sym (ap (λ (c : Bool). pick c (waiting left (refusal LongFile 0) (link_by (in_stand h x) p w)) (L.link x.core.count (stand_of h w) x.core.around v (waved left L.first_coming))) t);
       }
@@ -278,23 +380,24 @@ pub goes_on : {x : Link} {h : Head} {w : Within} {around : ℕ} → w ≡ stands
     → Moves x h (λ y. turned_by 0 (on y)) (link_with (core x.core.count around 0 Stage.Head) h x.frame)
 unfolding turned_by
 goes_on {x} {h} ew ea =
-    record { same = λ p q u v. ap (λ (k : ℕ). L.link x.core.count (stand_of h v) k x.frame (L.head [])) (ea ∙ ap (λ (k : Within). group_at k x.core.around) ew) }
+    record { known = tt; same = λ p q u v. ap (λ (k : ℕ). L.link x.core.count (stand_of h v) k x.frame (L.head [])) (ea ∙ ap (λ (k : Within). group_at k x.core.around) ew) }
 
 module _ {x : Link} (left : ℕ) {h : Head} {w : Result (Option Waveform) Refusal} {r : Link} where
   pub turned_on : w ≡ Ok None → Moves x h (λ y. turned_by 0 (on y)) r → Moves x h (λ y. turned_by left (turn_by w y)) r
   unfolding turned_by
-  turned_on e m = record { same = λ p q u v. m.same p q u v ∙ ap (λ (k : Result (Option Waveform) Refusal). turned_by left (turn_by k (stand_of h v)) (link_by x p u)) (sym e) }
+  turned_on e m = record { known = m.known; same = λ p q u v. m.same p q u v ∙ ap (λ (k : Result (Option Waveform) Refusal). turned_by left (turn_by k (stand_of h v)) (link_by x p u)) (sym e) }
 
   pub turned-frame : (f : Waveform) → w ≡ Ok (Some f) → Moves x h (stopped_at left (Ok (Some f))) r → Moves x h (λ y. turned_by left (turn_by w y)) r
   unfolding turned_by
   turned-frame f e m =
-      record { same = λ p q u v. m.same p q u v ∙ ap (λ (k : Result (Option Waveform) Refusal). turned_by left (turn_by k (stand_of h v)) (link_by x p u)) (sym e) }
+      record { known = m.known; same = λ p q u v. m.same p q u v ∙ ap (λ (k : Result (Option Waveform) Refusal). turned_by left (turn_by k (stand_of h v)) (link_by x p u)) (sym e) }
 
   pub turned-refused : {z : Link} (n : Refusal) (a : Within) → w ≡ Err n → z ≡ in_stand h x → a ≡ stands_in x.head.cursor.at x.head.cursor.within → Becomes z r (condemned a left n)
       → Moves x h (λ y. turned_by left (turn_by w y)) r
   unfolding turned_by stopped_at
   turned-refused n a e ez ea b =
       record {
+        known = b.known;
         same = λ p q u v. b.same p q v ∙ (λ i. condemned (ea i) left n (link_by (ez i) p v))
             ∙ ap (λ (k : Result (Option Waveform) Refusal). turned_by left (turn_by k (stand_of h v)) (link_by x p u)) (sym e);
       }
@@ -303,6 +406,7 @@ pub effected_turns : {x m r : Link} {u v : List ℕ} (left : ℕ) (c : Cursor) (
     → Moves m k.head (λ y. turned_by left (turn_by k.went y)) r → Turns x u (L.effected left c e) r v
 effected_turns {x} {m} {u = u} {v} left c e em t b =
     record {
+      known = b.known;
       same = λ p q. b.same p q u v ∙ ap (λ (y : Turn). turned_by left y (link_by m p u)) t.same
           ∙ (λ i. turned_by left (effect_turn (stand_of (em i).head u) c (em i).head.cursor.at e) (link_by (em i) p u));
       long = t.long;
@@ -316,18 +420,19 @@ done_turns {x} {u = u} s tag ew ei ee ea t =
     let place = x.head.cursor.at in
     let effect = ee ∙ ap (effect_of s x.head.standing) (ei ∙ ap (λ (k : Within). item_at k place tag (length s)) ew) in
     let after = ea ∙ ap (λ (k : Within). within_after k tag (length s)) ew in
-    record { same = λ p q. t.same p q ∙ (λ j. L.effected 0 (cursor x.core.count (after j)) (effect j) (link_by x p u)); long = t.long }
+    record { known = t.known; same = λ p q. t.same p q ∙ (λ j. L.effected 0 (cursor x.core.count (after j)) (effect j) (link_by x p u)); long = t.long }
 
 module _ {x : Link} {u : List ℕ} (tag left n : ℕ) (p : List ℕ) where
   pub valued_done : {r : Link} {v : List ℕ} (s : List ℕ) → left ≡ 0 → s ≡ take n p → Turns x u (L.done_item tag s) r v → TurnsOn x u (L.valued tag left (take n p)) r p v
   unfolding L.valued
-  valued_done s z e t = record { same = λ q. t.same q p ∙ ap (λ (k : List ℕ). L.done_item tag k (link_by x q u)) e ∙ sym (ap (λ (b : Bool). pick b (L.done_item tag (take n p) (link_by x q u)) (L.in_phase (L.value tag left (take n p)) (link_by x q u))) (eq-eqb left 0 z)); long = t.long }
+  valued_done s z e t = record { known = t.known; same = λ q. t.same q p ∙ ap (λ (k : List ℕ). L.done_item tag k (link_by x q u)) e ∙ sym (ap (λ (b : Bool). pick b (L.done_item tag (take n p) (link_by x q u)) (L.in_phase (L.value tag left (take n p)) (link_by x q u))) (eq-eqb left 0 z)); long = t.long }
 
   pub valued-on : (left ≡ 0 → ⊥) → n ≤ kept_limit → TurnsOn x u (L.valued tag left (take n p)) (link_with (core x.core.count x.core.around n (Stage.Value tag left)) x.head x.frame) p u
   unfolding L.valued
   valued-on z h =
       let k : min n kept_limit ≡ n = omega arith in
       record {
+        known = tt;
         same = λ q. ap (λ (m : ℕ). L.in_phase (L.value tag left (take m p)) (link_by x q u)) k
             ∙ sym (ap (λ (b : Bool). pick b (L.done_item tag (take n p) (link_by x q u)) (L.in_phase (L.value tag left (take n p)) (link_by x q u))) (ne_eqb left 0 z));
         long = refl;
@@ -338,6 +443,7 @@ module _ {x : Link} {u : List ℕ} (tag len : ℕ) {p : List ℕ} {r : Link} {v 
   unfolding L.primitive_begins
   begins_frame e t =
       record {
+        known = t.known;
         same = λ q. t.same q p
             ∙ sym (ap (λ (b : Bool). pick b (L.effected len (cursor (x.core.count + len) Within.Root) (Ok (Effect.Frame x.core.count len)) (link_by x q u)) (L.valued tag len [] (link_by x q u))) (eq-eqb tag 0x1E e));
         long = t.long;
@@ -347,6 +453,7 @@ module _ {x : Link} {u : List ℕ} (tag len : ℕ) {p : List ℕ} {r : Link} {v 
   unfolding L.primitive_begins
   begins_value e t =
       record {
+        known = t.known;
         same = λ q. t.same q
             ∙ sym (ap (λ (b : Bool). pick b (L.effected len (cursor (x.core.count + len) Within.Root) (Ok (Effect.Frame x.core.count len)) (link_by x q u)) (L.valued tag len [] (link_by x q u))) (ne_eqb tag 0x1E e));
         long = t.long;
@@ -356,7 +463,7 @@ pub group_turns : {x r : Link} {u v : List ℕ} (s : List ℕ) (left channel : �
     → Turns x u (L.effected left (cursor x.core.count w) e) r v → Turns x u (L.group_begins left channel w) r v
 unfolding effect_of
 group_turns {x} {u = u} s left channel w e t =
-    record { same = λ p q. t.same p q ∙ ap (λ (k : Result Effect Fault). L.effected left (cursor x.core.count w) k (link_by x p u)) e; long = t.long }
+    record { known = t.known; same = λ p q. t.same p q ∙ ap (λ (k : Result Effect Fault). L.effected left (cursor x.core.count w) k (link_by x p u)) e; long = t.long }
 
 -- ---- a head
 
@@ -369,27 +476,27 @@ module _ {x : Link} {u : List ℕ} (p : List ℕ) (n : ℕ) {f : Result (Option 
   unfolding L.headed
   headed-more e h =
       let k : min n kept_limit ≡ n = omega arith in
-      headed_as (Ok None) e (record { same = λ q. ap (λ (m : ℕ). L.in_phase (L.head (take m p)) (link_by x q u)) k; long = refl })
+      headed_as (Ok None) e (record { known = tt; same = λ q. ap (λ (m : ℕ). L.in_phase (L.head (take m p)) (link_by x q u)) k; long = refl })
 
   pub headed_faulty : (fault : Fault) {m r : Link} {w : Within} → f ≡ Err fault → m ≡ marked_by x → w ≡ stands_in x.head.cursor.at x.head.cursor.within
       → Becomes m r (condemned w 0 (refusal fault x.head.cursor.at)) → TurnsOn x u (L.headed (take n p) f) r p u
   unfolding L.headed
   headed_faulty fault e em ew b =
       headed_as (Err fault) e
-      (record { same = λ q. b.same q p u ∙ (λ i. condemned (ew i) 0 (refusal fault x.head.cursor.at) (link_by (em i) q u)); long = refl })
+      (record { known = b.known; same = λ q. b.same q p u ∙ (λ i. condemned (ew i) 0 (refusal fault x.head.cursor.at) (link_by (em i) q u)); long = refl })
 
   module _ {r : Link} {v : List ℕ} where
     pub headed_primitive : (tag start len : ℕ) → f ≡ Ok (Some (ItemHead.Primitive tag start len)) → TurnsOn x u (L.primitive_begins tag len) r p v → TurnsOn x u (L.headed (take n p) f) r p v
     unfolding L.headed
-    headed_primitive tag start len e t = headed_as (Ok (Some (ItemHead.Primitive tag start len))) e (record { same = t.same; long = t.long })
+    headed_primitive tag start len e t = headed_as (Ok (Some (ItemHead.Primitive tag start len))) e (record { known = t.known; same = t.same; long = t.long })
 
     pub headed_definite : (channel start len : ℕ) → f ≡ Ok (Some (ItemHead.Definite channel start len)) → Turns x u (L.group_begins len channel (Within.Definite channel (x.core.count + len))) r v → TurnsOn x u (L.headed (take n p) f) r p v
     unfolding L.headed
-    headed_definite channel start len e t = headed_as (Ok (Some (ItemHead.Definite channel start len))) e (record { same = λ q. t.same q p; long = t.long })
+    headed_definite channel start len e t = headed_as (Ok (Some (ItemHead.Definite channel start len))) e (record { known = t.known; same = λ q. t.same q p; long = t.long })
 
     pub headed_open : (channel start : ℕ) → f ≡ Ok (Some (ItemHead.Open channel start)) → Turns x u (L.group_begins 0 channel (Within.Open channel x.head.cursor.at)) r v → TurnsOn x u (L.headed (take n p) f) r p v
     unfolding L.headed
-    headed_open channel start e t = headed_as (Ok (Some (ItemHead.Open channel start))) e (record { same = λ q. t.same q p; long = t.long })
+    headed_open channel start e t = headed_as (Ok (Some (ItemHead.Open channel start))) e (record { known = t.known; same = λ q. t.same q p; long = t.long })
 
 -- ---- one octet more
 
@@ -421,20 +528,20 @@ module _ (x : Link) (u p : List ℕ) (b : ℕ) {n : ℕ} (en : n ≡ min x.core.
   kept-is = ap (λ (k : ℕ). take k p) en
 
   pub head_takes : {y link : Link} {v part : List ℕ} {w : Within} {f : Result (Option ItemHead) Fault} → y ≡ untold_by x → w ≡ stands_in y.head.cursor.at y.head.cursor.within → part ≡ take (n + 1) (set p n b) → Seen w y.core.count part f
-      → TurnsOn y u (L.headed (take (n + 1) (set p n b)) f) link (set p n b) v → Takes x p u b (L.head (kept_of x p)) (record { link = link; octets = set p n b }) v
+      → TurnsOn y u (L.headed (take (n + 1) (set p n b)) f) link (set p n b) v → Takes x p u b (L.head (kept_of x p)) Stage.Head (record { link = link; octets = set p n b }) v
   unfolding L.taken_in
   head_takes {y} {part = part} {w} ey ew ep s t =
       let now = one_more p n b here ∙ ap (λ (k : List ℕ). k ++ (b ∷ [])) kept-is in
       let around = ew ∙ (λ i. stands_in (ey i).head.cursor.at (ey i).head.cursor.within) in
       let form = s.is ∙ (λ i. seen_in (around i) (ey i).core.count (form_of (is_inside (around i)) ((ep ∙ now) i))) in
-      record { same = t.same p ∙ (λ i. L.headed (now i) (form i) (link_by (ey i) p u)); long = t.long }
+      record { notes = t.known; same = t.same p ∙ (λ i. L.headed (now i) (form i) (link_by (ey i) p u)); long = t.long }
 
   pub value_takes : {link : Link} {v : List ℕ} (tag left : ℕ) {k m : ℕ} → k ≡ left - 1 → m ≡ min (n + 1) kept_limit → TurnsOn x u (L.valued tag k (take m (set p n b))) link (set p n b) v
-      → Takes x p u b (L.value tag left (kept_of x p)) (record { link = link; octets = set p n b }) v
+      → Takes x p u b (L.value tag left (kept_of x p)) (Stage.Value tag left) (record { link = link; octets = set p n b }) v
   unfolding L.taken_in
   value_takes tag left ek em t =
       let kept = ap (λ (k : ℕ). take k (set p n b)) em ∙ one_kept p n b here ∙ ap (λ (k : List ℕ). take kept_limit (k ++ (b ∷ []))) kept-is in
-      record { same = t.same p ∙ (λ i. L.valued tag (ek i) (kept i) (link_by x p u)); long = t.long }
+      record { notes = t.known; same = t.same p ∙ (λ i. L.valued tag (ek i) (kept i) (link_by x p u)); long = t.long }
 
 -- ---- an octet of a waveform
 
@@ -479,30 +586,31 @@ module _ (x : Link) (u p : List ℕ) (b left : ℕ) (at : Spot) {n rest : ℕ} (
 
   -- The sample at hand afterwards, by the two tests.
   waves_by : {link : Link} {o : List ℕ} (to : Spot) (k : ℕ) (s w : Bool) → ltb at.sequence x.frame.sequences ≡ s → wide ≡ w → link ≡ at_sample rest to k x → coming_at to (take (min k kept_limit) o) ≡ comes s w
-      → Takes x p u b (L.waveform left sample) (record { link = link; octets = o }) u
+      → Takes x p u b (L.waveform left sample) (Stage.Waveform left at.sequence at.channel at.index) (record { link = link; octets = o }) u
   unfolding L.taken_in L.sample_on
   waves_by {o = o} to k s w es ew el ec =
       record {
+        notes = subst (λ (y : Link). Known (noted_in y.core.stage)) (sym el) (pick_cases (λ (y : Link). Known (noted_in y.core.stage)) (eqb rest 0) (λ _. tt) (λ _. tt));
         same = ap (λ (y : Link). link_by y o u) el ∙ sample-phase x rest to k o p u
             ∙ (λ i. L.in_phase (waved (er i) (ec i)) (link_by x p u))
             ∙ (λ i. L.in_phase (waved (left - 1) (comes (sym es i) (sym ew i))) (link_by x p u));
         long = refl;
       }
 
-  pub surplus_takes : {link : Link} → link ≡ at_sample rest at n x → x.frame.sequences ≤ at.sequence → Takes x p u b (L.waveform left sample) (record { link = link; octets = p }) u
+  pub surplus_takes : {link : Link} → link ≡ at_sample rest at n x → x.frame.sequences ≤ at.sequence → Takes x p u b (L.waveform left sample) (Stage.Waveform left at.sequence at.channel at.index) (record { link = link; octets = p }) u
   surplus_takes el h =
       let k : min n kept_limit ≡ min x.core.held kept_limit = omega arith in
       waves_by at n false wide (le-ltb at.sequence x.frame.sequences h) refl el (ap (λ (m : ℕ). coming_at at (take m p)) k)
 
   module _ (few : at.sequence < x.frame.sequences) {c : Settings} (ec : c ≡ channel_at) where
-    pub part_takes : {link : Link} → link ≡ at_sample rest at (n + 1) x → n + 1 < width_in c → Takes x p u b (L.waveform left sample) (record { link = link; octets = set p n b }) u
+    pub part_takes : {link : Link} → link ≡ at_sample rest at (n + 1) x → n + 1 < width_in c → Takes x p u b (L.waveform left sample) (Stage.Waveform left at.sequence at.channel at.index) (record { link = link; octets = set p n b }) u
     part_takes el h =
         let width = width_le c.datatype in
         let k : min (n + 1) kept_limit ≡ n + 1 = omega (arith, width) in
         let now = ap (λ (m : ℕ). take m (set p n b)) k ∙ one_more p n b (omega arith) ∙ ap (λ (m : ℕ). take m p ++ (b ∷ [])) en in
         waves_by at (n + 1) true true (lt-ltb at.sequence x.frame.sequences few) (lt-ltb (length (kept_of x p ++ (b ∷ []))) (width_in channel_at) (subst (λ (y : Settings). length (kept_of x p ++ (b ∷ [])) < width_in y) ec (omega (arith, many)))) el (ap (coming_at at) now)
 
-    pub whole_takes : {link : Link} {to : Spot} → link ≡ at_sample rest to 0 x → width_in c ≤ n + 1 → ComesNext c.block x.frame.channels at to → Takes x p u b (L.waveform left sample) (record { link = link; octets = set p n b }) u
+    pub whole_takes : {link : Link} {to : Spot} → link ≡ at_sample rest to 0 x → width_in c ≤ n + 1 → ComesNext c.block x.frame.channels at to → Takes x p u b (L.waveform left sample) (Stage.Waveform left at.sequence at.channel at.index) (record { link = link; octets = set p n b }) u
     whole_takes {to = to} el h next =
         waves_by to 0 true false (lt-ltb at.sequence x.frame.sequences few) (le-ltb (length (kept_of x p ++ (b ∷ []))) (width_in channel_at) (subst (λ (y : Settings). width_in y ≤ length (kept_of x p ++ (b ∷ []))) ec (omega (arith, many)))) el
         (next (kept_of x p) ∙ ap (λ (y : Settings). L.next_coming y.block x.frame.channels sample) ec)
@@ -515,33 +623,41 @@ further_near x m held s h = ap (λ (k : ℕ). link_with (core k x.core.around he
 
 module _ (x : Link) (u p : List ℕ) (b : ℕ) {s : Stage} (es : x.core.stage ≡ s) where
   -- By the stage that it is in.
-  pub takes_in : {r : Arrived} {v : List ℕ} → Takes x p u b (phase_of s (kept_of x p)) r v → Takes x p u b (phase_of x.core.stage (kept_of x p)) r v
-  takes_in {r} {v} t = subst (λ (k : Stage). Takes x p u b (phase_of k (kept_of x p)) r v) (sym es) t
+  pub takes_in : {r : Arrived} {v : List ℕ} → Takes x p u b (phase_of s (kept_of x p)) s r v → Takes x p u b (phase_of x.core.stage (kept_of x p)) x.core.stage r v
+  takes_in {r} {v} t = subst (λ (k : Stage). Takes x p u b (phase_of k (kept_of x p)) k r v) (sym es) t
 
-pub waits_takes : {x link : Link} (u p : List ℕ) (b left : ℕ) (r : Refusal) {k : ℕ} → k ≡ left - 1 → Becomes x link (waiting k r) → Takes x p u b (L.waits left r) (record { link = link; octets = p }) u
+pub waits_takes : {x link : Link} (u p : List ℕ) (b left : ℕ) (r : Noted) {k : ℕ} → k ≡ left - 1 → link ≡ waiting_by k r x → Takes x p u b (L.waits left (refusal_of r)) (Stage.Waits left r) (record { link = link; octets = p }) u
 unfolding L.taken_in
-waits_takes {x} u p b left r e w = record { same = w.same p p u ∙ ap (λ (m : ℕ). waiting m r (link_by x p u)) e; long = refl }
+waits_takes {x} u p b left r {k} e w =
+    record {
+      notes = inl (subst (λ (y : Link). (noted_in y.core.stage ≡ Some r) × (y.core.count ≤ x.core.count)) (sym w) (waiting_notes k r x));
+      same = ap (λ (y : Link). link_by y p u) w ∙ waiting-is k r x p p u ∙ ap (λ (m : ℕ). waiting m (refusal_of r) (link_by x p u)) e;
+      long = refl;
+    }
 
-pub decided_takes : (x : Link) (u p : List ℕ) (b : ℕ) (a : Result ℕ Refusal) → Takes x p u b (L.decided (answer_of a)) (record { link = x; octets = p }) u
+pub decided_takes : (x : Link) (u p : List ℕ) (b : ℕ) (a : Result ℕ Noted) → x.core.stage ≡ Stage.Decided a → Takes x p u b (L.decided (answer_by a)) (Stage.Decided a) (record { link = x; octets = p }) u
 unfolding L.taken_in
-decided_takes x u p b a = record { same = refl; long = refl }
+decided_takes x u p b a e = record { notes = (e, omega arith); same = refl; long = refl }
 
 module _ (x : Link) (u p : List ℕ) (b : ℕ) {d : Bool} (ed : DecidedIn x.core.stage d) where
   abbrev steps_by : Bool → Bool → L.Link
   steps_by t h =
       pick t (link_by x p u) (pick h (L.refused_in (refusal LongFile 0) (link_by x p u)) (L.taken_in b (phase_of x.core.stage (kept_of x p)) (link_by (counted_by x) p u)))
 
-  steps_by_lem : {r : Arrived} {v : List ℕ} (t h : Bool) → d ≡ t → leb octets_limit x.core.count ≡ h → link_by r.link r.octets v ≡ steps_by t h → length v ≡ length u → Steps x p u b r v
+  steps_by_lem : {r : Arrived} {v : List ℕ} (t h : Bool) → d ≡ t → leb octets_limit x.core.count ≡ h → link_by r.link r.octets v ≡ steps_by t h → length v ≡ length u → Notes x 1 r.link → Steps x p u b r v
   unfolding L.stepped
-  steps_by_lem t h et eh e l = record { same = e ∙ (λ i. steps_by ((sym et ∙ ed (kept_of x p)) i) (sym eh i)); long = l }
+  steps_by_lem t h et eh e l k = record { notes = k; same = e ∙ (λ i. steps_by ((sym et ∙ ed (kept_of x p)) i) (sym eh i)); long = l }
 
   pub steps-decided : d ≡ true → Steps x p u b (record { link = x; octets = p }) u
-  steps-decided t = steps_by_lem true (leb octets_limit x.core.count) t refl refl refl
+  steps-decided t = steps_by_lem true (leb octets_limit x.core.count) t refl refl refl (notes_none x (x.core.count + 1) (omega arith))
 
-  pub steps-past : {link : Link} → d ≡ false → octets_limit ≤ x.core.count → link ≡ in_stage (Stage.Decided (Err (refusal LongFile 0))) x → Steps x p u b (record { link = link; octets = p }) u
-  steps-past t h e = steps_by_lem false true t (le-leb octets_limit x.core.count h) (ap (λ (y : Link). link_by y p u) e) refl
+  pub steps-past : {link : Link} {k : Noted} → d ≡ false → octets_limit ≤ x.core.count → k ≡ noted_of (refusal LongFile 0) → link ≡ in_stage (Stage.Decided (Err k)) x → Steps x p u b (record { link = link; octets = p }) u
+  steps-past {link} t h k e =
+      let same = ap (λ (y : Link). link_by y p u) e ∙ ap (λ (r : Refusal). L.refused_in r (link_by x p u)) (ap refusal_of k ∙ noted_back (refusal LongFile 0)) in
+      let past = ap (λ (y : Link). noted_in y.core.stage) e ∙ ap Some k in
+      steps_by_lem false true t (le-leb octets_limit x.core.count h) same refl (notes_limit x.core.stage link (x.core.count + 1) (sym (ed []) ∙ t) (omega arith) past)
 
-  pub steps-taken : {y : Link} {r : Arrived} {v : List ℕ} → d ≡ false → x.core.count < octets_limit → y ≡ counted_by x → Takes y p u b (phase_of y.core.stage (kept_of y p)) r v → Steps x p u b r v
+  pub steps-taken : {y : Link} {r : Arrived} {v : List ℕ} → d ≡ false → x.core.count < octets_limit → y ≡ counted_by x → Takes y p u b (phase_of y.core.stage (kept_of y p)) y.core.stage r v → Steps x p u b r v
   steps-taken {r = r} {v} t h e k =
-      let w = subst (λ (z : Link). Takes z p u b (phase_of z.core.stage (kept_of z p)) r v) e k in
-      steps_by_lem false false t (lt-leb octets_limit x.core.count h) w.same w.long
+      let w = subst (λ (z : Link). Takes z p u b (phase_of z.core.stage (kept_of z p)) z.core.stage r v) e k in
+      steps_by_lem false false t (lt-leb octets_limit x.core.count h) w.same w.long w.notes

@@ -2,11 +2,12 @@
 -- of document 01.
 use Rattle.heads.specs.declared.Fault.{Fault}
 use Rattle.heads.specs.declared.ItemHead.{ItemHead}
-use Rattle.std.specs.Prelude.{◌≡◌, ℕ, ◌+◌, ◌%◌, ◌^◌, ◌<◌, ◌≤◌, min, Bool, List, [], length, take, ◌==◌, Result, Ok, Err, Option, Some, None}
+use Rattle.std.specs.Prelude.{◌≡◌, ℕ, ◌+◌, ◌%◌, ◌^◌, ◌<◌, ◌≤◌, min, ◌⊎◌, Bool, List, [], length, take, ◌==◌, Result, Ok, Err, Option, Some, None}
 use Rattle.octets.specs.Pick.{pick}
+use Rattle.heads.specs.declared.Fault.TheVariants.{LongFile}
 use Rattle.heads.specs.Head.{form_of}
 use Rattle.items.specs.declared.Within.{Within}
-use Rattle.items.specs.Walk.{stands_in, is_inside}
+use Rattle.items.specs.Walk.{refusal, stands_in, is_inside}
 use Rattle.standing.specs.Standing.{octets_limit}
 use Rattle.walk.specs.declared.Waveform.{Waveform}
 use Rattle.walk.specs.declared.Head.{Head}
@@ -14,11 +15,12 @@ use Rattle.walk.specs.Advance.{Stand, stand_of}
 use Rattle.walking.specs.Steps.{no_waveform}
 use Rattle.link.specs.Link as L
 use Rattle.link.specs.Link.{Phase, cut_at, kept_limit, seen_in, next_coming, taken_in, is_decided, stepped}
+use Rattle.held.specs.declared.Noted.{Noted}
 use Rattle.held.specs.declared.Stage.{Stage}
 use Rattle.rows.specs.declared.Spot.{Spot}
 use Rattle.rows.specs.Rows.{coming_at}
 use Rattle.held.specs.declared.Core.{Core}
-use Rattle.held.specs.Words.{phase_of, link_of}
+use Rattle.held.specs.Words.{noted_of, refusal_of, phase_of, link_of}
 use Rattle.arriving.specs.declared.Link.{Link}
 use Rattle.arriving.specs.declared.Arrived.{Arrived}
 
@@ -72,20 +74,56 @@ at_sample left at held x =
     pick (left == 0) (in_stage Stage.Head x)
     (link_with (core x.core.count x.core.around held (Stage.Waveform left at.sequence at.channel at.index)) x.head x.frame)
 
+-- A refusal that waits for so many octets.
+abbrev pub waiting_by : ℕ → Noted → Link → Link
+waiting_by left r x = pick (left == 0) (in_stage (Stage.Decided (Err r)) x) (in_stage (Stage.Waits left r) x)
+
+-- The refusal that a stage notes, if it notes one.
+abbrev pub noted_in : Stage → Option Noted
+noted_in Stage.Head = None
+noted_in (Stage.Value tag left) = None
+noted_in (Stage.Waveform left sequence channel index) = None
+noted_in (Stage.Waits left r) = Some r
+noted_in (Stage.Decided (Ok n)) = None
+noted_in (Stage.Decided (Err r)) = Some r
+
+-- A refusal is noted by the number of its fault.
+abbrev pub Known : Option Noted → Type 0
+Known None = Unit {0}
+Known (Some r) = noted_of (refusal_of r) ≡ r
+
+-- What a link notes where n octets have come, by the stage before: of a refusal that waits the same, whatever its number, or past the limit 15; of an answer the
+-- same; and else, where it notes one, one by the number of its fault.
+abbrev pub NotesBy : ℕ → Stage → Link → Type 0
+NotesBy n Stage.Head y = Known (noted_in y.core.stage)
+NotesBy n (Stage.Value tag left) y = Known (noted_in y.core.stage)
+NotesBy n (Stage.Waveform left sequence channel index) y = Known (noted_in y.core.stage)
+NotesBy n (Stage.Waits left r) y =
+    ((noted_in y.core.stage ≡ Some r) × (y.core.count ≤ n)) ⊎ ((noted_in y.core.stage ≡ Some (noted_of (refusal LongFile 0))) × (octets_limit < n))
+NotesBy n (Stage.Decided a) y = (y.core.stage ≡ Stage.Decided a) × (y.core.count ≤ n)
+
+-- The same behind m octets more.
+abbrev pub Notes : Link → ℕ → Link → Type 0
+Notes x m y = NotesBy (x.core.count + m) x.core.stage y
+
 -- What a link becomes, with whatever octets and words: nothing is kept, and no record is touched.
 pub record Becomes (x r : Link) (f : L.Link → L.Link) : Type 0 where
+  pub known : Known (noted_in r.core.stage)
   pub same : (p q t : List ℕ) → link_by r q t ≡ f (link_by x p t)
 
 -- The same, where the walk then stands elsewhere, with other words.
 pub record Moves (x : Link) (h : Head) (f : Stand → L.Link → L.Link) (r : Link) : Type 0 where
+  pub known : Known (noted_in r.core.stage)
   pub same : (p q u v : List ℕ) → link_by r q v ≡ f (stand_of h v) (link_by x p u)
 
 -- What a link becomes, and the words of its records: with nothing kept, or with the octets p.
 pub record Turns (x : Link) (u : List ℕ) (f : L.Link → L.Link) (r : Link) (v : List ℕ) : Type 0 where
+  pub known : Known (noted_in r.core.stage)
   pub same : (p q : List ℕ) → link_by r q v ≡ f (link_by x p u)
   pub long : length v ≡ length u
 
 pub record TurnsOn (x : Link) (u : List ℕ) (f : L.Link → L.Link) (r : Link) (p v : List ℕ) : Type 0 where
+  pub known : Known (noted_in r.core.stage)
   pub same : (q : List ℕ) → link_by r p v ≡ f (link_by x q u)
   pub long : length v ≡ length u
 
@@ -122,12 +160,14 @@ pub record Seen (w : Within) (count : ℕ) (u : List ℕ) (r : Result (Option It
   pub is : r ≡ seen_in w count (form_of (is_inside w) u)
   pub small : SmallForm (length u) r
 
--- One octet in a phase.
-pub record Takes (x : Link) (p u : List ℕ) (b : ℕ) (phase : Phase) (r : Arrived) (v : List ℕ) : Type 0 where
+-- One octet in a phase, that of this stage.
+pub record Takes (x : Link) (p u : List ℕ) (b : ℕ) (phase : Phase) (before : Stage) (r : Arrived) (v : List ℕ) : Type 0 where
+  pub notes : NotesBy x.core.count before r.link
   pub same : link_by r.link r.octets v ≡ taken_in b phase (link_by x p u)
   pub long : length v ≡ length u
 
 -- One octet more.
 pub record Steps (x : Link) (p u : List ℕ) (b : ℕ) (r : Arrived) (v : List ℕ) : Type 0 where
+  pub notes : Notes x 1 r.link
   pub same : link_by r.link r.octets v ≡ stepped (link_by x p u) b
   pub long : length v ≡ length u

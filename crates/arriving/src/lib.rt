@@ -2,7 +2,8 @@
 //
 // A link's own numbers, its walk's head and the frame that is told go by value, the octets that it keeps beside them, and the channels' records stand in
 // words that a caller lends.
-// Promises, for any numbers, octets and words: `octet` does with one octet what the definition of the link does with it.
+// Promises, for any numbers, octets and words: `octet` does with one octet what the definition of the link does with it. A refusal that waits keeps the
+// number by which it was noted, whether a fault has it or not.
 // Read first: specs/Link.antt of crate link, then specs/Arriving.antt.
 #![tactic(auto)]
 
@@ -11,14 +12,14 @@ ghost use Rattle.items.specs.Walk.{stands_in};
 ghost use Rattle.standing.specs.Standing.{octets_limit};
 ghost use Rattle.taking.specs.Takes.{turn_by};
 ghost use Rattle.walk.specs.Advance.{on};
-ghost use Rattle.link.specs.Link.{head, value, waveform, kept_limit, cut_at, group_at, lasts_in, waiting, condemned, stopped_at, turned_by, effected, item_at, within_after, done_item, valued, primitive_begins, group_begins, confined, seen_in, headed};
+ghost use Rattle.link.specs.Link.{head, value, waveform, kept_limit, cut_at, group_at, lasts_in, condemned, stopped_at, turned_by, effected, item_at, within_after, done_item, valued, primitive_begins, group_begins, confined, seen_in, headed};
 ghost use Rattle.held.specs.Words.{phase_of};
 ghost use Rattle.rows.specs.Rows.{coming_at};
-ghost use Rattle.arriving.specs.Arriving.{kept_of, in_stage, in_stand, marked_by, counted_by, further_by, untold_by, waved_stage, at_sample, Becomes, Moves, ComesNext, DecidedIn, Turns, TurnsOn, Near, Bounded, Seen, Takes, Steps};
+ghost use Rattle.arriving.specs.Arriving.{kept_of, in_stage, in_stand, marked_by, counted_by, further_by, untold_by, waved_stage, at_sample, waiting_by, Becomes, Moves, ComesNext, DecidedIn, Turns, TurnsOn, Near, Bounded, Seen, Takes, Steps};
 
 use effects::Effect;
 use heads::{Fault, ItemHead, Refusal};
-use held::{Core, Held, Stage};
+use held::{Core, Held, Noted, Stage};
 use items::{Cursor, Item, Within};
 use rows::Spot;
 use standing::Standing;
@@ -117,8 +118,8 @@ fn lasts_in(within: Within, count: u64, left: u64) -> u64
 }
 
 // A refusal that waits for so many octets.
-fn waiting(x: Link, left: u64, r: Refusal) -> Link
-    ensures { Becomes x result (waiting left r) }
+fn waiting(x: Link, left: u64, r: Noted) -> Link
+    ensures { result ≡ waiting_by left r x }
 {
     if left == 0 {
         return in_stage(x, Stage::Decided(Err(r)));
@@ -130,7 +131,7 @@ fn waiting(x: Link, left: u64, r: Refusal) -> Link
 fn condemned(x: Link, within: Within, left: u64, r: Refusal) -> Link
     ensures { Becomes x result (condemned within left r) }
 {
-    waiting(x, lasts_in(within, x.core.count, left), r)
+    waiting(x, lasts_in(within, x.core.count, left), Noted::of(r))
 }
 
 // From now on an end is 3 at the item at hand, or at the definite group around it.
@@ -215,7 +216,7 @@ fn framed(x: Link, left: u64, head: Head, frame: Waveform) -> Link
             fault: Fault::LongFile,
             place: 0,
         };
-        return waiting(in_stand(x, head), left, r);
+        return waiting(in_stand(x, head), left, Noted::of(r));
     }
     Link {
         core: Core {
@@ -559,7 +560,7 @@ fn untold(x: Link) -> Link
 // An octet of a head, which is counted.
 fn in_head(t: &mut [u64], x: Link, p: [u8; Held::ROOM], b: u8) -> Arrived
     requires { x.core.count ≤ octets_limit }
-    ensures { Takes x p t.old b (head (kept_of x p)) result t.new }
+    ensures { Takes x p t.old b (head (kept_of x p)) Stage.Head result t.new }
 {
     let n = at_most_kept(x.core.held);
     let mut q = p;
@@ -572,7 +573,7 @@ fn in_head(t: &mut [u64], x: Link, p: [u8; Held::ROOM], b: u8) -> Arrived
 
 // An octet of a value, which is counted.
 fn in_value(t: &mut [u64], x: Link, p: [u8; Held::ROOM], b: u8, tag: u8, left: u64) -> Arrived
-    ensures { Takes x p t.old b (value tag left (kept_of x p)) result t.new }
+    ensures { Takes x p t.old b (value tag left (kept_of x p)) (Stage.Value tag left) result t.new }
 {
     let n = at_most_kept(x.core.held);
     let mut q = p;
@@ -653,7 +654,7 @@ fn next_spot(block: u32, channels: u32, sequences: u32, at: Spot) -> Spot
 
 // An octet of a waveform, which is counted.
 fn in_waveform(t: &[u64], x: Link, p: [u8; Held::ROOM], b: u8, left: u64, at: Spot) -> Arrived
-    ensures { Takes x p t.now b (waveform left (coming_at at (kept_of x p))) result t.now }
+    ensures { Takes x p t.now b (waveform left (coming_at at (kept_of x p))) (Stage.Waveform left at.sequence at.channel at.index) result t.now }
 {
     let n = at_most_kept(x.core.held);
     let mut q = p;
@@ -706,7 +707,7 @@ pub fn is_decided(stage: Stage) -> bool
 // An octet that is taken.
 fn taken(t: &mut [u64], x: Link, p: [u8; Held::ROOM], b: u8) -> Arrived
     requires { x.core.count ≤ octets_limit }
-    ensures { Takes x p t.old b (phase_of x.core.stage (kept_of x p)) result t.new }
+    ensures { Takes x p t.old b (phase_of x.core.stage (kept_of x p)) x.core.stage result t.new }
 {
     let core = x.core;
     let stage = core.stage;
@@ -748,10 +749,10 @@ pub fn octet(t: &mut [u64], x: Link, p: [u8; Held::ROOM], b: u8) -> Arrived
         return Arrived { link: x, octets: p };
     }
     if Standing::OCTETS as u64 <= x.core.count {
-        let r = Refusal {
+        let r = Noted::of(Refusal {
             fault: Fault::LongFile,
             place: 0,
-        };
+        });
         return Arrived {
             link: in_stage(x, Stage::Decided(Err(r))),
             octets: p,

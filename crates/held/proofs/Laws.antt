@@ -2,7 +2,7 @@
 --     held_short, octets-long, octets-low    no more octets are kept than a value needs; how many they are; each is an octet
 --     octets-own        they stand each in a word, where words hold the link's own
 --     low_in, low-at, octets_are              the lowest octets of the words, of which they are the first
---     fault-kept        the fault of a word that holds its number
+--     fault-kept, noted_back    the fault of a word that holds its number; the refusal that was noted
 --     keeping_none      words too few
 --     keeping_stored    numbers and octets stored
 --     link-kept         the link that words then hold
@@ -19,15 +19,17 @@ use lib.ListN.{length, get_or, take, drop, replicate, length-append, length-take
 use lib.Seq.{take-append-le, get_or-append-add, get_or-take, get_or-drop, ext_get_or}
 use Rattle.octets.specs.Number.{Octets, low_of}
 use Rattle.heads.specs.declared.Fault.{Fault}
-use Rattle.heads.specs.Faults.{number_of, fault_of}
+use Rattle.heads.specs.declared.Refusal.{Refusal}
+use Rattle.heads.specs.Faults.{number_of}
 use Rattle.heads.proofs.Faults.{fault_back, number_within}
+use Rattle.items.specs.Walk.{refusal}
 use Rattle.words.specs.Words.{Overlaid}
 use Rattle.kept.specs.Words.{waveform_in}
 use Rattle.kept.proofs.Laws.{same-behind}
 use Rattle.walking.specs.Words.{stand_in}
 use Rattle.link.specs.Link.{kept_limit}
 use Rattle.held.specs.declared.Core.{Core}
-use Rattle.held.specs.Words.{own_words, kept_place, fault_by, link_of, core_by, core_in, kept_in, octets_in, link_in, held_of, holding, Keeping}
+use Rattle.held.specs.Words.{own_words, kept_place, noted_of, fault_by, refusal_of, link_of, core_by, core_in, kept_in, octets_in, link_in, held_of, holding, Keeping}
 
 -- ---- the octets that words keep
 
@@ -78,9 +80,16 @@ module _ (w : List ℕ) where
 -- ---- what is stored
 
 -- A fault stands as its number.
-pub fault-kept : (f : Fault) → fault_by (low_of 1 (number_of f)) ≡ f
+fault-back : (f : Fault) → fault_by (number_of f) ≡ f
 unfolding fault_by
-fault-kept f = ap (λ (o : Option Fault). unwrap_or o Fault.LongFile) (ap fault_of (mod-eq_of_lt (number_within f).1) ∙ fault_back f)
+fault-back f = ap (λ (o : Option Fault). unwrap_or o Fault.LongFile) (fault_back f)
+
+pub fault-kept : (f : Fault) → fault_by (low_of 1 (number_of f)) ≡ f
+fault-kept f = ap fault_by (mod-eq_of_lt (number_within f).1) ∙ fault-back f
+
+-- A refusal that was noted is read back.
+pub noted_back : (r : Refusal) → refusal_of (noted_of r) ≡ r
+noted_back r = λ i. refusal (fault-back r.fault i) r.place
 
 -- The numbers are those of words 0 to 9.
 same-core : {f g : ℕ → ℕ} → ((n : ℕ) → n < 10 → f n ≡ g n) → core_by f ≡ core_by g

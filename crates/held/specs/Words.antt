@@ -1,9 +1,9 @@
 -- A link kept in words that a caller lends: its own numbers and the octets that it keeps, and behind them its walk. Any words at all are some link. None of it
 -- is a rule of document 01.
-use Rattle.std.specs.Prelude.{◌≡◌, Bool, List, ◌++◌, map, ℕ, ◌+◌, ◌≤◌, ◌<◌, min, leb, eqb, length, take, drop, replicate, Ok, Err, unwrap_or}
+use Rattle.std.specs.Prelude.{◌≡◌, Bool, List, ◌++◌, map, ℕ, ◌+◌, ◌≤◌, ◌<◌, min, leb, eqb, length, take, drop, replicate, Result, Ok, Err, unwrap_or}
 use Rattle.heads.specs.declared.Fault.{Fault}
-use Rattle.heads.specs.Faults.{fault_of}
-use Rattle.heads.specs.Answer.{answer_of}
+use Rattle.heads.specs.Faults.{number_of, fault_of}
+use Rattle.heads.specs.Answer.{Answer, answered, refused_by}
 use Rattle.octets.specs.Pick.{pick}
 use Rattle.octets.specs.Number.{low_of}
 use Rattle.heads.specs.declared.Refusal.{Refusal}
@@ -14,6 +14,7 @@ use Rattle.walk.specs.Advance.{Stand}
 use Rattle.kept.specs.Words.{waveform_in}
 use Rattle.walking.specs.Words.{walk_words, stand_in}
 use Rattle.link.specs.Link.{coming, Phase, head, value, waveform, waits, decided, Link, link, kept_limit}
+use Rattle.held.specs.declared.Noted.{Noted}
 use Rattle.held.specs.declared.Stage.{Stage}
 use Rattle.held.specs.declared.Core.{Core}
 
@@ -28,25 +29,41 @@ link_words = own_words + walk_words
 abbrev pub kept_place : ℕ
 kept_place = 16
 
--- The phase of a stage, with the octets that are kept.
-abbrev pub phase_of : Stage → List ℕ → Phase
-phase_of Stage.Head p = head p
-phase_of (Stage.Value tag left) p = value tag left p
-phase_of (Stage.Waveform left sequence channel index) p = waveform left (coming sequence channel index p)
-phase_of (Stage.Waits left r) p = waits left r
-phase_of (Stage.Decided a) p = decided (answer_of a)
+abbrev pub noted : ℕ → ℕ → Noted
+noted number place = record { number = number; place = place }
 
--- The link of its own numbers and octets, and of its walk.
-abbrev pub link_of : Core → List ℕ → Stand → Waveform → Link
-link_of c p x v = link c.count x c.around v (phase_of c.stage p)
+-- A refusal is held as the number of its fault, and its place.
+abbrev pub noted_of : Refusal → Noted
+noted_of r = noted (number_of r.fault) r.place
 
 -- The fault of a number; a number that no fault has is 15's.
 unfoldable pub fault_by : ℕ → Fault
 fault_by n = unwrap_or (fault_of n) Fault.LongFile
 
--- A refusal, of the words g 5 and g 6: the number of its fault, and its place.
-abbrev pub refusal_by : (ℕ → ℕ) → Refusal
-refusal_by g = refusal (fault_by (low_of 1 (g 5))) (g 6)
+-- The refusal for which one that is held stands.
+abbrev pub refusal_of : Noted → Refusal
+refusal_of r = refusal (fault_by r.number) r.place
+
+-- The answer for which one that is held stands.
+abbrev pub answer_by : Result ℕ Noted → Answer ℕ
+answer_by (Ok n) = answered n
+answer_by (Err r) = refused_by (refusal_of r)
+
+-- The phase of a stage, with the octets that are kept.
+abbrev pub phase_of : Stage → List ℕ → Phase
+phase_of Stage.Head p = head p
+phase_of (Stage.Value tag left) p = value tag left p
+phase_of (Stage.Waveform left sequence channel index) p = waveform left (coming sequence channel index p)
+phase_of (Stage.Waits left r) p = waits left (refusal_of r)
+phase_of (Stage.Decided a) p = decided (answer_by a)
+
+-- The link of its own numbers and octets, and of its walk.
+abbrev pub link_of : Core → List ℕ → Stand → Waveform → Link
+link_of c p x v = link c.count x c.around v (phase_of c.stage p)
+
+-- A refusal, of the words g 5 and g 6: its number, whether a fault has it or not, and its place.
+abbrev pub refusal_by : (ℕ → ℕ) → Noted
+refusal_by g = noted (low_of 1 (g 5)) (g 6)
 
 -- A stage, of the words g 3 to g 9: its kind, so many octets still to come, a tag or a refusal's number, a place or the frames, and a sample's sequence,
 -- channel and index. The answer has two kinds.
@@ -74,6 +91,8 @@ kept_in w = drop kept_place w ++ replicate kept_limit 0
 unfoldable pub octets_in : List ℕ → List ℕ
 octets_in w = map (low_of 1) (take (core_in w).held (kept_in w))
 
+-- The link that words hold. Its phase has a refusal with a fault, so that a number that no fault has is 15's here, and here alone: `core_in` has the number that
+-- stands in the words.
 abbrev pub link_in : List ℕ → Link
 link_in w = link_of (core_in w) (octets_in w) (stand_in (drop own_words w)) (waveform_in (drop own_words w))
 

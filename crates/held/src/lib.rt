@@ -10,9 +10,9 @@ ghost use Rattle.std.specs.Prelude.{◌≡◌, ◌++◌, ◌+◌, ◌-◌, ◌�
 ghost use Rattle.octets.specs.Number.{low_of};
 ghost use Rattle.words.specs.Words.{words_at, Overlaid};
 ghost use Rattle.link.specs.Link.{kept_limit};
-ghost use Rattle.held.specs.Words.{kept_place, fault_by, refusal_by, stage_by, core_by, core_in, octets_in, with_held, Keeping};
+ghost use Rattle.held.specs.Words.{kept_place, noted_of, refusal_by, stage_by, core_by, core_in, octets_in, with_held, Keeping};
 
-use heads::{Fault, Refusal};
+use heads::Refusal;
 use walking::Walking;
 
 // The sizes of a link kept in words.
@@ -35,6 +35,25 @@ impl Held {
     const PLACE: usize = 16;
 }
 
+// A refusal as words hold it: the number and the place. Words may hold a number that no fault has.
+#[derive(Clone, Copy)]
+pub struct Noted {
+    pub number: u8,
+    pub place: usize,
+}
+
+impl Noted {
+    // A refusal as it is stored.
+    pub fn of(refusal: Refusal) -> Noted
+        ensures { result ≡ noted_of refusal }
+    {
+        Noted {
+            number: refusal.fault.number(),
+            place: refusal.place,
+        }
+    }
+}
+
 // Where in an item the octets have come to, besides the octets that are kept: in its head, in its value, in a waveform at a sample, before a refusal that is
 // sure once so many octets have come, or at the answer.
 #[derive(Clone, Copy)]
@@ -52,9 +71,9 @@ pub enum Stage {
     },
     Waits {
         left: u64,
-        refusal: Refusal,
+        refusal: Noted,
     },
-    Decided(Result<u32, Refusal>),
+    Decided(Result<u32, Noted>),
 }
 
 // A link's own numbers; `held` octets are kept.
@@ -73,22 +92,12 @@ fn one_at(w: &[u64], n: usize) -> u8
     (kept::word(w, n) % octets::ONE_OCTET) as u8
 }
 
-// The fault that a word holds; a number that no fault has is 15's, so that any words are some link.
-fn fault_at(w: &[u64], n: usize) -> Fault
-    ensures { result ≡ fault_by (low_of 1 (get_or w.now n 0)) }
-{
-    match Fault::with_number(one_at(w, n)) {
-        Some(fault) => fault,
-        None => Fault::LongFile,
-    }
-}
-
 // The refusal that words hold.
-fn refusal_at(w: &[u64]) -> Refusal
+fn refusal_at(w: &[u64]) -> Noted
     ensures { result ≡ refusal_by (words_at w.now 0) }
 {
-    Refusal {
-        fault: fault_at(w, 5),
+    Noted {
+        number: one_at(w, 5),
         place: kept::word(w, 6) as usize,
     }
 }
@@ -167,18 +176,10 @@ fn stage_words(x: Stage) -> [u64; 7]
             channel,
             index,
         } => [2, left, 0, 0, sequence as u64, channel as u64, index as u64],
-        Stage::Waits { left, refusal: r } => [
-            3,
-            left,
-            r.fault.number() as u64,
-            r.place as u64,
-            0,
-            0,
-            0,
-        ],
+        Stage::Waits { left, refusal: r } => [3, left, r.number as u64, r.place as u64, 0, 0, 0],
         Stage::Decided(answer) => match answer {
             Ok(n) => [4, 0, 0, n as u64, 0, 0, 0],
-            Err(r) => [5, 0, r.fault.number() as u64, r.place as u64, 0, 0, 0],
+            Err(r) => [5, 0, r.number as u64, r.place as u64, 0, 0, 0],
         },
     }
 }

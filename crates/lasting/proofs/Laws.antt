@@ -4,26 +4,30 @@
 --     pass_none, pass_by    none, or those of the stage
 -- Assumes nothing.
 use mathlib.Core.Path.{◌≡◌, refl, sym, ap, subst, ◌∙◌}
+use Rattle.std.specs.Prelude.{Some}
+use mathlib.Core.Logic.{inl}
 use mathlib.Core.List.{List, [], ◌∷◌, ◌++◌, append-nil, append_assoc}
 use Prim.Native.Nat.{ℕ, suc, ◌+◌, ◌-◌, ◌≤◌, ◌<◌, min}
 use native.Mathlib.Numerals.{add-one}
 use native.Mathlib.Decide.{dec_lt}
 use native.Mathlib.Omega.{arith}
+use lib.Dec.{eqb}
+use Rattle.octets.proofs.Pick.{pick_cases}
 use lib.ListN.{length, get_or, take, set, length-append, length-take, length-set}
 use lib.Seq.{take-suc, take-suc-set, take_all, take-append-add}
-use Rattle.heads.specs.declared.Refusal.{Refusal}
 use Rattle.walk.specs.Advance.{stand_of}
 use Rattle.link.specs.Link as L
 use Rattle.link.specs.Link.{Phase, kept_limit, waved}
 use Rattle.link.specs.Runs.{Leads}
 use Rattle.link.proofs.Runs.{leads-none, value_run, waits_run, surplus_run, waved-some}
+use Rattle.held.specs.declared.Noted.{Noted}
 use Rattle.held.specs.declared.Stage.{Stage}
-use Rattle.held.specs.Words.{phase_of}
+use Rattle.held.specs.Words.{refusal_of, phase_of}
 use Rattle.arriving.specs.declared.Link.{Link}
 use Rattle.rows.specs.declared.Spot.{Spot}
 use Rattle.rows.specs.Rows.{coming_at}
-use Rattle.arriving.specs.Arriving.{kept_of, link_by, further_by, at_sample}
-use Rattle.arriving.proofs.Laws.{sample-phase, further_near}
+use Rattle.arriving.specs.Arriving.{kept_of, link_by, further_by, at_sample, noted_in, Known}
+use Rattle.arriving.proofs.Laws.{sample-phase, further_near, notes_none}
 use Rattle.lasting.specs.declared.Passed.{Passed}
 use Rattle.lasting.specs.Lasting.{Lasts, Joined, Ahead, Surplus, PassesIn, Passes}
 
@@ -80,13 +84,14 @@ first_long u m h = length-take m u ∙ omega arith
 
 module _ (x : Link) (p u : List ℕ) (left m : ℕ) where
   pub value_passes : (tag : ℕ) {n k : ℕ} {y : Link} {o part : List ℕ} → Ahead x.core.count left (length u) m → n ≡ min x.core.held kept_limit → k ≡ min (n + m) kept_limit → part ≡ take m u → Joined p n part o
-      → y ≡ further_by m k (Stage.Value tag (left - m)) x → PassesIn (L.value tag left (kept_of x p)) x p u (record { link = y; octets = o; taken = m })
+      → y ≡ further_by m k (Stage.Value tag (left - m)) x → PassesIn (L.value tag left (kept_of x p)) (Stage.Value tag left) x p u (record { link = y; octets = o; taken = m })
   value_passes tag {n} {k} {o = o} {part} a en ek ep j ey =
       let long = first_long u m a.there in
       let many : length part ≡ m = ap length ep ∙ long in
       let held : min k kept_limit ≡ min (n + length part) kept_limit = omega (arith, many) in
       let kept = ap (λ (i : ℕ). take i o) held ∙ j.kept ∙ (λ i. take kept_limit (take (en i) p ++ ep i)) in
       record {
+        notes = subst (λ (z : Link). Known (noted_in z.core.stage)) (sym ey) tt;
         there = a.there;
         leads = λ t.
             subst (λ (z : L.Link). Leads (L.link x.core.count (stand_of x.head t) x.core.around x.frame (L.value tag left (kept_of x p))) (take m u) z [])
@@ -94,22 +99,24 @@ module _ (x : Link) (p u : List ℕ) (left m : ℕ) where
             (value_run x.core.count (stand_of x.head t) x.core.around x.frame tag left (kept_of x p) (take m u) (kept_short x p) (omega (arith, long, a.more)) (omega (arith, long, a.near)));
       }
 
-  pub waits_passes : (r : Refusal) {y : Link} → Ahead x.core.count left (length u) m → y ≡ further_by m 0 (Stage.Waits (left - m) r) x → PassesIn (L.waits left r) x p u (record { link = y; octets = p; taken = m })
+  pub waits_passes : (r : Noted) {y : Link} → Ahead x.core.count left (length u) m → y ≡ further_by m 0 (Stage.Waits (left - m) r) x → PassesIn (L.waits left (refusal_of r)) (Stage.Waits left r) x p u (record { link = y; octets = p; taken = m })
   waits_passes r a ey =
       let long = first_long u m a.there in
       record {
+        notes = inl (subst (λ (z : Link). (noted_in z.core.stage ≡ Some r) × (z.core.count ≤ x.core.count + m)) (sym (ey ∙ further_near x m 0 (Stage.Waits (left - m) r) a.near)) (refl, omega arith));
         there = a.there;
         leads = λ t.
-            subst (λ (z : L.Link). Leads (L.link x.core.count (stand_of x.head t) x.core.around x.frame (L.waits left r)) (take m u) z [])
-            ((λ i. L.link (x.core.count + long i) (stand_of x.head t) x.core.around x.frame (L.waits (left - long i) r)) ∙ ap (λ (z : Link). link_by z p t) (sym (ey ∙ further_near x m 0 (Stage.Waits (left - m) r) a.near)))
-            (waits_run x.core.count (stand_of x.head t) x.core.around x.frame left r (take m u) (omega (arith, long, a.more)) (omega (arith, long, a.near)));
+            subst (λ (z : L.Link). Leads (L.link x.core.count (stand_of x.head t) x.core.around x.frame (L.waits left (refusal_of r))) (take m u) z [])
+            ((λ i. L.link (x.core.count + long i) (stand_of x.head t) x.core.around x.frame (L.waits (left - long i) (refusal_of r))) ∙ ap (λ (z : Link). link_by z p t) (sym (ey ∙ further_near x m 0 (Stage.Waits (left - m) r) a.near)))
+            (waits_run x.core.count (stand_of x.head t) x.core.around x.frame left (refusal_of r) (take m u) (omega (arith, long, a.more)) (omega (arith, long, a.near)));
       }
 
-  pub surplus_passes : (at : Spot) {y z : Link} → Surplus x left at (length u) m → z ≡ further_by m 0 Stage.Head x → y ≡ at_sample (left - m) at x.core.held z → PassesIn (L.waveform left (coming_at at (kept_of x p))) x p u (record { link = y; octets = p; taken = m })
+  pub surplus_passes : (at : Spot) {y z : Link} → Surplus x left at (length u) m → z ≡ further_by m 0 Stage.Head x → y ≡ at_sample (left - m) at x.core.held z → PassesIn (L.waveform left (coming_at at (kept_of x p))) (Stage.Waveform left at.sequence at.channel at.index) x p u (record { link = y; octets = p; taken = m })
   surplus_passes at {y} {z} a ez ey =
       let long = first_long u m a.there in
       let c = coming_at at (kept_of x p) in
       record {
+        notes = subst (λ (k : Link). Known (noted_in k.core.stage)) (sym ey) (pick_cases (λ (k : Link). Known (noted_in k.core.stage)) (eqb (left - m) 0) (λ _. tt) (λ _. tt));
         there = a.there;
         leads = λ t.
             let from = waved-some left c (omega (arith, a.some, a.more)) in
@@ -130,9 +137,9 @@ pub lasts_in : (x : Link) {s : Stage} (m : ℕ) → x.core.stage ≡ s → Lasts
 lasts_in x m e l = subst (λ (k : Stage). Lasts k x.frame.sequences m) e l
 
 pub pass_none : (x : Link) (p u : List ℕ) → Passes x p u (record { link = x; octets = p; taken = 0 })
-pass_none x p u = record { there = omega arith; leads = λ t. leads-none (link_by x p t) }
+pass_none x p u = record { notes = notes_none x (x.core.count + 0) (omega arith); there = omega arith; leads = λ t. leads-none (link_by x p t) }
 
-pub pass_by : (x : Link) (p u : List ℕ) {r : Passed} {s : Stage} → x.core.stage ≡ s → PassesIn (phase_of s (kept_of x p)) x p u r → Passes x p u r
+pub pass_by : (x : Link) (p u : List ℕ) {r : Passed} {s : Stage} → x.core.stage ≡ s → PassesIn (phase_of s (kept_of x p)) s x p u r → Passes x p u r
 pass_by x p u {r} e q =
-    let w = subst (λ (k : Stage). PassesIn (phase_of k (kept_of x p)) x p u r) (sym e) q in
-    record { there = w.there; leads = w.leads }
+    let w = subst (λ (k : Stage). PassesIn (phase_of k (kept_of x p)) k x p u r) (sym e) q in
+    record { notes = w.notes; there = w.there; leads = w.leads }

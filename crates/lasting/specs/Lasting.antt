@@ -8,7 +8,7 @@ use Rattle.held.specs.declared.Stage.{Stage}
 use Rattle.walk.specs.Advance.{stand_of}
 use Rattle.arriving.specs.declared.Link.{Link}
 use Rattle.rows.specs.declared.Spot.{Spot}
-use Rattle.arriving.specs.Arriving.{link_by}
+use Rattle.arriving.specs.Arriving.{link_by, NotesBy, Notes}
 use Rattle.lasting.specs.declared.Passed.{Passed}
 
 -- So many octets more are none where the limit is passed already, and else do not pass it.
@@ -42,12 +42,14 @@ pub record Surplus (x : Link) (left : ℕ) (at : Spot) (n m : ℕ) : Type 0 wher
   pub near : x.core.count + m ≤ octets_limit
   pub behind : x.frame.sequences ≤ at.sequence
 
--- What octets lead to from a link in a phase, with whatever words.
-pub record PassesIn (phase : Phase) (x : Link) (p u : List ℕ) (r : Passed) : Type 0 where
+-- What octets lead to from a link in a phase, with whatever words, that of this stage.
+pub record PassesIn (phase : Phase) (before : Stage) (x : Link) (p u : List ℕ) (r : Passed) : Type 0 where
+  pub notes : NotesBy (x.core.count + r.taken) before r.link
   pub there : r.taken ≤ length u
   pub leads : (t : List ℕ) → Leads (L.link x.core.count (stand_of x.head t) x.core.around x.frame phase) (take r.taken u) (link_by r.link r.octets t) []
 
 -- The same from a link as it is.
 pub record Passes (x : Link) (p u : List ℕ) (r : Passed) : Type 0 where
+  pub notes : Notes x r.taken r.link
   pub there : r.taken ≤ length u
   pub leads : (t : List ℕ) → Leads (link_by x p t) (take r.taken u) (link_by r.link r.octets t) []

@@ -7,13 +7,13 @@
 
 ghost use Rattle.std.specs.Prelude.{◌≡◌, ◌-◌, ◌≤◌, length};
 ghost use Rattle.link.specs.Link.{value, waveform, waits, kept_limit};
+ghost use Rattle.held.specs.Words.{refusal_of};
 ghost use Rattle.rows.specs.Rows.{coming_at};
 ghost use Rattle.arriving.specs.Arriving.{kept_of};
 ghost use Rattle.lasting.specs.Lasting.{Joined, Fits, Lasts, Ahead, Surplus, PassesIn, Passes};
 
 use arriving::Link;
-use heads::Refusal;
-use held::{Held, Stage};
+use held::{Held, Noted, Stage};
 use rows::Spot;
 use standing::Standing;
 
@@ -93,7 +93,7 @@ fn most(x: Link, n: usize) -> usize
 // The first m octets of a value of which more are left.
 fn value_on(x: Link, p: [u8; Held::ROOM], tag: u8, left: u64, u: &[u8], m: usize) -> Passed
     requires { Ahead x.core.count left (length u.now) m }
-    ensures { PassesIn (value tag left (kept_of x p)) x p u.now result }
+    ensures { PassesIn (value tag left (kept_of x p)) (Stage.Value tag left) x p u.now result }
 {
     let n = spread::smaller(x.core.held, Held::KEPT);
     let octets = joined(p, n, octets::part(u, 0, m));
@@ -109,9 +109,9 @@ fn value_on(x: Link, p: [u8; Held::ROOM], tag: u8, left: u64, u: &[u8], m: usize
 }
 
 // The first m octets that a refusal waits for.
-fn waits_on(x: Link, p: [u8; Held::ROOM], left: u64, refusal: Refusal, u: &[u8], m: usize) -> Passed
+fn waits_on(x: Link, p: [u8; Held::ROOM], left: u64, refusal: Noted, u: &[u8], m: usize) -> Passed
     requires { Ahead x.core.count left (length u.now) m }
-    ensures { PassesIn (waits left refusal) x p u.now result }
+    ensures { PassesIn (waits left (refusal_of refusal)) (Stage.Waits left refusal) x p u.now result }
 {
     let stage = Stage::Waits {
         left: left - m as u64,
@@ -127,7 +127,7 @@ fn waits_on(x: Link, p: [u8; Held::ROOM], left: u64, refusal: Refusal, u: &[u8],
 // The first m octets of a waveform's surplus.
 fn surplus_on(x: Link, p: [u8; Held::ROOM], left: u64, at: Spot, u: &[u8], m: usize) -> Passed
     requires { Surplus x left at (length u.now) m }
-    ensures { PassesIn (waveform left (coming_at at (kept_of x p))) x p u.now result }
+    ensures { PassesIn (waveform left (coming_at at (kept_of x p))) (Stage.Waveform left at.sequence at.channel at.index) x p u.now result }
 {
     let y = arriving::further(x, m, 0, Stage::Head);
     Passed {

@@ -14,11 +14,11 @@ use native.Mathlib.Nat.{zero-add}
 use native.Mathlib.Decide.{dec_lt}
 use native.Mathlib.Omega.{arith}
 use borrow.Author.Tests.{lt-ltb, le-ltb, le-leb, lt-leb, eq-eqb, ne_eqb}
-use lib.Dec.{ltb, leb}
+use lib.Dec.{ltb, leb, eqb}
 use lib.ListN.{length, get_or, take, drop, set, length-append, length-take, length-drop, take-append-drop, drop_of_length-le}
 use lib.Seq.{sets, sets-eq, length-sets, take-take, drop-cons, drop-drop, take-append_seam, drop-append_seam}
 use Rattle.octets.specs.Pick.{pick, both, either}
-use Rattle.heads.specs.declared.Refusal.{Refusal}
+use Rattle.octets.proofs.Pick.{pick_cases}
 use Rattle.values.specs.Sample.{width_of}
 use Rattle.standing.specs.Standing.{octets_limit}
 use Rattle.layout.specs.Frame.{width_in}
@@ -35,6 +35,7 @@ use Rattle.link.specs.Feed.{Fed, fed, is_head, due, feed_of}
 use Rattle.link.specs.Runs.{stops_behind, behind, Leads}
 use Rattle.link.proofs.Fed.{true_false}
 use Rattle.link.proofs.Runs.{leads-none, feed_steady, feed_stops, feed_full, feed_answered, waved-some}
+use Rattle.held.specs.declared.Noted.{Noted}
 use Rattle.held.specs.declared.Stage.{Stage}
 use Rattle.held.specs.Words.{phase_of}
 use Rattle.rows.specs.declared.Spot.{Spot}
@@ -45,8 +46,8 @@ use Rattle.ahead.specs.Ahead.{told_behind, GoesAhead}
 use Rattle.lasting.specs.Lasting.{Passes}
 use Rattle.arriving.specs.declared.Link.{Link}
 use Rattle.arriving.specs.declared.Arrived.{Arrived}
-use Rattle.arriving.specs.Arriving.{kept_of, link_by, core, link_with, counted_by, further_by, at_sample, DecidedIn, Steps}
-use Rattle.arriving.proofs.Laws.{sample-phase, further_near, one_more}
+use Rattle.arriving.specs.Arriving.{kept_of, link_by, core, link_with, counted_by, further_by, at_sample, DecidedIn, Steps, noted_in, Known, NotesBy, Notes}
+use Rattle.arriving.proofs.Laws.{sample-phase, further_near, one_more, notes_none, notes_then}
 use Rattle.turns.specs.declared.Ran.{Ran}
 use Rattle.turns.specs.declared.Turned.{Turned}
 use Rattle.turns.specs.declared.Gave.{Gave}
@@ -77,18 +78,18 @@ nothing_given (x ∷ g) e = let z : ⊥ = omega arith in absurd z
 
 module _ (x : Link) (p t u d : List ℕ) where
   pub run_none : {r : Ran} → r ≡ no_run x p → Runs x p t u d r t d
-  run_none e = subst (λ (k : Ran). Runs x p t u d k t d) (sym e) (record { samples = []; inside = omega arith; rows = rows_none d; long = refl; leads = leads-none (link_by x p t) })
+  run_none e = subst (λ (k : Ran). Runs x p t u d k t d) (sym e) (record { notes = notes_none x (x.core.count + 0) (omega arith); samples = []; inside = omega arith; rows = rows_none d; long = refl; leads = leads-none (link_by x p t) })
 
   pub run_on : {r : Ran} {v : List ℕ} → RunsOn x p t u r v → Runs x p t u d r v d
   run_on r =
-      record { samples = []; inside = r.inside; rows = subst (λ (k : ℕ). Rows [] k d d) (sym r.none) (rows_none d); long = r.long; leads = r.leads }
+      record { notes = r.notes; samples = []; inside = r.inside; rows = subst (λ (k : ℕ). Rows [] k d d) (sym r.none) (rows_none d); long = r.long; leads = r.leads }
 
   pub pass_run : {r : Ran} → Passes x p u (record { link = r.link; octets = r.octets; taken = r.taken }) → r.given ≡ 0 → Runs x p t u d r t d
-  pass_run {r} a e = run_on (record { inside = a.there; none = e; long = refl; leads = a.leads t })
+  pass_run {r} a e = run_on (record { notes = a.notes; inside = a.there; none = e; long = refl; leads = a.leads t })
 
 module _ (x : Link) (p t u : List ℕ) where
   pub items-none : {r : Ran} → r ≡ no_run x p → RunsOn x p t u r t
-  items-none e = subst (λ (k : Ran). RunsOn x p t u k t) (sym e) (record { inside = omega arith; none = refl; long = refl; leads = leads-none (link_by x p t) })
+  items-none e = subst (λ (k : Ran). RunsOn x p t u k t) (sym e) (record { notes = notes_none x (x.core.count + 0) (omega arith); inside = omega arith; none = refl; long = refl; leads = leads-none (link_by x p t) })
 
   pub items_run : {a : Ahead} {v : List ℕ} {f : Waveform} → x.core.stage ≡ Stage.Head → x.core.held ≡ 0 → x.head.cursor.at ≡ x.core.count → GoesAhead u x.head x.core.around t a v → f ≡ told_behind a.taken x.frame
       → RunsOn x p t u (ran (link_with (core a.head.cursor.at a.around 0 Stage.Head) a.head f) p a.taken 0) v
@@ -98,6 +99,7 @@ module _ (x : Link) (p t u : List ℕ) where
       let to : L.link (x.head.cursor.at + a.taken) (stand_of a.head v) a.around (told_behind a.taken x.frame) (L.head []) ≡ link_by (link_with (core a.head.cursor.at a.around 0 Stage.Head) a.head f) p v =
       λ i. L.link (sym g.place i) (stand_of a.head v) a.around (sym ef i) (L.head []) in
       record {
+        notes = subst (λ (k : Stage). NotesBy (x.core.count + a.taken) k (link_with (core a.head.cursor.at a.around 0 Stage.Head) a.head f)) (sym es) tt;
         inside = g.inside;
         none = refl;
         long = g.long;
@@ -132,6 +134,7 @@ module _ (x : Link) (p t u d : List ℕ) (left : ℕ) (at : Spot) (here : AtSamp
           ∙ ap (λ (w : Link). L.in_phase (waved (left - l.taken) (coming_at l.at [])) (link_by w p t)) (ey ∙ further_near x l.taken 0 Stage.Head (omega (arith, few, near)))) in
           let octets : take l.taken part ≡ take l.taken u = ap (take l.taken) ep ∙ take-take l.taken k u (omega (arith, ek, few, long)) in
           record {
+            notes = subst (λ (k : Stage). NotesBy (x.core.count + l.taken) k z) (sym here.stage) (subst (λ (k : Link). Known (noted_in k.core.stage)) (sym ez) (pick_cases (λ (k : Link). Known (noted_in k.core.stage)) (eqb (left - l.taken) 0) (λ _. tt) (λ _. tt)));
             samples = q.samples;
             inside = omega (arith, few, long);
             rows = record { many = q.given; room = omega (arith, q.room); is = q.rows };
@@ -179,11 +182,11 @@ module _ (x : Link) (p t : List ℕ) (b : ℕ) where
     unfolding gives_in
     gives-value tag left e = gives_in_lem h e
 
-    pub gives-waits : (left : ℕ) (r : Refusal) → x.core.stage ≡ Stage.Waits left r → gives here b ≡ []
+    pub gives-waits : (left : ℕ) (r : Noted) → x.core.stage ≡ Stage.Waits left r → gives here b ≡ []
     unfolding gives_in
     gives-waits left r e = gives_in_lem h e
 
-    pub gives-decided : (a : Result ℕ Refusal) → x.core.stage ≡ Stage.Decided a → gives here b ≡ []
+    pub gives-decided : (a : Result ℕ Noted) → x.core.stage ≡ Stage.Decided a → gives here b ≡ []
     unfolding gives_in
     gives-decided a e = gives_in_lem h e
 
@@ -282,7 +285,7 @@ module _ (x : Link) (p t u d : List ℕ) where
   stop-here : {r : Ran} → r ≡ no_run x p → feed_of (room_in d) (link_by x p t) u ≡ fed 0 (link_by x p t) [] → Turns x p t u d (stopped r) t d
   stop-here {r} e f =
       subst (λ (k : Ran). Turns x p t u d (stopped k) t d) (sym e)
-      (record { samples = []; inside = omega arith; rows = rows_none d; long = refl; some = λ z. absurd (true_false z); same = f })
+      (record { notes = notes_none x (x.core.count + 0) (omega arith); samples = []; inside = omega arith; rows = rows_none d; long = refl; some = λ z. absurd (true_false z); same = f })
 
   pub turn_none : {r : Ran} → r ≡ no_run x p → length u ≡ 0 → Turns x p t u d (stopped r) t d
   unfolding feed_of
@@ -294,6 +297,7 @@ module _ (x : Link) (p t u d : List ℕ) where
   pub turn_run : {r : Ran} {v e : List ℕ} → Runs x p t u d r v e → 0 < r.taken → Turns x p t u d (record { ran = r; stops = false }) v e
   turn_run {r} q h =
       record {
+        notes = q.notes;
         samples = q.samples;
         inside = q.inside;
         rows = q.rows;
@@ -315,6 +319,7 @@ module _ (x : Link) (p t u d : List ℕ) where
       let buffer : e ≡ d = none.1 in
       subst (λ (a : List ℕ). Turns x p t u a k v' e') buffer
       (record {
+        notes = notes-after w.notes;
         samples = w.samples;
         inside = w.inside;
         rows = w.rows;
@@ -323,6 +328,12 @@ module _ (x : Link) (p t u d : List ℕ) where
         same = ap (λ (l : L.Link). feed_of (room_in e) l u) none.0 ∙ w.same;
       })
     where
+      notes-after : Notes r.link k.ran.taken k.ran.link → Notes x k.ran.taken k.ran.link
+      notes-after h =
+          let n : x.core.count + (0 + k.ran.taken) ≡ x.core.count + k.ran.taken = omega arith in
+          let first = subst (λ (m : ℕ). Notes x m r.link) z q.notes in
+          subst (λ (m : ℕ). NotesBy m x.core.stage k.ran.link) n (notes_then x r.link k.ran.link 0 k.ran.taken first h)
+
       still : Runs x p t u d r v e → r.taken ≡ 0 → (link_by x p t ≡ link_ran r v) × (e ≡ d)
       still q z = unfold fed_with given_by rows_of in
           let w = subst (λ (n : ℕ). Leads (link_by x p t) (take n u) (link_ran r v) q.samples) z q.leads in
@@ -356,7 +367,7 @@ module _ (x : Link) (p t u d : List ℕ) where
           leads_feed (room_in d) 1 u (rows_fit r) (subst (λ (w : List ℕ). Leads (link_by x p t) w (link_by a.link a.octets v) (gives (link_by x p t) b)) (sym (ap (take 1) front)) (one_leads z)) some
 
       octet_turn : Turns x p t u d (record { ran = ran a.link a.octets 1 n; stops = k }) v e
-      octet_turn = record { samples = gives (link_by x p t) b; inside = some; rows = r; long = s.long; some = λ _. omega arith; same = on_by k refl }
+      octet_turn = record { notes = s.notes; samples = gives (link_by x p t) b; inside = some; rows = r; long = s.long; some = λ _. omega arith; same = on_by k refl }
 
     turn_by : {r : Turned} {v e : List ℕ} (n : ℕ) → OctetOn x p t b n r v → Rows (gives (link_by x p t) b) n d e → Turns x p t u d r v e
     turn_by {r} {v} {e} n o q =
@@ -383,6 +394,7 @@ module _ (x : Link) (p t u d : List ℕ) where
 
 -- How far a call has come.
 pub record Feeding (x : Link) (p t s d : List ℕ) (y : Link) (q : List ℕ) (taken given : ℕ) (v e : List ℕ) : Type 0 where
+  pub notes : Notes x taken y
   pub samples : List Given
   pub inside : taken ≤ length s
   pub rows : Rows samples given d e
@@ -394,6 +406,7 @@ feed_first x p t s d =
     let k : room_in d - 0 ≡ room_in d = omega arith in
     let f = feed_of (room_in d) (link_by x p t) s in
     record {
+      notes = notes_none x (x.core.count + 0) (omega arith);
       samples = [];
       inside = omega arith;
       rows = rows_none d;
@@ -466,6 +479,9 @@ module _ {x : Link} {p t s d : List ℕ} {y : Link} {q : List ℕ} {taken given 
   inside-all : taken + k.ran.taken ≤ length s
   inside-all = omega (arith, g.inside, w.inside, length-drop taken s)
 
+  notes-all : Notes x (taken + k.ran.taken) k.ran.link
+  notes-all = notes_then x y k.ran.link taken k.ran.taken g.notes w.notes
+
   left-room : room_in (drop at e) - length w.samples ≡ room_in d - (given + k.ran.given)
   left-room = omega (arith, room-is g.rows ea w.rows, w.rows.many)
 
@@ -480,6 +496,7 @@ module _ {x : Link} {p t s d : List ℕ} {y : Link} {q : List ℕ} {taken given 
   pub feed_more : k.stops ≡ false → Feeding x p t s d k.ran.link k.ran.octets (taken + k.ran.taken) (given + k.ran.given) v' (take at e ++ f)
   feed_more z =
       record {
+        notes = notes-all;
         samples = all;
         inside = inside-all;
         rows = joined;
@@ -495,6 +512,7 @@ module _ {x : Link} {p t s d : List ℕ} {y : Link} {q : List ℕ} {taken given 
       on-all ∙ ap (λ (b : Bool). behind n all (goes_on b (room_in d - (given + k.ran.given)) (link_ran k.ran v') (drop n s))) z
       ∙ (λ i. fed (zero_more i) (link_ran k.ran v') (append-nil all i)) in
       record {
+        notes = notes-all;
         same = (λ i. fed n (link_ran k.ran v') (is i).given) ∙ sym is;
         rows = subst (λ (b : List Given). Rows b (given + k.ran.given) d (take at e ++ f)) (sym (ap (λ (r : Fed). r.given) is)) joined;
         long = w.long ∙ g.long;

@@ -12,7 +12,7 @@ use Rattle.rows.specs.declared.Spot.{Spot}
 use Rattle.rows.specs.Rows.{row_words, rows_of, coming_at}
 use Rattle.lasting.specs.declared.Passed.{Passed}
 use Rattle.arriving.specs.declared.Link.{Link}
-use Rattle.arriving.specs.Arriving.{kept_of, link_by, counted_by, Steps}
+use Rattle.arriving.specs.Arriving.{kept_of, link_by, counted_by, Notes, Steps}
 use Rattle.turns.specs.declared.Ran.{Ran}
 use Rattle.turns.specs.declared.Turned.{Turned}
 use Rattle.turns.specs.declared.Gave.{Gave}
@@ -40,6 +40,7 @@ pub record Rows (samples : List Given) (given : ℕ) (d e : List ℕ) : Type 0 w
 
 -- Octets at the front of u, behind none of which the call stops, and what they gave out.
 pub record Runs (x : Link) (p t u d : List ℕ) (r : Ran) (v e : List ℕ) : Type 0 where
+  pub notes : Notes x r.taken r.link
   pub samples : List Given
   pub inside : r.taken ≤ length u
   pub rows : Rows samples r.given d e
@@ -48,6 +49,7 @@ pub record Runs (x : Link) (p t u d : List ℕ) (r : Ran) (v e : List ℕ) : Typ
 
 -- The same, where nothing is given out.
 pub record RunsOn (x : Link) (p t u : List ℕ) (r : Ran) (v : List ℕ) : Type 0 where
+  pub notes : Notes x r.taken r.link
   pub inside : r.taken ≤ length u
   pub none : r.given ≡ 0
   pub long : length v ≡ length t
@@ -100,6 +102,7 @@ room_in d = length d / row_words
 
 -- One turn of a call; one that does not stop it takes octets.
 pub record Turns (x : Link) (p t u d : List ℕ) (r : Turned) (v e : List ℕ) : Type 0 where
+  pub notes : Notes x r.ran.taken r.ran.link
   pub samples : List Given
   pub inside : r.ran.taken ≤ length u
   pub rows : Rows samples r.ran.given d e
@@ -109,6 +112,7 @@ pub record Turns (x : Link) (p t u d : List ℕ) (r : Turned) (v e : List ℕ) :
 
 -- One call: what it takes, leaves and gives out, and the rows at the front of the buffer.
 pub record Feeds (x : Link) (p t s d : List ℕ) (r : Ran) (v e : List ℕ) : Type 0 where
+  pub notes : Notes x r.taken r.link
   pub same : fed r.taken (link_ran r v) (feed_of (room_in d) (link_by x p t) s).given ≡ feed_of (room_in d) (link_by x p t) s
   pub rows : Rows (feed_of (room_in d) (link_by x p t) s).given r.given d e
   pub long : length v ≡ length t

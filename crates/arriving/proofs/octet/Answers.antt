@@ -9,7 +9,7 @@ pub returns-then-is_decided : goal.returns-then-is_decided
 returns-then-is_decided c = steps-decided c.args.x c.args.t.now c.args.p c.args.b c.is_decided.ensures c.if-is_decided.true
 
 pub returns-then-x : goal.returns-then-x
-returns-then-x c = steps-past c.args.x c.args.t.now c.args.p c.args.b c.is_decided.ensures c.if-is_decided.false (omega arith) c.in_stage.ensures
+returns-then-x c = steps-past c.args.x c.args.t.now c.args.p c.args.b c.is_decided.ensures c.if-is_decided.false (omega arith) c.of-r.ensures c.in_stage.ensures
 
 pub taken-requires : goal.taken-requires
 taken-requires c = subst (λ (y : Link). y.core.count ≤ octets_limit) (sym c.counted.ensures) (omega arith)

@@ -15,4 +15,4 @@ pub returns-in-Waits : goal.returns-in-Waits
 returns-in-Waits c = takes_in c.args.x c.args.t.now c.args.p c.args.b c.in-Waits.is (waits_takes c.args.t.now c.args.p c.args.b _ _ c.less.ensures c.waiting.ensures)
 
 pub returns-in-Decided : goal.returns-in-Decided
-returns-in-Decided c = takes_in c.args.x c.args.t.now c.args.p c.args.b c.in-Decided.is (decided_takes c.args.x c.args.t.now c.args.p c.args.b c.in-Decided.field-0)
+returns-in-Decided c = takes_in c.args.x c.args.t.now c.args.p c.args.b c.in-Decided.is (decided_takes c.args.x c.args.t.now c.args.p c.args.b c.in-Decided.field-0 c.in-Decided.is)

@@ -1,13 +1,10 @@
 -- By the arm of the match: each number is that of the lowest octets of its word.
 use Rattle.std.specs.Prelude.{Ok, Err}
 use mathlib.Core.Path.{ap, sym, ◌∙◌}
-use Prim.Native.Nat.{ℕ, ◌<◌, ◌^◌}
+use Prim.Native.Nat.{◌<◌, ◌^◌}
 use native.Mathlib.Nat.{mod-eq_of_lt}
-use Rattle.octets.specs.Number.{low_of}
-use Rattle.items.specs.Walk.{refusal}
 use Rattle.held.specs.declared.Stage.{Stage}
-use Rattle.held.specs.Words.{fault_by}
-use Rattle.held.proofs.Laws.{fault-kept}
+use Rattle.held.specs.Words.{noted}
 use borrow.Author.Rules.{rules}
 use Rattle.held.proofs.stage_words.Goals as goal
 
@@ -26,8 +23,8 @@ returns-in-Waveform c =
 pub returns-in-Waits : goal.returns-in-Waits
 returns-in-Waits c =
     let r = c.in-Waits.r in
-    let fault = ap (λ (n : ℕ). fault_by (low_of 1 n)) c.number.ensures ∙ fault-kept r.fault in
-    (λ i. Stage.Waits c.in-Waits.left (refusal (fault i) r.place)) ∙ sym c.in-Waits.is
+    let low : r.number < 256 = search rules in
+    (λ i. Stage.Waits c.in-Waits.left (noted (mod-eq_of_lt low i) r.place)) ∙ sym c.in-Waits.is
 
 pub returns-in-Ok : goal.returns-in-Ok
 returns-in-Ok c =
@@ -37,5 +34,5 @@ returns-in-Ok c =
 pub returns-in-Err : goal.returns-in-Err
 returns-in-Err c =
     let r = c.in-Err.r in
-    let fault = ap (λ (n : ℕ). fault_by (low_of 1 n)) c.number-in-Err.ensures ∙ fault-kept r.fault in
-    (λ i. Stage.Decided (Err (refusal (fault i) r.place))) ∙ sym (c.in-Decided.is ∙ ap Stage.Decided c.in-Err.is)
+    let low : r.number < 256 = search rules in
+    (λ i. Stage.Decided (Err (noted (mod-eq_of_lt low i) r.place))) ∙ sym (c.in-Decided.is ∙ ap Stage.Decided c.in-Err.is)
