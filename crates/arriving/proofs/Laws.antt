@@ -11,7 +11,7 @@ use Rattle.effects.specs.declared.Effect.{Effect}
 use Rattle.heads.specs.declared.Length.{Length}
 use Rattle.heads.specs.declared.ItemHead.{ItemHead}
 use Rattle.std.specs.Prelude.{Result, Ok, Err, Option, Some, None}
-use Rattle.std.proofs.Common.{◌≡◌, ℕ, zero, suc, ◌+◌, ◌-◌, ◌^◌, ◌<◌, ◌≤◌, min, Bool, true, false, eqb, ltb, leb, List, [], ◌∷◌, ◌++◌, length, get_or, take, drop, set, sym, refl, ap, ◌∙◌, subst, mod-eq_of_lt, add-one, arith, length-append, length-take, take_all, take-take, take-suc-set, ltb-false, ltb-true, le-ltb, lt-ltb, eq-eqb, ne_eqb, le-leb}
+use Rattle.std.proofs.Common.{◌≡◌, ℕ, zero, suc, ◌+◌, ◌-◌, ◌^◌, ◌<◌, ◌≤◌, min, Bool, true, false, eqb, ltb, leb, List, [], ◌∷◌, ◌++◌, length, get_or, take, drop, set, sym, refl, ap, ◌∙◌, subst, mod-eq_of_lt, add-one, arith, length-append, length-take, take_all, take-take, take-suc-set, ltb-false, ltb-true, le-ltb, lt-ltb, eq-eqb, ne_eqb, eqb-true, le-leb}
 use mathlib.Core.Logic.{◌⊎◌, inl, inr}
 use borrow.Author.Tests.{lt-leb}
 use native.Mathlib.Decide.{dec_lt}
@@ -51,7 +51,7 @@ use Rattle.arriving.specs.declared.Link.{Link}
 use Rattle.rows.specs.declared.Spot.{Spot}
 use Rattle.rows.specs.Rows.{coming_at}
 use Rattle.arriving.specs.declared.Arrived.{Arrived}
-use Rattle.arriving.specs.Arriving.{kept_of, link_by, core, link_with, in_stage, in_stand, marked_by, counted_by, further_by, untold_by, waved_stage, at_sample, waiting_by, noted_in, Known, NotesBy, Notes, ComesNext, DecidedIn, Becomes, Moves, Turns, TurnsOn, Bounded, SmallForm, Seen, Takes, Steps}
+use Rattle.arriving.specs.Arriving.{kept_of, link_by, core, link_with, in_stage, in_stand, marked_by, counted_by, further_by, untold_by, waved_stage, at_sample, waiting_by, noted_in, Known, due_in, Stays, NotesBy, Notes, ComesNext, DecidedIn, Becomes, Moves, Turns, TurnsOn, Bounded, SmallForm, Seen, Takes, Steps}
 
 -- ---- tests
 
@@ -83,27 +83,31 @@ abbrev limit_noted : Noted
 limit_noted = noted_of (refusal LongFile 0)
 
 -- The same link, behind no more octets.
-pub notes_none : (x : Link) (n : ℕ) → x.core.count ≤ n → NotesBy n x.core.stage x
+pub notes_none : (x : Link) (n : ℕ) → x.core.count ≤ n → NotesBy (x.core.count + 1) n x.core.stage x
 notes_none x n h = by x.core.stage refl
   where
-    by : (s : Stage) → x.core.stage ≡ s → NotesBy n s x
+    by : (s : Stage) → x.core.stage ≡ s → NotesBy (x.core.count + 1) n s x
     by Stage.Head e = subst Known (sym (ap noted_in e)) tt
     by (Stage.Value tag left) e = subst Known (sym (ap noted_in e)) tt
     by (Stage.Waveform left sequence channel index) e = subst Known (sym (ap noted_in e)) tt
-    by (Stage.Waits left r) e = inl (ap noted_in e, h)
-    by (Stage.Decided a) e = (e, h)
+    by (Stage.Waits left r) e = inl (ap noted_in e, h, (let d = ap due_in e in omega (arith, d)))
+    by (Stage.Decided a) e = (e, h, omega arith)
 
--- Past the limit, where no answer was given.
-pub notes_limit : (s : Stage) (y : Link) (n : ℕ) → L.is_decided (phase_of s []) ≡ false → octets_limit < n → noted_in y.core.stage ≡ Some limit_noted → NotesBy n s y
-notes_limit Stage.Head y n d h e = subst Known (sym e) (known_of (refusal LongFile 0))
-notes_limit (Stage.Value tag left) y n d h e = subst Known (sym e) (known_of (refusal LongFile 0))
-notes_limit (Stage.Waveform left sequence channel index) y n d h e = subst Known (sym e) (known_of (refusal LongFile 0))
-notes_limit (Stage.Waits left r) y n d h e = inr (e, h)
-notes_limit (Stage.Decided a) y n d h e = absurd (subst Holds d tt)
+-- Behind an octet that passes the limit, where no answer was given.
+pub notes_limit : (s : Stage) (y : Link) (k n : ℕ) → L.is_decided (phase_of s []) ≡ false → octets_limit < n → k ≤ n → noted_in y.core.stage ≡ Some limit_noted → NotesBy k n s y
+notes_limit Stage.Head y k n d h l e = subst Known (sym e) (known_of (refusal LongFile 0))
+notes_limit (Stage.Value tag left) y k n d h l e = subst Known (sym e) (known_of (refusal LongFile 0))
+notes_limit (Stage.Waveform left sequence channel index) y k n d h l e = subst Known (sym e) (known_of (refusal LongFile 0))
+notes_limit (Stage.Waits left r) y k n d h l e = inr (e, h, l)
+notes_limit (Stage.Decided a) y k n d h l e = absurd (subst Holds d tt)
   where
     Holds : Bool → Type 0
     Holds true = Unit {0}
     Holds false = ⊥
+
+-- Behind an octet that passes the limit 15 is noted.
+abbrev Past : ℕ → ℕ → Link → Type 0
+Past k n y = (noted_in y.core.stage ≡ Some limit_noted) × (octets_limit < n) × (k ≤ n)
 
 -- Some octets, and then more.
 pub notes_then : (x y z : Link) (m k : ℕ) → Notes x m y → Notes y k z → Notes x (m + k) z
@@ -113,7 +117,7 @@ notes_then x y z m k = by x.core.stage
     Notes_one None = ⊥
     Notes_one (Some r) = Unit {0}
 
-    known : (t : Stage) → Known (noted_in t) → NotesBy (y.core.count + k) t z → Known (noted_in z.core.stage)
+    known : (t : Stage) → Known (noted_in t) → NotesBy (y.core.count + 1) (y.core.count + k) t z → Known (noted_in z.core.stage)
     known Stage.Head h q = q
     known (Stage.Value tag left) h q = q
     known (Stage.Waveform left sequence channel index) h q = q
@@ -121,35 +125,34 @@ notes_then x y z m k = by x.core.stage
     known (Stage.Waits left r) h (inr q) = subst Known (sym q.0) (known_of (refusal LongFile 0))
     known (Stage.Decided a) h q = subst Known (sym (ap noted_in q.0)) h
 
-    same : (t : Stage) (r : Noted) → noted_in t ≡ Some r → NotesBy (y.core.count + k) t z
-        → ((noted_in z.core.stage ≡ Some r) × (z.core.count ≤ y.core.count + k)) ⊎ ((noted_in z.core.stage ≡ Some limit_noted) × (octets_limit < y.core.count + k))
+    same : (t : Stage) (r : Noted) → noted_in t ≡ Some r → NotesBy (y.core.count + 1) (y.core.count + k) t z → Stays y.core.count (due_in t) (y.core.count + k) r z ⊎ Past (y.core.count + 1) (y.core.count + k) z
     same Stage.Head r e q = absurd (subst Notes_one (sym e) tt)
     same (Stage.Value tag left) r e q = absurd (subst Notes_one (sym e) tt)
     same (Stage.Waveform left sequence channel index) r e q = absurd (subst Notes_one (sym e) tt)
-    same (Stage.Waits left n) r e (inl q) = inl (q.0 ∙ e, q.1)
+    same (Stage.Waits left n) r e (inl q) = inl (q.0 ∙ e, q.1, omega (arith, q.2))
     same (Stage.Waits left n) r e (inr q) = inr q
-    same (Stage.Decided a) r e q = inl (ap noted_in q.0 ∙ e, q.1)
+    same (Stage.Decided a) r e q = inl (ap noted_in q.0 ∙ e, q.1, omega (arith, q.2))
 
-    waits : (left : ℕ) (r : Noted) → NotesBy (x.core.count + m) (Stage.Waits left r) y → Notes y k z → NotesBy (x.core.count + (m + k)) (Stage.Waits left r) z
+    waits : (left : ℕ) (r : Noted) → NotesBy (x.core.count + 1) (x.core.count + m) (Stage.Waits left r) y → Notes y k z → NotesBy (x.core.count + 1) (x.core.count + (m + k)) (Stage.Waits left r) z
     waits left r (inl h) q = on (same y.core.stage r h.0 q)
       where
-        on : ((noted_in z.core.stage ≡ Some r) × (z.core.count ≤ y.core.count + k)) ⊎ ((noted_in z.core.stage ≡ Some limit_noted) × (octets_limit < y.core.count + k)) → NotesBy (x.core.count + (m + k)) (Stage.Waits left r) z
-        on (inl w) = inl (w.0, omega (arith, h.1, w.1))
-        on (inr w) = inr (w.0, omega (arith, h.1, w.1))
+        on : Stays y.core.count (due_in y.core.stage) (y.core.count + k) r z ⊎ Past (y.core.count + 1) (y.core.count + k) z → NotesBy (x.core.count + 1) (x.core.count + (m + k)) (Stage.Waits left r) z
+        on (inl w) = inl (w.0, omega (arith, h.1, w.1), omega (arith, h.2, w.2))
+        on (inr w) = inr (w.0, omega (arith, h.1, w.1), omega (arith, w.2))
     waits left r (inr h) q = on (same y.core.stage limit_noted h.0 q)
       where
-        on : ((noted_in z.core.stage ≡ Some limit_noted) × (z.core.count ≤ y.core.count + k)) ⊎ ((noted_in z.core.stage ≡ Some limit_noted) × (octets_limit < y.core.count + k)) → NotesBy (x.core.count + (m + k)) (Stage.Waits left r) z
-        on (inl w) = inr (w.0, omega (arith, h.1))
-        on (inr w) = inr (w.0, omega (arith, h.1))
+        on : Stays y.core.count (due_in y.core.stage) (y.core.count + k) limit_noted z ⊎ Past (y.core.count + 1) (y.core.count + k) z → NotesBy (x.core.count + 1) (x.core.count + (m + k)) (Stage.Waits left r) z
+        on (inl w) = inr (w.0, omega (arith, h.1), omega (arith, h.2))
+        on (inr w) = inr (w.0, omega (arith, h.1), omega (arith, h.2))
 
-    by : (s : Stage) → NotesBy (x.core.count + m) s y → Notes y k z → NotesBy (x.core.count + (m + k)) s z
+    by : (s : Stage) → NotesBy (x.core.count + 1) (x.core.count + m) s y → Notes y k z → NotesBy (x.core.count + 1) (x.core.count + (m + k)) s z
     by Stage.Head h q = known y.core.stage h q
     by (Stage.Value tag left) h q = known y.core.stage h q
     by (Stage.Waveform left sequence channel index) h q = known y.core.stage h q
     by (Stage.Waits left r) h q = waits left r h q
     by (Stage.Decided a) h q =
-        let w = subst (λ (t : Stage). NotesBy (y.core.count + k) t z) h.0 q in
-        (w.0, omega (arith, h.1, w.1))
+        let w = subst (λ (t : Stage). NotesBy (y.core.count + 1) (y.core.count + k) t z) h.0 q in
+        (w.0, omega (arith, h.1, w.1), omega (arith, h.2, w.2))
 
 -- ---- what is around
 
@@ -327,8 +330,8 @@ waiting-is : (left : ℕ) (r : Noted) (x : Link) (p q t : List ℕ) → link_by 
 unfolding waiting
 waiting-is left r x p q t = pick_link (eqb left 0) (in_stage (Stage.Decided (Err r)) x) (in_stage (Stage.Waits left r) x) q t
 
-waiting_notes : (left : ℕ) (r : Noted) (x : Link) → (noted_in (waiting_by left r x).core.stage ≡ Some r) × ((waiting_by left r x).core.count ≤ x.core.count)
-waiting_notes left r x = pick_cases (λ (y : Link). (noted_in y.core.stage ≡ Some r) × (y.core.count ≤ x.core.count)) (eqb left 0) (λ _. (refl, omega arith)) (λ _. (refl, omega arith))
+waiting_notes : (left : ℕ) (r : Noted) (x : Link) → Stays x.core.count left x.core.count r (waiting_by left r x)
+waiting_notes left r x = pick_cases (Stays x.core.count left x.core.count r) (eqb left 0) (λ t. (refl, omega arith, omega (arith, eqb-true left 0 t))) (λ _. (refl, omega arith, omega arith))
 
 -- A refusal that is noted waits as it does itself.
 pub waiting_noted : {x y : Link} (left : ℕ) (r : Refusal) {k : Noted} → k ≡ noted_of r → y ≡ waiting_by left k x → Becomes x y (waiting left r)
@@ -628,16 +631,16 @@ module _ (x : Link) (u p : List ℕ) (b : ℕ) {s : Stage} (es : x.core.stage �
 
 pub waits_takes : {x link : Link} (u p : List ℕ) (b left : ℕ) (r : Noted) {k : ℕ} → k ≡ left - 1 → link ≡ waiting_by k r x → Takes x p u b (L.waits left (refusal_of r)) (Stage.Waits left r) (record { link = link; octets = p }) u
 unfolding L.taken_in
-waits_takes {x} u p b left r {k} e w =
+waits_takes {x} {link} u p b left r {k} e w =
     record {
-      notes = inl (subst (λ (y : Link). (noted_in y.core.stage ≡ Some r) × (y.core.count ≤ x.core.count)) (sym w) (waiting_notes k r x));
+      notes = inl (subst (λ (m : ℕ). Stays x.core.count m x.core.count r link) e (subst (Stays x.core.count k x.core.count r) (sym w) (waiting_notes k r x)));
       same = ap (λ (y : Link). link_by y p u) w ∙ waiting-is k r x p p u ∙ ap (λ (m : ℕ). waiting m (refusal_of r) (link_by x p u)) e;
       long = refl;
     }
 
 pub decided_takes : (x : Link) (u p : List ℕ) (b : ℕ) (a : Result ℕ Noted) → x.core.stage ≡ Stage.Decided a → Takes x p u b (L.decided (answer_by a)) (Stage.Decided a) (record { link = x; octets = p }) u
 unfolding L.taken_in
-decided_takes x u p b a e = record { notes = (e, omega arith); same = refl; long = refl }
+decided_takes x u p b a e = record { notes = (e, omega arith, omega arith); same = refl; long = refl }
 
 module _ (x : Link) (u p : List ℕ) (b : ℕ) {d : Bool} (ed : DecidedIn x.core.stage d) where
   abbrev steps_by : Bool → Bool → L.Link
@@ -655,7 +658,7 @@ module _ (x : Link) (u p : List ℕ) (b : ℕ) {d : Bool} (ed : DecidedIn x.core
   steps-past {link} t h k e =
       let same = ap (λ (y : Link). link_by y p u) e ∙ ap (λ (r : Refusal). L.refused_in r (link_by x p u)) (ap refusal_of k ∙ noted_back (refusal LongFile 0)) in
       let past = ap (λ (y : Link). noted_in y.core.stage) e ∙ ap Some k in
-      steps_by_lem false true t (le-leb octets_limit x.core.count h) same refl (notes_limit x.core.stage link (x.core.count + 1) (sym (ed []) ∙ t) (omega arith) past)
+      steps_by_lem false true t (le-leb octets_limit x.core.count h) same refl (notes_limit x.core.stage link (x.core.count + 1) (x.core.count + 1) (sym (ed []) ∙ t) (omega arith) (omega arith) past)
 
   pub steps-taken : {y : Link} {r : Arrived} {v : List ℕ} → d ≡ false → x.core.count < octets_limit → y ≡ counted_by x → Takes y p u b (phase_of y.core.stage (kept_of y p)) y.core.stage r v → Steps x p u b r v
   steps-taken {r = r} {v} t h e k =

@@ -2,7 +2,7 @@
 -- of document 01.
 use Rattle.heads.specs.declared.Fault.{Fault}
 use Rattle.heads.specs.declared.ItemHead.{ItemHead}
-use Rattle.std.specs.Prelude.{◌≡◌, ℕ, ◌+◌, ◌%◌, ◌^◌, ◌<◌, ◌≤◌, min, ◌⊎◌, Bool, List, [], length, take, ◌==◌, Result, Ok, Err, Option, Some, None}
+use Rattle.std.specs.Prelude.{◌≡◌, ℕ, ◌+◌, ◌-◌, ◌%◌, ◌^◌, ◌<◌, ◌≤◌, min, max, ◌⊎◌, Bool, List, [], length, take, ◌==◌, Result, Ok, Err, Option, Some, None}
 use Rattle.octets.specs.Pick.{pick}
 use Rattle.heads.specs.declared.Fault.TheVariants.{LongFile}
 use Rattle.heads.specs.Head.{form_of}
@@ -92,19 +92,31 @@ abbrev pub Known : Option Noted → Type 0
 Known None = Unit {0}
 Known (Some r) = noted_of (refusal_of r) ≡ r
 
--- What a link notes where n octets have come, by the stage before: of a refusal that waits the same, whatever its number, or past the limit 15; of an answer the
--- same; and else, where it notes one, one by the number of its fault.
-abbrev pub NotesBy : ℕ → Stage → Link → Type 0
-NotesBy n Stage.Head y = Known (noted_in y.core.stage)
-NotesBy n (Stage.Value tag left) y = Known (noted_in y.core.stage)
-NotesBy n (Stage.Waveform left sequence channel index) y = Known (noted_in y.core.stage)
-NotesBy n (Stage.Waits left r) y =
-    ((noted_in y.core.stage ≡ Some r) × (y.core.count ≤ n)) ⊎ ((noted_in y.core.stage ≡ Some (noted_of (refusal LongFile 0))) × (octets_limit < n))
-NotesBy n (Stage.Decided a) y = (y.core.stage ≡ Stage.Decided a) × (y.core.count ≤ n)
+-- How many octets a refusal still waits for: at least one, till it is the answer.
+abbrev pub due_in : Stage → ℕ
+due_in Stage.Head = 0
+due_in (Stage.Value tag left) = 0
+due_in (Stage.Waveform left sequence channel index) = 0
+due_in (Stage.Waits left r) = max left 1
+due_in (Stage.Decided a) = 0
+
+-- A refusal for which so many octets were due behind k is noted as it was, whatever its number, where no more than n have come: those that were due have been
+-- counted, or still are due.
+abbrev pub Stays : ℕ → ℕ → ℕ → Noted → Link → Type 0
+Stays k due n r y = (noted_in y.core.stage ≡ Some r) × (y.core.count ≤ n) × (k + due ≤ y.core.count + due_in y.core.stage)
+
+-- What a link notes, by the stage before: with the first octet behind it k have come, and n with the last. Of a refusal that waits it notes the same, or, behind an
+-- octet that passes the limit, 15; of an answer the same; and else, where it notes one, one by the number of its fault.
+abbrev pub NotesBy : ℕ → ℕ → Stage → Link → Type 0
+NotesBy k n Stage.Head y = Known (noted_in y.core.stage)
+NotesBy k n (Stage.Value tag left) y = Known (noted_in y.core.stage)
+NotesBy k n (Stage.Waveform left sequence channel index) y = Known (noted_in y.core.stage)
+NotesBy k n (Stage.Waits left r) y = Stays k (left - 1) n r y ⊎ ((noted_in y.core.stage ≡ Some (noted_of (refusal LongFile 0))) × (octets_limit < n) × (k ≤ n))
+NotesBy k n (Stage.Decided a) y = (y.core.stage ≡ Stage.Decided a) × (y.core.count ≤ n) × (k ≤ y.core.count + 1)
 
 -- The same behind m octets more.
 abbrev pub Notes : Link → ℕ → Link → Type 0
-Notes x m y = NotesBy (x.core.count + m) x.core.stage y
+Notes x m y = NotesBy (x.core.count + 1) (x.core.count + m) x.core.stage y
 
 -- What a link becomes, with whatever octets and words: nothing is kept, and no record is touched.
 pub record Becomes (x r : Link) (f : L.Link → L.Link) : Type 0 where
@@ -160,9 +172,9 @@ pub record Seen (w : Within) (count : ℕ) (u : List ℕ) (r : Result (Option It
   pub is : r ≡ seen_in w count (form_of (is_inside w) u)
   pub small : SmallForm (length u) r
 
--- One octet in a phase, that of this stage.
+-- One octet in a phase, that of this stage; it has been counted.
 pub record Takes (x : Link) (p u : List ℕ) (b : ℕ) (phase : Phase) (before : Stage) (r : Arrived) (v : List ℕ) : Type 0 where
-  pub notes : NotesBy x.core.count before r.link
+  pub notes : NotesBy x.core.count x.core.count before r.link
   pub same : link_by r.link r.octets v ≡ taken_in b phase (link_by x p u)
   pub long : length v ≡ length u
 

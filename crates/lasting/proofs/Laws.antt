@@ -4,7 +4,6 @@
 --     pass_none, pass_by    none, or those of the stage
 -- Assumes nothing.
 use mathlib.Core.Path.{◌≡◌, refl, sym, ap, subst, ◌∙◌}
-use Rattle.std.specs.Prelude.{Some}
 use mathlib.Core.Logic.{inl}
 use mathlib.Core.List.{List, [], ◌∷◌, ◌++◌, append-nil, append_assoc}
 use Prim.Native.Nat.{ℕ, suc, ◌+◌, ◌-◌, ◌≤◌, ◌<◌, min}
@@ -26,7 +25,7 @@ use Rattle.held.specs.Words.{refusal_of, phase_of}
 use Rattle.arriving.specs.declared.Link.{Link}
 use Rattle.rows.specs.declared.Spot.{Spot}
 use Rattle.rows.specs.Rows.{coming_at}
-use Rattle.arriving.specs.Arriving.{kept_of, link_by, further_by, at_sample, noted_in, Known}
+use Rattle.arriving.specs.Arriving.{kept_of, link_by, further_by, at_sample, noted_in, Known, Stays}
 use Rattle.arriving.proofs.Laws.{sample-phase, further_near, notes_none}
 use Rattle.lasting.specs.declared.Passed.{Passed}
 use Rattle.lasting.specs.Lasting.{Lasts, Joined, Ahead, Surplus, PassesIn, Passes}
@@ -103,7 +102,7 @@ module _ (x : Link) (p u : List ℕ) (left m : ℕ) where
   waits_passes r a ey =
       let long = first_long u m a.there in
       record {
-        notes = inl (subst (λ (z : Link). (noted_in z.core.stage ≡ Some r) × (z.core.count ≤ x.core.count + m)) (sym (ey ∙ further_near x m 0 (Stage.Waits (left - m) r) a.near)) (refl, omega arith));
+        notes = inl (subst (Stays (x.core.count + 1) (left - 1) (x.core.count + m) r) (sym (ey ∙ further_near x m 0 (Stage.Waits (left - m) r) a.near)) (refl, omega arith, omega (arith, a.more)));
         there = a.there;
         leads = λ t.
             subst (λ (z : L.Link). Leads (L.link x.core.count (stand_of x.head t) x.core.around x.frame (L.waits left (refusal_of r))) (take m u) z [])

@@ -44,7 +44,7 @@ pub record Surplus (x : Link) (left : ℕ) (at : Spot) (n m : ℕ) : Type 0 wher
 
 -- What octets lead to from a link in a phase, with whatever words, that of this stage.
 pub record PassesIn (phase : Phase) (before : Stage) (x : Link) (p u : List ℕ) (r : Passed) : Type 0 where
-  pub notes : NotesBy (x.core.count + r.taken) before r.link
+  pub notes : NotesBy (x.core.count + 1) (x.core.count + r.taken) before r.link
   pub there : r.taken ≤ length u
   pub leads : (t : List ℕ) → Leads (L.link x.core.count (stand_of x.head t) x.core.around x.frame phase) (take r.taken u) (link_by r.link r.octets t) []
 

@@ -99,7 +99,7 @@ module _ (x : Link) (p t u : List ℕ) where
       let to : L.link (x.head.cursor.at + a.taken) (stand_of a.head v) a.around (told_behind a.taken x.frame) (L.head []) ≡ link_by (link_with (core a.head.cursor.at a.around 0 Stage.Head) a.head f) p v =
       λ i. L.link (sym g.place i) (stand_of a.head v) a.around (sym ef i) (L.head []) in
       record {
-        notes = subst (λ (k : Stage). NotesBy (x.core.count + a.taken) k (link_with (core a.head.cursor.at a.around 0 Stage.Head) a.head f)) (sym es) tt;
+        notes = subst (λ (k : Stage). NotesBy (x.core.count + 1) (x.core.count + a.taken) k (link_with (core a.head.cursor.at a.around 0 Stage.Head) a.head f)) (sym es) tt;
         inside = g.inside;
         none = refl;
         long = g.long;
@@ -134,7 +134,7 @@ module _ (x : Link) (p t u d : List ℕ) (left : ℕ) (at : Spot) (here : AtSamp
           ∙ ap (λ (w : Link). L.in_phase (waved (left - l.taken) (coming_at l.at [])) (link_by w p t)) (ey ∙ further_near x l.taken 0 Stage.Head (omega (arith, few, near)))) in
           let octets : take l.taken part ≡ take l.taken u = ap (take l.taken) ep ∙ take-take l.taken k u (omega (arith, ek, few, long)) in
           record {
-            notes = subst (λ (k : Stage). NotesBy (x.core.count + l.taken) k z) (sym here.stage) (subst (λ (k : Link). Known (noted_in k.core.stage)) (sym ez) (pick_cases (λ (k : Link). Known (noted_in k.core.stage)) (eqb (left - l.taken) 0) (λ _. tt) (λ _. tt)));
+            notes = subst (λ (k : Stage). NotesBy (x.core.count + 1) (x.core.count + l.taken) k z) (sym here.stage) (subst (λ (k : Link). Known (noted_in k.core.stage)) (sym ez) (pick_cases (λ (k : Link). Known (noted_in k.core.stage)) (eqb (left - l.taken) 0) (λ _. tt) (λ _. tt)));
             samples = q.samples;
             inside = omega (arith, few, long);
             rows = record { many = q.given; room = omega (arith, q.room); is = q.rows };
@@ -332,7 +332,7 @@ module _ (x : Link) (p t u d : List ℕ) where
       notes-after h =
           let n : x.core.count + (0 + k.ran.taken) ≡ x.core.count + k.ran.taken = omega arith in
           let first = subst (λ (m : ℕ). Notes x m r.link) z q.notes in
-          subst (λ (m : ℕ). NotesBy m x.core.stage k.ran.link) n (notes_then x r.link k.ran.link 0 k.ran.taken first h)
+          subst (λ (m : ℕ). NotesBy (x.core.count + 1) m x.core.stage k.ran.link) n (notes_then x r.link k.ran.link 0 k.ran.taken first h)
 
       still : Runs x p t u d r v e → r.taken ≡ 0 → (link_by x p t ≡ link_ran r v) × (e ≡ d)
       still q z = unfold fed_with given_by rows_of in
